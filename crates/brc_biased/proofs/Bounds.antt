@@ -5,7 +5,7 @@ use Rattle.law_world.specs.declared.event.Dropped.{Dropped}
 use Rattle.law_world.specs.declared.event.Step.{Step}
 use Rattle.law_rule.specs.declared.told.Told.{Told}
 use Rattle.brc_biased.specs.Bounded.{steps_in, losses_in, IsBounded}
-use Rattle.brc_biased.specs.Released.{Ends, EndedOwn, SeenZero, MergedAtZero, Adopted, WasNobodys, WasAdopted, Asked}
+use Rattle.brc_biased.specs.Released.{Ends, EndedOwn, SeenZero, MergedAtZero, Asked}
 use Rattle.brc_biased.specs.Released.{AskedNobodys, AskedQueued, AskedShut, Asks, AskedLate, AskTurned, GoesShared}
 use Rattle.brc_biased.specs.Released.{SharedRisen, SharedCounted, SharedNoCount, SharedMoved, GoesOwn, OwnCounted}
 use Rattle.brc_biased.specs.Released.{OwnEnded, Released, ReleaseImmortal, ReleaseOwn, ReleaseSeen, ReleaseShared}
@@ -28,28 +28,22 @@ module _ {A : Type 0} {c : ℕ} {block : Option (ℕ × Payload A)} {log : List 
   own_end_within (MergedAtZero seen e) = let w = ends_within e in
       record { steps_are = omega (arith, w.steps_are); losses_are = omega (arith, w.losses_are) }
 
-  adopted_within : {before : List Told} → Adopted c block before log → Within 3 0 before log
-  adopted_within (WasNobodys e) = let w = ends_within e in
-      record { steps_are = omega (arith, w.steps_are); losses_are = omega (arith, w.losses_are) }
-  adopted_within (WasAdopted owner local shared some e) = let w = ends_within e in
-      record { steps_are = omega (arith, w.steps_are); losses_are = omega (arith, w.losses_are) }
-
-  asked_within : {before : List Told} → Asked c block before log → Within 4 0 before log
+  asked_within : {before : List Told} → Asked c block before log → Within 2 0 before log
   asked_within (AskedNobodys e) = let w = ends_within e in
       record { steps_are = omega (arith, w.steps_are); losses_are = omega (arith, w.losses_are) }
   asked_within (AskedQueued owner queue notify some taken none told) =
       record { steps_are = omega (arith, ap steps_in told); losses_are = omega (arith, ap losses_in told) }
-  asked_within (AskedShut owner queue some shut e) = let w = adopted_within e in
+  asked_within (AskedShut owner queue some shut e) = let w = ends_within e in
       record { steps_are = omega (arith, w.steps_are); losses_are = omega (arith, w.losses_are) }
 
   module _ {drop : Dropped} where
-    asks_within : {before : List Told} → Asks drop c block before log → Within 5 0 before log
+    asks_within : {before : List Told} → Asks drop c block before log → Within 3 0 before log
     asks_within (AskedLate found late e) = let w = ends_within e in
         record { steps_are = omega (arith, w.steps_are); losses_are = omega (arith, w.losses_are) }
     asks_within (AskTurned found turned e) = let w = asked_within e in
         record { steps_are = omega (arith, w.steps_are); losses_are = omega (arith, w.losses_are) }
 
-    shared_within : {before : List Told} → GoesShared drop c block before log → Within 5 1 before log
+    shared_within : {before : List Told} → GoesShared drop c block before log → Within 3 1 before log
     shared_within (SharedRisen word risen e) = let w = ends_within e in
         record { steps_are = omega (arith, w.steps_are); losses_are = omega (arith, w.losses_are) }
     shared_within (SharedCounted word default none told) =

@@ -6,12 +6,13 @@ use Rattle.std.proofs.lemmas.List.{length-set, length-replicate}
 use Rattle.brc_block.specs.declared.payload.Payload.{Payload}
 use Rattle.law_world.specs.declared.event.Dropped.{Dropped}
 use Rattle.law_world.specs.declared.event.Dropped.TheVariants as drops
+use Rattle.law_world.specs.declared.row.Hand.TheVariants as hands
 use Rattle.law_world.specs.Lists.{is_marked, front_of}
 use Rattle.law_world.specs.Steps.{is_free_step, takes_block, worklist_with}
 use Rattle.law_world.proofs.Changes.{read_here, read_there}
 use Rattle.law_known.specs.Items.{Item, Did, Saw, Lost, Part, part_of, part_by, part_after, meant, cell_told, has_found}
 use Rattle.law_known.specs.Items.{has_without}
-use Rattle.law_known.specs.Going_On.{settling, taking}
+use Rattle.law_known.specs.Going_On.{handing, settling, taking}
 use Rattle.law_rule.specs.declared.told.Told.{Told}
 use Rattle.law_rule.specs.Logs.{log_items, entries_in}
 use Rattle.law_rule.specs.Seen.{part_seen}
@@ -65,6 +66,14 @@ module _ {A : Type 0} (n : ℕ) (before log : List Told) (c : ℕ) where
       → c < n → IfSome block (λ there. HasDead n log c (entries_in (contents_of there.1)))
   dead_settled None known low = tt
   dead_settled (Some there) known low =
+      dead_now n before log c (entries_in (contents_of there.1)) (part_seen n before).has
+      (ap (λ (p : Part). p.worklist) known) (ap (λ (p : Part). p.has) known) low
+
+  pub dead_handed : (block : Option (ℕ × Payload A))
+      → part_seen n log ≡ (handing hands.Free (taking (is_there block) c (entries_of block) (known_seen n before))).part
+      → c < n → IfSome block (λ there. HasDead n log c (entries_in (contents_of there.1)))
+  dead_handed None known low = tt
+  dead_handed (Some there) known low =
       dead_now n before log c (entries_in (contents_of there.1)) (part_seen n before).has
       (ap (λ (p : Part). p.worklist) known) (ap (λ (p : Part). p.has) known) low
 

@@ -15,11 +15,11 @@ use Rattle.law_rule.specs.Seen.{counts_seen}
 use Rattle.brc_table.specs.Moving.{found_in}
 use Rattle.law_living.specs.Quiet.{only_lets_go, is_quiet, Quietly, NoItem, OneMore}
 use Rattle.law_living.proofs.Quiet_Items.{quietly_joined}
-use Rattle.brc_biased.specs.Released.{Ends, EndedOwn, SeenZero, MergedAtZero, Adopted, WasNobodys, WasAdopted, Asked}
+use Rattle.brc_biased.specs.Released.{Ends, EndedOwn, SeenZero, MergedAtZero, Asked}
 use Rattle.brc_biased.specs.Released.{AskedNobodys, AskedQueued, AskedShut, Asks, AskedLate, AskTurned, GoesShared}
 use Rattle.brc_biased.specs.Released.{SharedRisen, SharedCounted, SharedNoCount, SharedMoved, GoesOwn, OwnCounted}
 use Rattle.brc_biased.specs.Released.{OwnEnded, Released, ReleaseImmortal, ReleaseOwn, ReleaseSeen, ReleaseShared}
-use Rattle.brc_biased.specs.Released.{Settled, SettledMerged, SettledMerging}
+use Rattle.brc_biased.specs.Released.{Settled, SettledMerged, SettledMerging, SettledLeft}
 
 -- one such item
 one : (x : Told) (before log : List Told) → is_quiet x ≡ true → log ≡ x ∷ before → Quietly before log
@@ -46,20 +46,6 @@ module _ {A : Type 0} where
       (ends_quietly (MergeZero c) c block (Did (Untie c) 0 Nothing ∷ Did (SeeZero c) seen Nothing ∷ before) log
       refl ends))
 
-  adopted_quietly : (c : ℕ) (block : Option (ℕ × Payload A)) (before log : List Told) → Adopted c block before log
-      → Quietly before log
-  adopted_quietly c block before log (WasNobodys ends) =
-      and_more (Saw (Of Owner c) 0) before log refl
-      (ends_quietly (LastDown lasts.Hand) c block (Saw (Of Owner c) 0 ∷ before) log refl ends)
-  adopted_quietly c block before log (WasAdopted owner local shared some ends) =
-      let first : List Told = Saw (Of Owner c) owner ∷ before in
-      let second : List Told = Did (Untie c) 0 Nothing ∷ first in
-      let third : List Told = Saw (Of Local c) local ∷ second in
-      and_more (Saw (Of Owner c) owner) before log refl
-      (and_more (Did (Untie c) 0 Nothing) first log refl (and_more (Saw (Of Local c) local) second log refl
-      (and_more (Did (MergeAdd c) shared Nothing) third log refl
-      (ends_quietly (LastDown lasts.Hand) c block (Did (MergeAdd c) shared Nothing ∷ third) log refl ends))))
-
   asked_quietly : (c : ℕ) (block : Option (ℕ × Payload A)) (before log : List Told) → Asked c block before log
       → Quietly before log
   asked_quietly c block before log (AskedNobodys ends) =
@@ -69,10 +55,10 @@ module _ {A : Type 0} where
       let first : List Told = Saw (Of Owner c) owner ∷ before in
       and_more (Saw (Of Owner c) owner) before log refl (and_more (Did (Enqueue c) queue Nothing) first log refl
       (one (Did (Nudge owner (c / 32)) notify Nothing) (Did (Enqueue c) queue Nothing ∷ first) log refl is))
-  asked_quietly c block before log (AskedShut owner queue some shut adopted) =
+  asked_quietly c block before log (AskedShut owner queue some shut ends) =
       let first : List Told = Saw (Of Owner c) owner ∷ before in
       and_more (Saw (Of Owner c) owner) before log refl (and_more (Did (Enqueue c) queue Nothing) first log refl
-      (adopted_quietly c block (Did (Enqueue c) queue Nothing ∷ first) log adopted))
+      (ends_quietly (LastDown lasts.Hand) c block (Did (Enqueue c) queue Nothing ∷ first) log refl ends))
 
   asks_quietly : (drop : Dropped) (c : ℕ) (block : Option (ℕ × Payload A)) (before log : List Told)
       → Asks drop c block before log → Quietly before log
@@ -134,3 +120,5 @@ module _ {A : Type 0} where
       (and_more (Did (MergeAdd c) merges.shared Nothing) third log refl
       (ends_quietly (LastDown (lasts.Popped c)) c block (Did (MergeAdd c) merges.shared Nothing ∷ third) log refl
       merges.ends))))
+  settled_quietly c block before log (SettledLeft ends) =
+      ends_quietly (LastDown (lasts.Popped c)) c block before log refl ends

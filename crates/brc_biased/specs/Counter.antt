@@ -1,6 +1,8 @@
 -- What contracts see of a counter, and what it keeps.
 use Rattle.std.specs.Prelude.{◌≡◌, ◌<◌, ◌≤◌, ℕ, nat_lt, if◌then◌else◌, true, List, length, slice_index}
 use Rattle.brc_words.specs.declared.limits.TheConstants.{FIRST_MORTAL, IMMORTAL_LOCAL}
+use Rattle.law_world.specs.Heap.{words_for}
+use Rattle.law_world.specs.Lists.{bit_of}
 use Rattle.law_world.specs.Steps.{is_active}
 use Rattle.law_rule.specs.declared.told.Told.{Told}
 use Rattle.law_rule.specs.Seen.{part_seen, counts_seen}
@@ -24,10 +26,16 @@ pub record CountsFit (n : ℕ) (log : List Told) (counts : List ℕ) : Type 0 wh
   pub active : (c : ℕ) → FIRST_MORTAL ≤ c → c < n → 0 < counts_seen n log c
       → is_active (part_seen n log).row.stage ≡ true
 
+-- a mortal cell that the thread counts has its owned bit set
+pub record AreOwned (n : ℕ) (counts owned : List ℕ) : Type 0 where
+  pub words : length owned ≡ words_for n
+  pub marked : (c : ℕ) → FIRST_MORTAL ≤ c → c < n → 0 < slice_index counts c → bit_of owned c ≡ 1
+
 -- what a counter keeps
-pub record Counting (A : Type 0) (heap : TableSeen) (seat : SeatSeen A) (counts : List ℕ) : Type 0 where
+pub record Counting (A : Type 0) (heap : TableSeen) (seat : SeatSeen A) (counts owned : List ℕ) : Type 0 where
   pub same_table : seat.table ≡ heap.table
   pub fit : CountsFit heap.cells seat.log counts
+  pub owns : AreOwned heap.cells counts owned
 
 -- the number kept for a cell before the thread counts anything
 abbrev pub first_count : ℕ → ℕ

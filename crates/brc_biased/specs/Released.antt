@@ -7,7 +7,7 @@ use Rattle.law_world.specs.declared.event.Dropped.{Dropped}
 use Rattle.law_world.specs.declared.event.LastDropped.TheVariants as lasts
 use Rattle.law_world.specs.declared.event.Step.{Step}
 use Rattle.law_world.specs.declared.event.Step.TheVariants.{LocalDown, SeeZero, Untie, MergeZero, SharedDown, Ask}
-use Rattle.law_world.specs.declared.event.Step.TheVariants.{LastDown, Enqueue, MergeAdd, Nudge}
+use Rattle.law_world.specs.declared.event.Step.TheVariants.{LastDown, Enqueue, MergeAdd, Nudge, Offer}
 use Rattle.law_world.specs.Steps.{takes_block}
 use Rattle.law_known.specs.declared.word.Field.TheVariants.{Owner, Local, Shared}
 use Rattle.law_known.specs.declared.word.Word.TheVariants.{Of}
@@ -49,15 +49,6 @@ module _ {A : Type 0} where
         → Ends (MergeZero c) c block (Did (Untie c) 0 Nothing ∷ Did (SeeZero c) seen Nothing ∷ before) log
         → EndedOwn c block before log
 
-  -- an asked reference that the owner's queue, being closed, doesn't take: the object is nobody's by now, or is adopted
-  pub data Adopted (c : ℕ) (block : Option (ℕ × Payload A)) (before log : List Told) : Type 0 where
-    WasNobodys : Ends (LastDown lasts.Hand) c block (Saw (Of Owner c) 0 ∷ before) log → Adopted c block before log
-    WasAdopted : (owner local shared : ℕ) → 0 < owner
-        → Ends (LastDown lasts.Hand) c block
-        (Did (MergeAdd c) shared Nothing ∷ Saw (Of Local c) local ∷ Did (Untie c) 0 Nothing ∷ Saw (Of Owner c) owner
-        ∷ before) log
-        → Adopted c block before log
-
   -- a reference that was asked for, and is in the hand
   pub data Asked (c : ℕ) (block : Option (ℕ × Payload A)) (before log : List Told) : Type 0 where
     AskedNobodys : Ends (LastDown lasts.Hand) c block (Saw (Of Owner c) 0 ∷ before) log → Asked c block before log
@@ -66,7 +57,7 @@ module _ {A : Type 0} where
         (Of Owner c) owner ∷ before
         → Asked c block before log
     AskedShut : (owner queue : ℕ) → 0 < owner → is_shut_word queue ≡ true
-        → Adopted c block (Did (Enqueue c) queue Nothing ∷ Saw (Of Owner c) owner ∷ before) log
+        → Ends (LastDown lasts.Hand) c block (Did (Enqueue c) queue Nothing ∷ Saw (Of Owner c) owner ∷ before) log
         → Asked c block before log
 
   -- a reference that is asked for, or turns out to be late
@@ -124,10 +115,20 @@ module _ {A : Type 0} where
     pub ends : Ends (LastDown (lasts.Popped c)) c block (Did (MergeAdd c) shared Nothing ∷ Saw (Of Local c) local ∷ Did
         (Untie c) 0 Nothing ∷ before) log
 
-  -- a popped entry is counted down, after its object was found merged or is merged by the thread
+  -- An own object is handed over: it is offered, made nobody's, and its local count joins the shared one, by which it
+  -- may end.
+  pub record HandsOver (c : ℕ) (block : Option (ℕ × Payload A)) (before log : List Told) : Type 0 where
+    pub offered : ℕ
+    pub local : ℕ
+    pub ends : Ends (MergeAdd c) c block (Saw (Of Local c) local ∷ Did (Untie c) 0 Nothing ∷ Did (Offer c) offered
+        Nothing ∷ before) log
+
+  -- a popped entry is counted down, after its object was found merged or is merged by the thread; or it is left to a
+  -- thread that isn't active any more
   pub data Settled (c : ℕ) (block : Option (ℕ × Payload A)) (before log : List Told) : Type 0 where
     SettledMerged : (word : ℕ) → word % 4 ≡ 3
         → Ends (LastDown (lasts.Popped c)) c block (Saw (Of Shared c) word ∷ before) log
         → Settled c block before log
     SettledMerging : (word : ℕ) → word % 4 ≢ 3 → Merges c block (Saw (Of Shared c) word ∷ before) log
         → Settled c block before log
+    SettledLeft : Ends (LastDown (lasts.Popped c)) c block before log → Settled c block before log

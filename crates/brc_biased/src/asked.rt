@@ -1,5 +1,5 @@
-//! A reference that the thread has asked to be merged: it goes into the owner's queue, or, where the owner has left or
-//! the object is nobody's by now, is merged or counted down here.
+//! A reference that the thread has asked to be merged: it goes into the owner's queue, or, where the object is nobody's
+//! by now, is counted down here. A closed queue word says so too: an owner hands over what it owns before it closes.
 
 ghost use Rattle.std.specs.Prelude.{◌≡◌, ◌<◌, ◌≤◌};
 ghost use Rattle.law_world.specs.declared.row.Hand.TheVariants as hands;
@@ -8,53 +8,13 @@ ghost use Rattle.law_rule.specs.Seen.{counts_seen};
 ghost use Rattle.brc_table.specs.Knowing.{known_seen, entries_of};
 ghost use Rattle.brc_table.specs.Moving.{is_there};
 ghost use Rattle.brc_table.specs.Seated.{Continues};
-ghost use Rattle.brc_biased.specs.Released.{Answers, Adopted, Asked};
+ghost use Rattle.brc_biased.specs.Released.{Answers, Asked};
 ghost use Rattle.brc_biased.specs.Standing.{Stands, SameCounts, KeepsPlaces, ending};
 ghost use Rattle.brc_biased.specs.Up.{IsKnown};
 
 use brc_block::Block;
 use brc_table::{Found, HeapTable, ThreadSeat};
 use std::alloc::Allocator;
-
-/// The owner's queue is closed, and the reference is still in the hand: the thread merges in the owner's place, unless
-/// the object is nobody's by now, and counts its reference down.
-pub(crate) fn adopt<A: Allocator>(
-    table: &HeapTable<A>,
-    seat: &mut ThreadSeat<A>,
-    cell: u32,
-) -> Option<Block<A>>
-    requires table { seat.old.table ≡ table.now.table }
-    requires inside { cell < table.now.cells }
-    requires stands { Stands table.now.cells seat.old.log (hands.Busy phases.Shut cell) }
-    requires counted { counts_seen table.now.cells seat.old.log cell ≡ 0 }
-    ensures told { Adopted cell result seat.old.log seat.new.log }
-    ensures block { Answers table.now.cells cell result seat.old seat.new }
-    ensures seat { Continues seat.old seat.new }
-    ensures knows { IsKnown table.now.cells seat.new.log
-        (ending (is_there result) cell (entries_of result) (known_seen table.now.cells seat.old.log)) }
-    ensures counts { SameCounts table.now.cells seat.old.log seat.new.log }
-    ensures keeps { KeepsPlaces table.now.cells seat.old.log seat.new.log }
-{
-    let owner = table.load_owner(seat, cell);
-    if owner == 0 {
-        let Found {
-            number: _number,
-            block,
-        } = table.last_nobodys(seat, cell);
-        return block;
-    }
-    table.untie_shut(seat, cell, owner);
-
-    // The local count is the one of an owner that has left, so it stays as it is looked at.
-    let _limit = table.local_limit();
-    let local = table.load_local(seat, cell);
-    let _shared = table.merge_add(seat, cell, local as u32);
-    let Found {
-        number: _number,
-        block,
-    } = table.last_held(seat, cell);
-    block
-}
 
 /// The reference is in the hand, and the word turned to queued: the thread whose object it is gets it into its queue
 /// and is told so; an object that is nobody's by now is counted down here.
@@ -89,5 +49,9 @@ pub(crate) fn hand_over<A: Allocator>(
         let _told = table.nudge(seat, owner, cell / 32);
         return None;
     }
-    adopt(table, seat, cell)
+    let Found {
+        number: _number,
+        block,
+    } = table.last_shut(seat, cell);
+    block
 }

@@ -24,11 +24,13 @@ ghost use Rattle.brc_biased.specs.Up.{IsKnown};
 
 use crate::counter::Counter;
 use crate::home::Home;
+use crate::owned::{clear_owned, mark_owned};
 use brc_block::Block;
 use brc_words::Kind;
 use std::alloc::Allocator;
 
 impl<H: Home<A>, A: Allocator> Counter<H, A> {
+    #[tactic(auto, using(crate::proofs::Owning::owns_born))]
     /// An object is born in the cell that the thread has claimed: its words are set, its block is put home, and the
     /// place of the frame has the first reference, which the thread counts on its own.
     #[inline(always)]
@@ -58,12 +60,14 @@ impl<H: Home<A>, A: Allocator> Counter<H, A> {
     {
         let cell = block.cell();
         self.counts[cell as usize] = 1;
+        mark_owned(&mut self.owned, cell);
         let table = self.heap.table();
         table.init_local(&mut self.seat, cell);
         table.init_shared(&mut self.seat, cell);
         table.birth(&mut self.seat, block, kind, place);
     }
 
+    #[tactic(auto, using(crate::proofs::Owning::owns_freed))]
     /// The cell of a dead object without entries is free again, and its free word is told as it was found; 64 bits
     /// count what the thread has freed.
     #[inline(always)]
@@ -81,6 +85,9 @@ impl<H: Home<A>, A: Allocator> Counter<H, A> {
         ensures keeps { Keeps self.old.heap.cells self.old.seat.log self.new.seat.log }
         ensures few { (part_seen self.old.heap.cells self.new.seat.log).row.frees < 2 ^ 64 }
     {
+        if self.counts[cell as usize] == 0 {
+            clear_owned(&mut self.owned, cell);
+        }
         self.heap.table().free(&mut self.seat, cell)
     }
 }

@@ -1,40 +1,39 @@
-//! Leaving: a thread closes its queue words one by one, and counts nothing of its own from the first on.
+//! Leaving: a thread hands over what it owns, and then closes its queue words one by one.
 
-ghost use Rattle.std.specs.Prelude.{◌≡◌, ◌<◌, ◌≤◌, ◌∷◌, ℕ, length, slice_index};
-ghost use Rattle.brc_words.specs.declared.limits.TheConstants.{FIRST_MORTAL, IMMORTAL_LOCAL};
+ghost use Rattle.std.specs.Prelude.{◌≡◌, ◌<◌, ◌≤◌, ◌==◌, ◌∷◌, ℕ, if◌then◌else◌, IfSome, true};
+ghost use Rattle.brc_words.specs.declared.limits.TheConstants.{FIRST_MORTAL};
+ghost use Rattle.law_world.specs.Steps.{is_active};
+ghost use Rattle.law_world.specs.declared.row.Hand.TheVariants as hands;
+ghost use Rattle.law_rule.specs.Logs.{entries_in};
+ghost use Rattle.law_rule.specs.Seen.{part_seen, counts_seen};
 ghost use Rattle.law_world.specs.Heap.{words_for};
 ghost use Rattle.law_world.specs.declared.event.Step.TheVariants as steps;
-ghost use Rattle.law_known.specs.Going_On.{popping, closing};
+ghost use Rattle.law_known.specs.Going_On.{popping, closing, reopening, taking};
 ghost use Rattle.law_rule.specs.declared.told.Moved.TheVariants as moves;
 ghost use Rattle.law_rule.specs.declared.told.Told.TheVariants as told;
-ghost use Rattle.law_steps.specs.Owing.{Allowed};
+ghost use Rattle.law_steps.specs.Owing.{Allowed, Closes};
 ghost use Rattle.law_steps.specs.Taking.{AreQueued};
-ghost use Rattle.brc_table.specs.Knowing.{known_seen, Keeps};
-ghost use Rattle.brc_table.specs.Seated.{Stays};
+ghost use Rattle.brc_table.specs.Knowing.{known_seen, entries_of, Keeps};
+ghost use Rattle.brc_table.specs.Moving.{is_there};
+ghost use Rattle.brc_table.specs.Seated.{Stays, Continues};
+ghost use Rattle.brc_table.specs.Shown.{contents_of};
+ghost use Rattle.brc_biased.specs.Released.{Answers, HandsOver};
+ghost use Rattle.brc_biased.specs.Standing.{HasDead, Stands, KeepsPlaces};
 ghost use Rattle.brc_biased.specs.Up.{IsKnown};
 
 use crate::counter::Counter;
 use crate::home::Home;
-use brc_words::FIRST_MORTAL;
+use crate::owned::clear_owned;
+use brc_block::Block;
+use brc_table::Found;
 use std::alloc::Allocator;
 
-/// The counts of all mortal cells are 0 from here on.
-pub(crate) fn forget(counts: &mut [u32])
-    ensures wide { length counts.new ≡ length counts.old }
-    ensures immortal { (c : ℕ) → c < FIRST_MORTAL → slice_index counts.new c ≡ slice_index counts.old c }
-    ensures mortal { (c : ℕ) → FIRST_MORTAL ≤ c → c < length counts.old → slice_index counts.new c ≡ 0 }
-{
-    for cell in FIRST_MORTAL as usize..counts.len() {
-        counts[cell] = 0;
-    }
-}
-
 impl<H: Home<A>, A: Allocator> Counter<H, A> {
-    /// Closes the next of the thread's queue words, and takes its bits, each a cell of the heap. With the first one the
-    /// thread's own objects are everybody's: it counts on no local word any more.
+    /// Closes the next of the thread's queue words, and takes its bits, each a cell of the heap. The thread counts
+    /// nothing any more: it has handed over what it owned.
     pub fn close(&mut self, word: u32) -> u64
         requires inside { word < words_for self.old.heap.cells }
-        requires allowed { Allowed self.old.heap.cells self.old.seat.log (steps.Close word) }
+        requires closes { Closes self.old.heap.cells self.old.seat.log word }
         ensures heap { self.new.heap ≡ self.old.heap }
         ensures seat { Stays self.old.seat self.new.seat }
         ensures told { self.new.seat.log ≡ told.Did (steps.Close word) result moves.Nothing ∷ self.old.seat.log }
@@ -44,12 +43,58 @@ impl<H: Home<A>, A: Allocator> Counter<H, A> {
         ensures keeps { Keeps self.old.heap.cells self.old.seat.log self.new.seat.log }
         ensures cells { AreQueued self.old.heap.cells word result }
     {
-        let found = self.heap.table().close(&mut self.seat, word);
+        self.heap.table().close(&mut self.seat, word)
+    }
 
-        // After the first word all counts are 0 already: a thread that is closing has none.
-        if word == 0 {
-            forget(self.counts.as_mut_slice());
-        }
-        found
+    /// Opens one of the thread's queue words again, by the first steps of a thread whose number was used before.
+    pub fn open(&mut self, word: u32)
+        requires inside { word < words_for self.old.heap.cells }
+        requires allowed { Allowed self.old.heap.cells self.old.seat.log (steps.Reopen word) }
+        ensures heap { self.new.heap ≡ self.old.heap }
+        ensures seat { Stays self.old.seat self.new.seat }
+        ensures told { self.new.seat.log ≡ told.Did (steps.Reopen word) 0 moves.Nothing ∷ self.old.seat.log }
+        ensures knows { IsKnown self.old.heap.cells self.new.seat.log
+            (reopening self.old.heap.cells word (known_seen self.old.heap.cells self.old.seat.log)) }
+        ensures keeps { Keeps self.old.heap.cells self.old.seat.log self.new.seat.log }
+    {
+        self.heap.table().open_word(&mut self.seat, word);
+    }
+
+    #[tactic(auto, using(crate::proofs::Owning::owns_gone))]
+    /// Hands an own object over, which the thread counts. The block is answered where no reference is left.
+    pub fn hand_on(&mut self, cell: u32) -> Option<Block<A>>
+        requires inside { cell < self.old.heap.cells }
+        requires mortal { FIRST_MORTAL ≤ cell }
+        requires counted { 0 < counts_seen self.old.heap.cells self.old.seat.log cell }
+        requires stands { Stands self.old.heap.cells self.old.seat.log hands.Free }
+        requires active { is_active (part_seen self.old.heap.cells self.old.seat.log).row.stage ≡ true }
+
+        ensures heap { self.new.heap ≡ self.old.heap }
+        ensures seat { Continues self.old.seat self.new.seat }
+        ensures told { HandsOver cell result self.old.seat.log self.new.seat.log }
+        ensures block { Answers self.old.heap.cells cell result self.old.seat self.new.seat }
+        ensures dead { IfSome result (λ there.
+            HasDead self.old.heap.cells self.new.seat.log cell (entries_in (contents_of there.1))) }
+        ensures knows { IsKnown self.old.heap.cells self.new.seat.log
+            (taking (is_there result) cell (entries_of result) (known_seen self.old.heap.cells self.old.seat.log)) }
+        ensures counts { (c : ℕ) → counts_seen self.old.heap.cells self.new.seat.log c ≡
+            (if c == cell then 0 else counts_seen self.old.heap.cells self.old.seat.log c) }
+        ensures stands { Stands self.old.heap.cells self.new.seat.log hands.Free }
+        ensures keeps { KeepsPlaces self.old.heap.cells self.old.seat.log self.new.seat.log }
+    {
+        let table = self.heap.table();
+        let _offered = table.offer(&mut self.seat, cell);
+        table.untie_offered(&mut self.seat, cell);
+
+        // Nobody else writes the local word, so it stays as it is looked at.
+        let _limit = table.local_limit();
+        let local = table.load_local(&mut self.seat, cell);
+        let Found {
+            number: _number,
+            block,
+        } = table.merge_yielding(&mut self.seat, cell, local as u32);
+        self.counts[cell as usize] = 0;
+        clear_owned(&mut self.owned, cell);
+        block
     }
 }

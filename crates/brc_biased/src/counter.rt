@@ -1,7 +1,9 @@
 //! The counter, and how it is made and taken apart.
 
-ghost use Rattle.std.specs.Prelude.{◌≡◌, ◌<◌, ◌≤◌, ℕ, [], length, slice_index, IfOk};
+ghost use Rattle.std.specs.Prelude.{◌≡◌, ◌<◌, ◌≤◌, ℕ, length, replicate, slice_index, IfOk};
 ghost use Rattle.brc_words.specs.declared.limits.TheConstants.{FIRST_MORTAL, MOST_CELLS};
+ghost use Rattle.law_world.specs.Heap.{words_for};
+ghost use Rattle.law_rule.specs.Seen.{counts_seen};
 ghost use Rattle.brc_biased.specs.Counter.{first_count};
 
 use crate::home::Home;
@@ -10,11 +12,12 @@ use brc_words::{FIRST_MORTAL, IMMORTAL_LOCAL};
 use std::alloc::{AllocError, Allocator};
 use std::marker::Model;
 
-/// One thread's seat, with the local counts of its own objects.
+/// One thread's seat, with the local counts of its own objects, and a bit for each of these.
 pub struct Counter<H: Home<A>, A: Allocator> {
     pub(crate) heap: H,
     pub(crate) seat: ThreadSeat<A>,
     pub(crate) counts: Vec<u32, A>,
+    pub(crate) owned: Vec<u64, A>,
 }
 
 impl<H: Home<A>, A: Allocator> Model for Counter<H, A> {
@@ -24,7 +27,7 @@ impl<H: Home<A>, A: Allocator> Model for Counter<H, A> {
 
     ghost view = { λ c. record { heap = H.seen c.heap; seat = c.seat } };
 
-    ghost invariant = { λ c. Counting A (H.seen c.heap) c.seat c.counts.items };
+    ghost invariant = { λ c. Counting A (H.seen c.heap) c.seat c.counts.items c.owned.items };
 }
 
 /// The counts of a thread that has counted nothing.
@@ -44,16 +47,30 @@ pub fn first_counts<A: Allocator>(alloc: A, cells: u32) -> Result<Vec<u32, A>, A
 }
 
 impl<H: Home<A>, A: Allocator> Counter<H, A> {
-    /// A counter of a thread that has done nothing yet, with its counts as `first_counts` makes them.
-    pub fn new(heap: H, seat: ThreadSeat<A>, counts: Vec<u32, A>) -> Counter<H, A>
+    #[tactic(auto, using(crate::proofs::Owning::owns_none))]
+    /// A counter of a thread that counts nothing yet, with its counts as `first_counts` makes them, and its bits as
+    /// `no_bits` does.
+    pub fn new(
+        heap: H,
+        seat: ThreadSeat<A>,
+        counts: Vec<u32, A>,
+        owned: Vec<u64, A>,
+    ) -> Counter<H, A>
         requires table { seat.table ≡ (H.seen heap).table }
-        requires new { seat.log ≡ [] }
+        requires none { (c : ℕ) → FIRST_MORTAL ≤ c → c < (H.seen heap).cells
+            → counts_seen (H.seen heap).cells seat.log c ≡ 0 }
         requires wide { length counts.items ≡ (H.seen heap).cells }
         requires each { (c : ℕ) → c < (H.seen heap).cells → slice_index counts.items c ≡ first_count c }
+        requires bits { owned.items ≡ replicate (words_for (H.seen heap).cells) 0 }
         ensures heap { result.heap ≡ H.seen heap }
         ensures seat { result.seat ≡ seat }
     {
-        Counter { heap, seat, counts }
+        Counter {
+            heap,
+            seat,
+            counts,
+            owned,
+        }
     }
 
     /// What leads to its table.
@@ -63,7 +80,7 @@ impl<H: Home<A>, A: Allocator> Counter<H, A> {
         &self.heap
     }
 
-    /// The heap and the seat; the counts' memory goes back.
+    /// The heap and the seat; the memory of the counts and the bits goes back.
     pub fn into_parts(self) -> (H, ThreadSeat<A>)
         ensures heap { H.seen result.0 ≡ self.heap }
         ensures seat { result.1 ≡ self.seat }
@@ -73,6 +90,7 @@ impl<H: Home<A>, A: Allocator> Counter<H, A> {
             heap,
             seat,
             counts: _counts,
+            owned: _owned,
         } = self;
         (heap, seat)
     }

@@ -23,6 +23,7 @@ use law_world::Dropped;
 use std::alloc::Allocator;
 
 impl<H: Home<A>, A: Allocator> Counter<H, A> {
+    #[tactic(auto, using(crate::proofs::Owning::owns_less))]
     /// Gives a reference up, in at most `MOST_EVENTS` events whatever others do, with one lost exchange in the log, and
     /// answers the block of the object that this ended, if it did (PEP 703, "Biased Reference Counting"). `has_risen`
     /// says that the object was seen queued or merged while the reference was there; then no look is needed. It waits
@@ -69,6 +70,13 @@ impl<H: Home<A>, A: Allocator> Counter<H, A> {
         }
         // The thread's own memory comes first: what is loaded after the word's store waits for it.
         self.counts[cell as usize] = count - 1;
-        release_own(table, &mut self.seat, drop, cell, count)
+        release_own(
+            table,
+            &mut self.seat,
+            &mut self.owned,
+            drop,
+            cell,
+            count,
+        )
     }
 }

@@ -13,6 +13,7 @@ mod counter;
 mod give_up;
 mod home;
 mod own;
+mod owned;
 mod popped;
 mod resting;
 mod seek;
@@ -22,4 +23,5 @@ mod up;
 
 pub use counter::{Counter, first_counts};
 pub use home::Home;
+pub use owned::no_bits;
 pub use resting::RestingCounter;

@@ -1,7 +1,9 @@
 //! The end of an own object's local count.
 
-ghost use Rattle.std.specs.Prelude.{◌≡◌, ◌-◌, ◌==◌, ◌<◌, ◌≤◌, ℕ, if◌then◌else◌, true};
+ghost use Rattle.std.specs.Prelude.{◌≡◌, ◌-◌, ◌==◌, ◌<◌, ◌≤◌, ◌≢◌, ℕ, if◌then◌else◌, true, length};
 ghost use Rattle.brc_words.specs.declared.limits.TheConstants.{FIRST_MORTAL};
+ghost use Rattle.law_world.specs.Heap.{words_for};
+ghost use Rattle.law_world.specs.Lists.{bit_of};
 ghost use Rattle.law_world.specs.Steps.{is_active};
 ghost use Rattle.law_world.specs.declared.row.Hand.TheVariants as hands;
 ghost use Rattle.law_world.specs.declared.row.Phase.TheVariants as phases;
@@ -13,6 +15,7 @@ ghost use Rattle.brc_biased.specs.Released.{Answers, EndedOwn, GoesOwn};
 ghost use Rattle.brc_biased.specs.Standing.{Stands, Holds, SameCounts, KeepsPlaces, ending, released};
 ghost use Rattle.brc_biased.specs.Up.{IsKnown};
 
+use crate::owned::clear_owned;
 use brc_block::Block;
 use brc_table::{Found, HeapTable, ThreadSeat};
 use law_world::Dropped;
@@ -24,10 +27,12 @@ use std::alloc::Allocator;
 pub(crate) fn end_own<A: Allocator>(
     table: &HeapTable<A>,
     seat: &mut ThreadSeat<A>,
+    owned: &mut Vec<u64, A>,
     cell: u32,
 ) -> Option<Block<A>>
     requires table { seat.old.table ≡ table.now.table }
     requires inside { cell < table.now.cells }
+    requires words { length owned.old.items ≡ words_for table.now.cells }
     requires stands { Stands table.now.cells seat.old.log (hands.Busy phases.Zero cell) }
     requires active { is_active (part_seen table.now.cells seat.old.log).row.stage ≡ true }
     requires counted { counts_seen table.now.cells seat.old.log cell ≡ 0 }
@@ -38,6 +43,8 @@ pub(crate) fn end_own<A: Allocator>(
         (ending (is_there result) cell (entries_of result) (known_seen table.now.cells seat.old.log)) }
     ensures counts { SameCounts table.now.cells seat.old.log seat.new.log }
     ensures keeps { KeepsPlaces table.now.cells seat.old.log seat.new.log }
+    ensures words { length owned.new.items ≡ length owned.old.items }
+    ensures others { (c : ℕ) → c ≢ cell → bit_of owned.new.items c ≡ bit_of owned.old.items c }
 {
     let Found {
         number: _number,
@@ -49,6 +56,7 @@ pub(crate) fn end_own<A: Allocator>(
 
     // The owner word goes to 0 before the state does to merged: from the merge on another thread may free the cell, and
     // a late store here would then fall on whoever has claimed it since.
+    clear_owned(owned, cell);
     table.untie_over(seat, cell);
     let Found {
         number: _number,
@@ -62,12 +70,14 @@ pub(crate) fn end_own<A: Allocator>(
 pub(crate) fn release_own<A: Allocator>(
     table: &HeapTable<A>,
     seat: &mut ThreadSeat<A>,
+    owned: &mut Vec<u64, A>,
     drop: Dropped,
     cell: u32,
     count: u32,
 ) -> Option<Block<A>>
     requires table { seat.old.table ≡ table.now.table }
     requires inside { cell < table.now.cells }
+    requires words { length owned.old.items ≡ words_for table.now.cells }
     requires holds { Holds table.now.cells seat.old.log drop cell }
     requires active { is_active (part_seen table.now.cells seat.old.log).row.stage ≡ true }
     requires mortal { FIRST_MORTAL ≤ cell }
@@ -81,10 +91,13 @@ pub(crate) fn release_own<A: Allocator>(
     ensures counts { (c : ℕ) → counts_seen table.now.cells seat.new.log c ≡
         (if c == cell then count - 1 else counts_seen table.now.cells seat.old.log c) }
     ensures keeps { KeepsPlaces table.now.cells seat.old.log seat.new.log }
+    ensures words { length owned.new.items ≡ length owned.old.items }
+    ensures others { (c : ℕ) → c ≢ cell → bit_of owned.new.items c ≡ bit_of owned.old.items c }
+    ensures kept { 1 < count → owned.new ≡ owned.old }
 {
     table.local_down(seat, drop, cell, count);
     if count == 1 {
-        return end_own(table, seat, cell);
+        return end_own(table, seat, owned, cell);
     }
     None
 }

@@ -1,7 +1,8 @@
 //! A popped entry: a reference that went through the thread's merge queue, and is the thread's to deal with.
 
-ghost use Rattle.std.specs.Prelude.{◌≡◌, ◌<◌, ◌%◌, ◌≢◌, ◌==◌, ℕ, if◌then◌else◌, IfSome, Some};
+ghost use Rattle.std.specs.Prelude.{◌≡◌, ◌<◌, ◌%◌, ◌≢◌, ◌==◌, ℕ, if◌then◌else◌, IfSome, Some, true, false};
 ghost use Rattle.law_world.specs.Lists.{bit_of};
+ghost use Rattle.law_world.specs.Steps.{is_active};
 ghost use Rattle.law_world.specs.declared.row.Hand.TheVariants as hands;
 ghost use Rattle.law_known.specs.declared.word.Field.TheVariants as fields;
 ghost use Rattle.law_known.specs.Going_On.{settling, taking};
@@ -18,6 +19,7 @@ ghost use Rattle.brc_biased.specs.Up.{IsKnown};
 
 use crate::counter::Counter;
 use crate::home::Home;
+use crate::owned::clear_owned;
 use brc_block::Block;
 use brc_table::{Found, HeapTable, ThreadSeat};
 use brc_words::FIRST_MORTAL;
@@ -34,6 +36,7 @@ pub(crate) fn merge_popped<A: Allocator>(
     requires table { seat.old.table ≡ table.now.table }
     requires inside { cell < table.now.cells }
     requires stands { Stands table.now.cells seat.old.log hands.Free }
+    requires active { is_active (part_seen table.now.cells seat.old.log).row.stage ≡ true }
     requires popped { bit_of (part_seen table.now.cells seat.old.log).popped cell ≡ 1 }
     requires found { noted fields.Shared cell seat.old.log ≡ Some shared }
     requires unmerged { shared % 4 ≢ 3 }
@@ -58,11 +61,13 @@ pub(crate) fn merge_popped<A: Allocator>(
 }
 
 impl<H: Home<A>, A: Allocator> Counter<H, A> {
+    #[tactic(auto, using(crate::proofs::Owning::owns_gone))]
     /// Deals with a popped entry: an object that isn't merged is merged by the thread; then the entry's reference is
     /// counted down, and the block is answered where that was the last one.
     pub fn settle(&mut self, cell: u32) -> Option<Block<A>>
         requires inside { cell < self.old.heap.cells }
         requires stands { Stands self.old.heap.cells self.old.seat.log hands.Free }
+        requires active { is_active (part_seen self.old.heap.cells self.old.seat.log).row.stage ≡ true }
         requires popped { bit_of (part_seen self.old.heap.cells self.old.seat.log).popped cell ≡ 1 }
 
         ensures heap { self.new.heap ≡ self.old.heap }
@@ -91,7 +96,35 @@ impl<H: Home<A>, A: Allocator> Counter<H, A> {
         // No immortal goes through a queue, but no log says so.
         if FIRST_MORTAL <= cell {
             self.counts[cell as usize] = 0;
+            clear_owned(&mut self.owned, cell);
         }
+        block
+    }
+
+    /// Deals with a popped entry of a thread that has left: its object is merged, since the thread handed over all that
+    /// it owned, and so the entry's reference is counted down at once.
+    pub fn settle_left(&mut self, cell: u32) -> Option<Block<A>>
+        requires inside { cell < self.old.heap.cells }
+        requires stands { Stands self.old.heap.cells self.old.seat.log hands.Free }
+        requires left { is_active (part_seen self.old.heap.cells self.old.seat.log).row.stage ≡ false }
+        requires popped { bit_of (part_seen self.old.heap.cells self.old.seat.log).popped cell ≡ 1 }
+
+        ensures heap { self.new.heap ≡ self.old.heap }
+        ensures seat { Continues self.old.seat self.new.seat }
+        ensures told { Settled cell result self.old.seat.log self.new.seat.log }
+        ensures block { Answers self.old.heap.cells cell result self.old.seat self.new.seat }
+        ensures dead { IfSome result (λ there.
+            HasDead self.old.heap.cells self.new.seat.log cell (entries_in (contents_of there.1))) }
+        ensures knows { IsKnown self.old.heap.cells self.new.seat.log
+            (settling cell (taking (is_there result) cell (entries_of result)
+            (known_seen self.old.heap.cells self.old.seat.log))) }
+        ensures stands { Stands self.old.heap.cells self.new.seat.log hands.Free }
+        ensures keeps { KeepsPlaces self.old.heap.cells self.old.seat.log self.new.seat.log }
+    {
+        let Found {
+            number: _number,
+            block,
+        } = self.heap.table().last_left(&mut self.seat, cell);
         block
     }
 }

@@ -14,6 +14,7 @@ use std::marker::Model;
 pub struct RestingCounter<A: Allocator> {
     seat: ThreadSeat<A>,
     counts: Vec<u32, A>,
+    owned: Vec<u64, A>,
     cells: u32,
     local_limit: u32,
 }
@@ -25,7 +26,8 @@ impl<A: Allocator> Model for RestingCounter<A> {
 
     ghost view = { λ c. record { heap = heap_of c.seat c.cells c.local_limit; seat = c.seat } };
 
-    ghost invariant = { λ c. Counting A (heap_of c.seat c.cells c.local_limit) c.seat c.counts.items };
+    ghost invariant = { λ c. Counting A (heap_of c.seat c.cells c.local_limit) c.seat c.counts.items
+        c.owned.items };
 }
 
 impl<H: Home<A> + Drop, A: Allocator> Counter<H, A> {
@@ -37,11 +39,13 @@ impl<H: Home<A> + Drop, A: Allocator> Counter<H, A> {
             heap: home,
             seat,
             counts,
+            owned,
         } = self;
         let table = home.table();
         RestingCounter {
             seat,
             counts,
+            owned,
             cells: table.cells(),
             local_limit: table.local_limit(),
         }
@@ -57,9 +61,15 @@ impl<A: Allocator> RestingCounter<A> {
         let RestingCounter {
             seat,
             counts,
+            owned,
             cells: _cells,
             local_limit: _limit,
         } = self;
-        Counter { heap, seat, counts }
+        Counter {
+            heap,
+            seat,
+            counts,
+            owned,
+        }
     }
 }

@@ -19,6 +19,7 @@ use law_world::Source;
 use std::alloc::Allocator;
 
 impl<H: Home<A>, A: Allocator> Counter<H, A> {
+    #[tactic(auto, using(crate::proofs::Owning::owns_more))]
     /// Counts the cell up, in one event: an immortal by a look, an own object below the local limit on its local word,
     /// and all else on the shared word (PEP 703, "Biased Reference Counting"). It answers whether the shared word was
     /// found queued or merged, so that the reference's release needs no look.

@@ -6,12 +6,13 @@ use Rattle.std.proofs.lemmas.List.{length-map}
 use Rattle.std.proofs.lemmas.Bool.{ltb-false, and_parts, lt-ltb, true≢false}
 use Rattle.brc_words.specs.declared.limits.TheConstants.{FIRST_MORTAL, GLOBALS}
 use Rattle.brc_block.specs.declared.payload.Payload.{Payload}
-use Rattle.law_world.specs.Heap.{Heap, opening, is_immortal, AreOptions}
+use Rattle.law_known.specs.Start.{start_of}
+use Rattle.law_world.specs.Heap.{Heap, is_immortal, AreOptions}
 use Rattle.law_world.specs.Holding.{lives, lives_at, live_count}
 use Rattle.law_world.specs.Sound.{IsSound}
 use Rattle.law_world.specs.declared.row.Row.{Row}
 use Rattle.law_world.proofs.Reached.{reached_sound}
-use Rattle.law_world.proofs.Sizes.{reached_births}
+use Rattle.brc_close.proofs.Few_Births.{few_births}
 use Rattle.law_known.specs.Items.{events_of}
 use Rattle.law_known.proofs.Items_Queues.{run_cells}
 use Rattle.law_known.proofs.Items_Runs.{events_run}
@@ -35,7 +36,6 @@ use Rattle.brc_thread.proofs.At_Home.{IsIdle, root_rests, all_idle}
 use Rattle.brc_close.specs.Contents.{live_cells, contents_of_heap, contents_in}
 use Rattle.brc_close.specs.Closing.{Closes, Reports}
 use Rattle.brc_close.proofs.Mortal_Kinds.{kind_mortal}
-use Rattle.brc_close.proofs.Past.{NoPast, no_past}
 use Rattle.brc_close.proofs.Held.{held_by_entry, holder_used}
 use Rattle.brc_close.proofs.Listing.{contents_shown, holder_among, Remaining, all_remain, contents_begin, live_beside}
 use Rattle.brc_close.proofs.Listing.{live_counted}
@@ -70,11 +70,7 @@ module _ {A : Type 0} (n limit id : ℕ) (root : View) (slots : List (Option (�
   idle : (t : ℕ) → IsIdle (world n limit ends.remains.kept.run) t
   idle t = all_idle h t ends.reached
       (root_rests n limit (events_of (items_of run)) options
-      (events_run (opening n limit) (items_of run) ends.remains.kept.legal.items)) everyone
-
-  past : NoPast (world n limit ends.remains.kept.run)
-  past = no_past n limit (events_of (items_of run)) options
-      (events_run (opening n limit) (items_of run) ends.remains.kept.legal.items)
+      (events_run (start_of n limit) (items_of run) ends.remains.kept.legal.items)) everyone
 
   enough : FIRST_MORTAL ≤ n
   enough = omega (arith, options.enough)
@@ -136,7 +132,7 @@ module _ {A : Type 0} (n limit id : ℕ) (root : View) (slots : List (Option (�
       let fits = contents_fit n limit run q options ends.remains.kept.legal (rests q (inr live)) in
       ap is_mortal fits.kind
       ∙ kind_mortal n limit q options (mortal q live) (events_of (items_of run))
-      (events_run (opening n limit) (items_of run) ends.remains.kept.legal.items) live
+      (events_run (start_of n limit) (items_of run) ends.remains.kept.legal.items) live
 
   remaining : Remaining A (world n limit ends.remains.kept.run) ends.remains.kept.run
       (contents_of_heap {A = A} (world n limit ends.remains.kept.run) ends.remains.kept.run n) GLOBALS (n - GLOBALS)
@@ -158,13 +154,14 @@ module _ {A : Type 0} (n limit id : ℕ) (root : View) (slots : List (Option (�
   closes_so ledger report births deaths reports =
       let all_births = ends.births everyone in
       let all_deaths = ends.frees everyone in
-      let few : sum_by (λ (row : Row). row.allocs) h.rows < 18446744073709551616 = reached_births h ends.reached in
+      let few : h.past_allocs + sum_by (λ (row : Row). row.allocs) h.rows < 18446744073709551616 =
+      few_births h ends.reached in
       let allocs : report.ledger.allocs ≡ births_of_all root.gathered =
       ap (λ (l : Ledger). l.allocs) reports.ledger_is ∙ births
       ∙ within (births_of_all root.gathered) (omega (arith, all_births, few)) in
       let frees : report.ledger.frees ≡ frees_of_all root.gathered =
       ap (λ (l : Ledger). l.frees) reports.ledger_is ∙ deaths
-      ∙ within (frees_of_all root.gathered) (omega (arith, all_deaths, few, ends.headline.ledger, past.allocs)) in
+      ∙ within (frees_of_all root.gathered) (omega (arith, all_deaths, few, ends.headline.ledger)) in
       let contents : report.contents.items ≡ contents_of_heap h run n = reports.contents_are ∙ shown in
       let remains : remains_of report.contents.items ≡ Some report.remains.items = ap remains_of reports.contents_are
       ∙ reports.remains in
@@ -200,8 +197,6 @@ module _ {A : Type 0} (n limit id : ℕ) (root : View) (slots : List (Option (�
           all_deaths,
           live,
           ends.headline.ledger,
-          past.allocs,
-          past.frees,
         );
         remain = reports.live;
         contents = contents;

@@ -1,5 +1,5 @@
 mod Mortal_Kinds
-mod Past
+mod Few_Births
 mod Held
 mod Listing
 mod Collected

@@ -22,7 +22,7 @@ use Rattle.brc_close.specs.declared.closing.CloseFault.TheVariants.{Missing, Mem
 module _ {A : Type 0} where
   -- What was done on the heap is one run, of which the root knows its own part and that of each thread. All threads are
   -- gathered in the world that it leads to, where counts are references. The report is of that world: its ledger is
-  -- what all threads did, of which births less frees are the live objects; the contents are those that were put home
+  -- what all threads did, those whose numbers were used again, too, of which births less frees are the live objects; the contents are those that were put home
   -- last in the globals and in each live mortal cell; the remains are exactly these mortal cells; and all cycles of
   -- theirs are named.
   pub record Closes (n limit : ℕ) (root : View) (report : Report A) : Type 0 where
@@ -35,8 +35,10 @@ module _ {A : Type 0} where
     pub everyone : AllGathered (world n limit run)
     pub allocs : report.ledger.allocs ≡ births_of_all root.gathered
     pub frees : report.ledger.frees ≡ frees_of_all root.gathered
-    pub all_allocs : report.ledger.allocs ≡ sum_by (λ row. row.allocs) (world n limit run).rows
-    pub all_frees : report.ledger.frees ≡ sum_by (λ row. row.frees) (world n limit run).rows
+    pub all_allocs : report.ledger.allocs
+        ≡ (world n limit run).past_allocs + sum_by (λ row. row.allocs) (world n limit run).rows
+    pub all_frees : report.ledger.frees
+        ≡ (world n limit run).past_frees + sum_by (λ row. row.frees) (world n limit run).rows
     pub live : report.live ≡ live_count (world n limit run)
     pub balance : report.ledger.allocs ≡ report.ledger.frees + report.live
     pub remain : report.live ≡ length report.remains.items

@@ -3,23 +3,19 @@ use Rattle.std.proofs.Common.{◌≡◌, ◌≢◌, ℕ, zero, suc, ◌<◌, ◌
 use Rattle.std.proofs.Common.{[], ◌∷◌, ◌++◌, length, Option, Some, None, refl, sym, ◌∙◌, ap, subst, append_assoc, inl}
 use Rattle.std.proofs.Common.{inr, arith}
 use Rattle.std.proofs.lemmas.Bool.{cases_eq, cases_Bool, eq-eqb, ne_eqb, eqb-true, true≢false, and_parts}
-use Rattle.brc_words.specs.declared.limits.TheConstants.{MOST_THREADS}
 use Rattle.law_world.specs.declared.event.Change.{Change}
 use Rattle.law_world.specs.declared.event.Step.{Step}
-use Rattle.law_world.specs.declared.event.Step.TheVariants.{Birth, Unlock, Register}
-use Rattle.law_world.specs.Heap.{Heap, opening, AreOptions}
-use Rattle.law_world.specs.Steps.{enabled, root_may, thread_may, number_ok}
-use Rattle.law_world.proofs.Asking.{may_parts}
-use Rattle.law_world.proofs.Lifetimes.{run_edition}
-use Rattle.law_lasting.proofs.Ranges_Law.{event_rows}
-use Rattle.law_known.specs.Items.{is_start, events_of}
+use Rattle.law_world.specs.declared.event.Step.TheVariants.{Birth, Unlock, Lock, Register}
+use Rattle.law_world.specs.Heap.{Heap, AreOptions}
+use Rattle.law_world.specs.Steps.{enabled}
+use Rattle.law_known.specs.Items.{is_start, is_used}
 use Rattle.law_rule.specs.declared.contents.Contents.{Contents}
 use Rattle.law_rule.specs.declared.told.Moved.{Moved}
 use Rattle.law_rule.specs.declared.told.Moved.TheVariants as moves
 use Rattle.law_rule.specs.declared.told.Told.{Told}
 use Rattle.law_rule.specs.declared.told.Told.TheVariants.{Did, Saw, Lost}
-use Rattle.law_rule.specs.Logs.{Run, item_of, items_of, own_of, world, contents_at, puts, MovesWith, IsMoved, IsLegal}
-use Rattle.law_rule.specs.Seen.{contents_locked}
+use Rattle.law_rule.specs.Logs.{Run, item_of, items_of, own_of, all_of, begins, world, contents_at, puts, MovesWith, IsMoved, IsLegal}
+use Rattle.law_rule.specs.Seen.{contents_on, contents_locked}
 use Rattle.law_rule.proofs.Locked_Contents.{locked_contents}
 use Rattle.law_rule.proofs.Own_Logs.{own_more, own_same}
 use Rattle.brc_containers.specs.History.{Call, Bears, Changes, IsSequential, Extends, left_by, with_step, with_call}
@@ -196,104 +192,90 @@ other_passes c t u (Did s number (moves.Put d put)) found older apart = by_test 
 other_passes c t u (Saw word number) found older apart = refl
 other_passes c t u (Lost word number) found older apart = refl
 
+-- ---- what a registration's log says of a lock, the log of all says too
+
+on_front : (x : Told) (a b : Option Contents) → ((p : Contents) → a ≡ Some p → b ≡ Some p) → (p : Contents)
+    → contents_on x a ≡ Some p → contents_on x b ≡ Some p
+on_front (Did (Lock k) number (moves.Found c contents)) a b more p is = is
+on_front (Did (Unlock change) number moved) a b more p is = absurd (none_some p is)
+on_front _ a b more p is = more p is
+
+none_begun : (t : ℕ) (x : Told) (used : Bool) → is_start t (item_of x) ≡ true → contents_locked (begins used x) ≡ None
+none_begun t (Did (Register v) number moved) true starts = refl
+none_begun t (Did (Register v) number moved) false starts = refl
+none_begun t (Saw word number) used starts = absurd (true≢false (sym starts))
+none_begun t (Lost word number) used starts = absurd (true≢false (sym starts))
+none_begun t (Did _ number moved) used starts = absurd (true≢false (sym starts))
+
+locked_front : (t : ℕ) (run : Run) (p : Contents) → contents_locked (own_of t run) ≡ Some p
+    → contents_locked (all_of t run) ≡ Some p
+locked_front t [] p is = absurd (none_some p is)
+locked_front t (x ∷ run) p is = elim (cases_Bool (is_start t (item_of x.1))) [
+  | inl starts ↦
+      let used : Bool = is_used t (items_of run) in
+      absurd (none_some p (sym (none_begun t x.1 used starts)
+      ∙ sym (ap (λ b. contents_locked (if b then begins used x.1 else (if x.0 == t then x.1 ∷ own_of t run else own_of t
+      run))) starts) ∙ is))
+  | inr goes_on ↦ elim (cases_eq x.0 t) [
+    | inl mine ↦
+        let log : own_of t (x ∷ run) ≡ x.1 ∷ own_of t run = ap (λ q. own_of t ((q, x.1) ∷ run)) mine
+        ∙ own_more t x.1 run goes_on in
+        ap (λ b. contents_locked (if b then x.1 ∷ all_of t run else all_of t run)) (eq-eqb x.0 t mine)
+        ∙ on_front x.1 (contents_locked (own_of t run)) (contents_locked (all_of t run)) (locked_front t run) p
+        (sym (ap contents_locked log) ∙ is)
+    | inr other ↦
+        ap (λ b. contents_locked (if b then x.1 ∷ all_of t run else all_of t run)) (ne_eqb x.0 t other)
+        ∙ locked_front t run p (sym (ap contents_locked (own_same x.0 t x.1 run goes_on other)) ∙ is)
+  ]
+]
+
 module _ (n limit : ℕ) where
-  -- ---- who isn't registered yet has called nothing
+  -- an unlocking found the same by both
+  step_alike : (run : Run) (t d : ℕ) (s : Step) (number : ℕ) (put : Contents) (older : List Call) → AreOptions n limit
+      → IsLegal n limit ((t, Did s number (moves.Put d put)) ∷ run)
+      → with_step t s (contents_locked (own_of t run)) put older
+      ≡ with_step t s (contents_locked (all_of t run)) put older
+  step_alike run t d (Unlock change) number put older options legal =
+      let was : contents_locked (own_of t run) ≡ Some (contents_at run d) =
+      locked_contents n limit run t d options (older_legal n limit (t, Did (Unlock change) number (moves.Put d put)) run
+      legal) (unlocker (world n limit run) t change legal.items.1.0) legal.moved.1.cell in
+      ap (λ found. Changes t change found put ∷ older) (was ∙ sym (locked_front t run (contents_at run d) was))
+  step_alike run t d (Birth e kind k) number put older options legal = refl
+  step_alike run t d _ number put older options legal = refl
 
-  rows_before : (run : Run) (t : ℕ) (x : Told)
-      → length (world n limit run).rows ≤ length (world n limit ((t, x) ∷ run)).rows
-  rows_before run t (Did s number moved) = event_rows (world n limit run) (record { thread = t; step = s })
-  rows_before run t (Saw word number) = omega arith
-  rows_before run t (Lost word number) = omega arith
+  call_alike : (run : Run) (c t : ℕ) (x : Told) (older : List Call) → AreOptions n limit
+      → IsLegal n limit ((t, x) ∷ run)
+      → with_call c t x (contents_locked (own_of t run)) older ≡ with_call c t x (contents_locked (all_of t run)) older
+  call_alike run c t (Did s number moves.Nothing) older options legal = refl
+  call_alike run c t (Did s number (moves.Found d contents)) older options legal = refl
+  call_alike run c t (Did s number (moves.Put d put)) older options legal = by_test (d == c)
+    where
+      by_test : (here : Bool) → (if here then with_step t s (contents_locked (own_of t run)) put older else older)
+          ≡ (if here then with_step t s (contents_locked (all_of t run)) put older else older)
+      by_test true = step_alike run t d s number put older options legal
+      by_test false = refl
+  call_alike run c t (Saw word number) older options legal = refl
+  call_alike run c t (Lost word number) older options legal = refl
 
-  -- nobody but a registered thread makes a step that is a call
-  stranger_passes : (run : Run) (c t : ℕ) (x : Told) (found : Option Contents) (older : List Call)
-      → IsLegal n limit ((t, x) ∷ run) → 0 < t
-      → length (world n limit run).rows ≤ t → with_call c t x found older ≡ older
-  stranger_passes run c t (Did s number moved) found older legal some_thread outside =
-      let ok : (if t == 0 then root_may (world n limit run) s else thread_may (world n limit run) t s) ≡ true =
-      legal.items.1.0 in
-      let may = may_parts (world n limit run) t s
-      (subst (λ b. (if b then root_may (world n limit run) s else thread_may (world n limit run) t s) ≡ true)
-      (ne_eqb t 0 (λ e. omega (arith, e, some_thread))) ok) in
-      absurd (omega (arith, may.inside, outside))
-  stranger_passes run c t (Saw word number) found older legal some_thread outside = refl
-  stranger_passes run c t (Lost word number) found older legal some_thread outside = refl
+  -- ---- the calls of one number, of all its registrations
 
-  none_before : (run : Run) (c t : ℕ) → IsLegal n limit run → 0 < t → length (world n limit run).rows ≤ t
-      → calls_of t (history_of c run) ≡ []
-  none_before [] c t legal some_thread outside = refl
-  none_before (x ∷ run) c t legal some_thread outside =
-      let still : length (world n limit run).rows ≤ t = omega (arith, rows_before run x.0 x.1, outside) in
-      let before : calls_of t (history_of c run) ≡ [] = none_before run c t (older_legal n limit x run legal)
-      some_thread still in
+  pub own_calls : (run : Run) (c t : ℕ) → AreOptions n limit → IsLegal n limit run
+      → calls_of t (history_of c run) ≡ own_history c t (all_of t run)
+  own_calls [] c t options legal = refl
+  own_calls (x ∷ run) c t options legal =
+      let before : calls_of t (history_of c run) ≡ own_history c t (all_of t run) =
+      own_calls run c t options (older_legal n limit x run legal) in
       elim (cases_eq x.0 t) [
         | inl mine ↦
-            ap (calls_of t) (stranger_passes run c x.0 x.1 (contents_locked (own_of x.0 run)) (history_of c run) legal
-            (omega (arith, mine, some_thread)) (omega (arith, mine, still))) ∙ before
-        | inr other ↦ other_passes c t x.0 x.1 (contents_locked (own_of x.0 run)) (history_of c run) other ∙ before
-      ]
-
-  -- ---- the calls of one thread
-
-  -- in the first edition the next number is registered
-  next_number : (run : Run) (v : ℕ) → root_may (world n limit run) (Register v) ≡ true
-      → v ≡ length (world n limit run).rows
-  next_number run v may =
-      let h : Heap = world n limit run in
-      let number : number_ok h.edition h v ≡ true =
-      (and_parts (number_ok h.edition h v) (nat_le v MOST_THREADS) may).0 in
-      eqb-true v (length h.rows)
-      (subst (λ e. number_ok e h v ≡ true) (run_edition (opening n limit) (events_of (items_of run))) number)
-
-  -- a thread is registered once, when as many were before it
-  starts_last : (run : Run) (c t u : ℕ) (x : Told) (found : Option Contents) (older : List Call)
-      → IsLegal n limit ((u, x) ∷ run) → is_start t (item_of x) ≡ true
-      → (length (world n limit run).rows ≡ t) × (with_call c u x found older ≡ older)
-  starts_last run c t u (Did (Register v) number moved) found older legal starts =
-      (rows u legal.items.1.0, passes moved legal.moved.1)
-    where
-      passes : (moved : Moved) → MovesWith (world n limit run) run u (Register v) moved
-          → with_call c u (Did (Register v) number moved) found older ≡ older
-      passes moves.Nothing goes = refl
-      passes (moves.Found d contents) goes = refl
-      passes (moves.Put d put) goes = absurd (none_some d goes.cell)
-
-      rows : (u : ℕ) → enabled (world n limit run) (record { thread = u; step = Register v }) ≡ true
-          → length (world n limit run).rows ≡ t
-      rows zero on = sym (next_number run v on) ∙ eqb-true v t starts
-      rows (suc u) on =
-          let h : Heap = world n limit run in
-          let may : thread_may h (suc u) (Register v) ≡ true =
-          subst (λ b. (if b then root_may h (Register v) else thread_may h (suc u) (Register v)) ≡ true)
-          (ne_eqb (suc u) 0 (λ e. omega (arith, e))) on in
-          absurd (true≢false (sym (may_parts h (suc u) (Register v) may).hand))
-  starts_last run c t u (Saw word number) found older legal starts = absurd (true≢false (sym starts))
-  starts_last run c t u (Lost word number) found older legal starts = absurd (true≢false (sym starts))
-  starts_last run c t u (Did _ number moved) found older legal starts = absurd (true≢false (sym starts))
-
-  pub own_calls : (run : Run) (c t : ℕ) → IsLegal n limit run → 0 < t → calls_of t (history_of c run) ≡ own_history c t
-      (own_of t run)
-  own_calls [] c t legal some_thread = refl
-  own_calls (x ∷ run) c t legal some_thread =
-      let found : Option Contents = contents_locked (own_of x.0 run) in
-      let older : IsLegal n limit run = older_legal n limit x run legal in
-      let before : calls_of t (history_of c run) ≡ own_history c t (own_of t run) =
-      own_calls run c t older some_thread in
-      elim (cases_Bool (is_start t (item_of x.1))) [
-        | inl starts ↦
-            let last = starts_last run c t x.0 x.1 found (history_of c run) legal starts in
-            ap (calls_of t) last.1 ∙ none_before run c t older some_thread (omega (arith, last.0))
-            ∙ sym (ap (λ b. own_history c t
-            (if b then [] else (if x.0 == t then x.1 ∷ own_of t run else own_of t run))) starts)
-        | inr goes_on ↦ elim (cases_eq x.0 t) [
-          | inl mine ↦
-              subst (λ u. calls_of t (with_call c u x.1 (contents_locked (own_of u run)) (history_of c run))
-              ≡ own_history c t (own_of t ((u, x.1) ∷ run))) (sym mine)
-              (mine_joins c t x.1 (contents_locked (own_of t run)) (history_of c run)
-              ∙ ap (with_call c t x.1 (contents_locked (own_of t run))) before
-              ∙ sym (ap (own_history c t) (own_more t x.1 run goes_on)))
-          | inr other ↦
-              other_passes c t x.0 x.1 found (history_of c run) other ∙ before
-              ∙ sym (ap (own_history c t) (own_same x.0 t x.1 run goes_on other))
-        ]
+            let alike : with_call c t x.1 (contents_locked (own_of t run)) (history_of c run)
+            ≡ with_call c t x.1 (contents_locked (all_of t run)) (history_of c run) =
+            call_alike run c t x.1 (history_of c run) options (subst (λ u. IsLegal n limit ((u, x.1) ∷ run)) mine legal) in
+            ap (λ u. calls_of t (with_call c u x.1 (contents_locked (own_of u run)) (history_of c run))) mine
+            ∙ ap (calls_of t) alike
+            ∙ mine_joins c t x.1 (contents_locked (all_of t run)) (history_of c run)
+            ∙ ap (with_call c t x.1 (contents_locked (all_of t run))) before
+            ∙ sym (ap (λ b. own_history c t (if b then x.1 ∷ all_of t run else all_of t run)) (eq-eqb x.0 t mine))
+        | inr other ↦
+            other_passes c t x.0 x.1 (contents_locked (own_of x.0 run)) (history_of c run) other ∙ before
+            ∙ sym (ap (λ b. own_history c t (if b then x.1 ∷ all_of t run else all_of t run)) (ne_eqb x.0 t other))
       ]

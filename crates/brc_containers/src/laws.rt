@@ -2,7 +2,7 @@
 
 ghost use Rattle.std.specs.Prelude.{◌≡◌, ℕ, ◌<◌, List, ◌++◌};
 ghost use Rattle.law_world.specs.Heap.{AreOptions};
-ghost use Rattle.law_rule.specs.Logs.{Run, own_of, contents_at, IsLegal};
+ghost use Rattle.law_rule.specs.Logs.{Run, all_of, contents_at, IsLegal};
 ghost use Rattle.brc_count.specs.Frames.{FrameSeen};
 ghost use Rattle.brc_count.specs.Locking.{KeepsThread, KeepsFrame};
 ghost use Rattle.brc_lock.specs.Waiting.{Waits};
@@ -29,9 +29,10 @@ pub fn calls_on_an_object_are_one_history()
     ensures fronts { (c : ℕ) (older newer : List call) → Extends older newer → IsSequential c newer
         → IsSequential c older }
 
-    // A thread's calls stand in it in the order of the thread's own steps, as its log tells them.
-    ensures own { (n limit : ℕ) (run : Run) (c t : ℕ) → IsLegal n limit run → 0 < t
-        → calls_of t (history_of c run) ≡ own_history c t (own_of t run) }
+    // A number's calls stand in it in the order of its own steps, those of all its registrations, as their logs tell
+    // them one after the other.
+    ensures own { (n limit : ℕ) (run : Run) (c t : ℕ) → AreOptions n limit → IsLegal n limit run
+        → calls_of t (history_of c run) ≡ own_history c t (all_of t run) }
 {}
 
 /// Tries that find an object locked change nothing of a frame but its log. So what a form that waits says from the

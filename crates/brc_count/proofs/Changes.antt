@@ -5,7 +5,11 @@ use Rattle.std.proofs.Common.{sym, ◌∙◌, ap, subst, replicate}
 use Rattle.std.proofs.lemmas.Bool.{eq-eqb, cases_eq, cases_lt, lt-ltb}
 use Rattle.std.proofs.lemmas.List.{length-set, get_or-set_same, get_or_past, get_or-replicate, length-replicate}
 use Rattle.std.specs.Int.{bit_at}
+use Rattle.law_world.specs.declared.event.Step.TheVariants.{Register}
+use Rattle.law_rule.specs.declared.told.Moved.TheVariants.{Nothing}
 use Rattle.law_rule.specs.declared.told.Told.{Told}
+use Rattle.law_rule.specs.declared.told.Told.TheVariants.{Did}
+use Rattle.brc_count.specs.Closing.{IsFirst, FirstNew, FirstAgain}
 use Rattle.law_world.specs.Heap.{words_for}
 use Rattle.std.proofs.lemmas.Nat.Bits.{bit_at-zero}
 use Rattle.slab.specs.Slab.{Slab, get, Updates}
@@ -129,11 +133,10 @@ no_marks_yet n c = elim (cases_lt c (length (replicate n false))) [
 ]
 
 -- a thread that has done nothing yet, with no place filled
-pub opening : {A : Type 0} (heap : TableSeen) (seat : SeatSeen A) (places : Slab Held) (popped : List ℕ) → seat.log ≡ []
-    → seat.slots ≡ [] → places.slots ≡ []
-    → popped ≡ replicate (words_for heap.cells) 0
+pub opening : {A : Type 0} (heap : TableSeen) (seat : SeatSeen A) (places : Slab Held) (popped : List ℕ)
+    → IsFirst seat.log → seat.slots ≡ [] → places.slots ≡ [] → popped ≡ replicate (words_for heap.cells) 0
     → Holding A heap seat places [] popped (record { allocs = 0; frees = 0 })
-opening heap seat places popped log slots none blank = record {
+opening heap seat places popped (FirstNew log) slots none blank = record {
   hand_is = rw log refl;
   placed = λ k. rw (log, none) refl;
   risen = λ k held there. absurd (none_held (rw none at there));
@@ -143,6 +146,25 @@ opening heap seat places popped log slots none blank = record {
   lock_has = λ c is. absurd (none_held (rw log at is));
   listed = rw log refl;
   buried = rw log (nothing_buried heap.cells (part_seen heap.cells []).worklist (part_seen heap.cells []).has
+      (no_marks_yet heap.cells));
+  popped_is = rw log blank;
+  words = ap length blank ∙ length-replicate (words_for heap.cells) 0;
+  allocs = rw log refl;
+  frees = rw log refl;
+  bits = λ k i is. absurd (no_bit (words_for heap.cells) k i (ap (λ ws. bit_at (word_at ws k) i) (sym blank) ∙ is));
+}
+
+opening heap seat places popped (FirstAgain t log) slots none blank = record {
+  hand_is = rw log refl;
+  placed = λ k. rw (log, none) refl;
+  risen = λ k held there. absurd (none_held (rw none at there));
+  inside = λ k held there. absurd (none_held (rw none at there));
+  out = rw log slots;
+  lock_filled = λ k is. absurd (none_held (rw log at is));
+  lock_has = λ c is. absurd (none_held (rw log at is));
+  listed = rw log refl;
+  buried = rw log (nothing_buried heap.cells (part_seen heap.cells (Did (Register t) 0 Nothing ∷ [])).worklist
+      (part_seen heap.cells (Did (Register t) 0 Nothing ∷ [])).has
       (no_marks_yet heap.cells));
   popped_is = rw log blank;
   words = ap length blank ∙ length-replicate (words_for heap.cells) 0;

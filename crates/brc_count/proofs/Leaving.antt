@@ -7,20 +7,21 @@ use Rattle.std.proofs.lemmas.List.{get_or_past}
 use Rattle.std.proofs.lemmas.List.Sums.{sum_by-cons, get_or-le-sum_by}
 use Rattle.slab.specs.Slab.{Slab, slab_len}
 use Rattle.brc_block.specs.declared.payload.Payload.{Payload}
-use Rattle.law_world.specs.declared.event.Step.TheVariants.{Close}
+use Rattle.law_world.specs.declared.event.Step.TheVariants.{Close, Reopen}
 use Rattle.law_world.specs.declared.row.Stage.{Stage}
 use Rattle.law_world.specs.declared.row.Stage.TheVariants as stages
 use Rattle.law_world.specs.Heap.{words_for}
 use Rattle.law_world.specs.Lists.{place_at, is_marked, is_bare, is_unmarked, is_blank, filled_places, marked_cells}
-use Rattle.law_world.specs.Steps.{stage_ok, closes_next, closed_more, is_left, is_active, may_begin_closing}
+use Rattle.law_world.specs.Steps.{stage_ok, closes_next, closed_more, opened_more, is_left, is_active, may_begin_closing}
 use Rattle.law_known.specs.Taken.{listed_at}
-use Rattle.law_rule.specs.Seen.{part_seen}
-use Rattle.law_steps.specs.Owing.{Allowed}
+use Rattle.brc_words.specs.declared.limits.TheConstants.{FIRST_MORTAL}
+use Rattle.law_rule.specs.Seen.{part_seen, counts_seen}
+use Rattle.law_steps.specs.Owing.{Allowed, Closes}
 use Rattle.brc_table.specs.Seated.{TableSeen, SeatSeen}
 use Rattle.brc_count.specs.declared.held.Held.{Held}
 use Rattle.brc_count.specs.declared.ledger.Ledger.{Ledger}
 use Rattle.brc_count.specs.Frames.{FrameSeen, Holding, locked_place, cell_held}
-use Rattle.brc_count.specs.Closing.{stage_with, TurnedLeaving, TurnsLeaving, OneMore}
+use Rattle.brc_count.specs.Closing.{stage_with, stage_opened, TurnedLeaving, TurnsLeaving, OneMore}
 
 -- ---- nothing is there, place by place and cell by cell
 
@@ -66,19 +67,14 @@ module _ {A : Type 0} {heap : TableSeen} {seat : SeatSeen A} {places : Slab Held
   holds_bare keeps none = bare_from (part_seen heap.cells seat.log).frame (λ k. keeps.placed k
       ∙ ap cell_held (none_filled places.slots none k))
 
-  -- no block is left
-  pub holds_unmarked : Holding A heap seat places [] popped ledger
-      → is_unmarked (part_seen heap.cells seat.log).worklist ≡ true
-  holds_unmarked keeps = unmarked_from (part_seen heap.cells seat.log).worklist
-      (λ c. keeps.buried.only c (ap (λ bs. listed_at bs c) keeps.listed))
-
   -- ---- the next word
 
-  pub may_close : (k : ℕ) → Holding A heap seat places [] popped ledger → slab_len places ≡ 0
-      → locked_place heap.cells seat.log ≡ None
+  pub may_close : (k : ℕ) {works : List (ℕ × Payload A)} → Holding A heap seat places works popped ledger
+      → slab_len places ≡ 0 → locked_place heap.cells seat.log ≡ None
+      → ((c : ℕ) → FIRST_MORTAL ≤ c → c < heap.cells → counts_seen heap.cells seat.log c ≡ 0)
       → (part_seen heap.cells seat.log).row.stage ≡ stage_with (words_for heap.cells) k → k < words_for heap.cells
-      → (k ≡ 0 → is_blank (part_seen heap.cells seat.log).popped ≡ true) → Allowed heap.cells seat.log (Close k)
-  may_close k keeps none unlocked stage low blank = record {
+      → (k ≡ 0 → is_blank (part_seen heap.cells seat.log).popped ≡ true) → Closes heap.cells seat.log k
+  may_close k keeps none unlocked counts stage low blank = record {
     own = rw (
       stage,
       stage_fits (words_for heap.cells) k low,
@@ -89,7 +85,7 @@ module _ {A : Type 0} {heap : TableSeen} {seat : SeatSeen A} {places : Slab Held
       holds_bare keeps none,
       begins (part_seen heap.cells seat.log).popped k blank,
     ) refl;
-    done = holds_unmarked keeps;
+    none = counts;
   }
     where
       stage_fits : (words k : ℕ) → k < words → stage_ok (stage_with words k) (Close k) ≡ true
@@ -119,6 +115,45 @@ module _ {A : Type 0} {heap : TableSeen} {seat : SeatSeen A} {places : Slab Held
         | inl none ↦ subst (λ m. may_begin_closing words m ≡ true) (sym none) (blank none)
         | inr some ↦ ap (λ b. b || is_blank words) (lt-ltb 0 k (omega (arith, some)))
       ]
+
+-- a thread whose number is used again may open its next queue word
+pub may_open : {A : Type 0} {heap : TableSeen} {seat : SeatSeen A} {places : Slab Held} {popped : List ℕ}
+    {ledger : Ledger} {works : List (ℕ × Payload A)} (k : ℕ) → Holding A heap seat places works popped ledger
+    → locked_place heap.cells seat.log ≡ None
+    → (part_seen heap.cells seat.log).row.stage ≡ stage_opened (words_for heap.cells) k → k < words_for heap.cells
+    → Allowed heap.cells seat.log (Reopen k)
+may_open {heap = heap} k keeps unlocked stage low = record {
+  own = rw (
+    stage ∙ opening_at (words_for heap.cells) k low,
+    eq-eqb k k refl,
+    unlocked,
+    keeps.hand_is,
+    lt-ltb k (words_for heap.cells) low,
+  ) refl;
+}
+  where
+    opening_at : (words k : ℕ) → k < words → stage_opened words k ≡ stages.Opening k
+    opening_at words k low = elim (cases_eq k 0) [
+      | inl none ↦ ap (λ b. if b then stages.Opening 0 else opened_more words (k - 1)) (eq-eqb k 0 none)
+          ∙ ap stages.Opening (sym none)
+      | inr some ↦ ap (λ b. if b then stages.Opening 0 else opened_more words (k - 1)) (ne_eqb k 0 some)
+          ∙ ap (λ b. if b then stages.Active else stages.Opening (k - 1 + 1))
+          (ne_eqb (k - 1 + 1) words (λ same. omega (arith, low, some, same)))
+          ∙ ap stages.Opening (omega (arith, some))
+    ]
+
+-- one word more is open
+pub opened_next : (words k : ℕ) → opened_more words k ≡ stage_opened words (k + 1)
+opened_next words k = sym (ap (λ b. if b then stages.Opening 0 else opened_more words (k + 1 - 1))
+    (ne_eqb (k + 1) 0 (λ same. omega (arith, same))) ∙ ap (opened_more words) (omega arith))
+
+-- with the last word open the thread is active
+pub stage_active : (words : ℕ) → 0 < words → is_active (stage_opened words words) ≡ true
+stage_active words some =
+    ap (λ b. is_active (if b then stages.Opening 0 else opened_more words (words - 1)))
+    (ne_eqb words 0 (λ same. omega (arith, some, same)))
+    ∙ ap (λ b. is_active (if b then stages.Active else stages.Opening (words - 1 + 1)))
+    (eq-eqb (words - 1 + 1) words (omega (arith, some)))
 
 -- an active thread has closed no word
 pub is_first : (stage : Stage) → is_active stage ≡ true → stage ≡ stages.Active

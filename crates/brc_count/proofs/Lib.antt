@@ -11,3 +11,5 @@ pub mod Owning
 mod Unasked
 pub mod Quiet
 pub mod Refusing
+pub mod Handing
+pub mod Beginning

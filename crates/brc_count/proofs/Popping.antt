@@ -17,7 +17,8 @@ use Rattle.law_world.specs.Lists.{names, place_at, bit_of, word_at, without_bit,
 use Rattle.law_world.proofs.Bitwise.{bit_inside}
 use Rattle.law_world.specs.declared.event.Dropped.TheVariants as drops
 use Rattle.law_known.specs.Items.{Part, popped_told}
-use Rattle.law_known.specs.Going_On.{popping, closing, settling, taking}
+use Rattle.law_world.specs.declared.row.Hand.TheVariants as hands
+use Rattle.law_known.specs.Going_On.{popping, closing, reopening, settling, taking, handing}
 use Rattle.law_known.specs.Taken.{taken_on}
 use Rattle.law_rule.specs.declared.told.Told.{Told}
 use Rattle.law_rule.specs.Seen.{part_seen, taken_seen}
@@ -227,6 +228,67 @@ module _ {A : Type 0} {heap : TableSeen} (before seat : SeatSeen A) {places : Sl
         words = length-set popped (c / 32) (bit_xor read (2 ^ (c % 32))) ∙ keeps.words;
         bits = subst (λ v. AreBits heap.cells (set popped (c / 32) (bit_xor v (2 ^ (c % 32))))) (sym was)
             (bits_left popped keeps.bits c there);
+        allocs = keeps.allocs ∙ sym (ap (λ (p : Part). p.row.allocs) knows.part);
+        frees = keeps.frees ∙ sym (ap (λ (p : Part). p.row.frees) knows.part);
+      }
+
+  -- a queue word is open again
+  pub after_opens : (k : ℕ) → Holding A heap before places works popped ledger → Stays before seat
+      → IsKnown heap.cells seat.log (reopening heap.cells k (known_seen heap.cells before.log))
+      → Keeps heap.cells before.log seat.log → locked_place heap.cells before.log ≡ None
+      → Holding A heap seat places works popped ledger
+  after_opens k keeps stays knows goes_on unlocked =
+      let gone : locked_place heap.cells seat.log ≡ None = ap (λ (p : Part). p.row.locked) knows.part ∙ unlocked in
+      record {
+        hand_is = ap (λ (p : Part). p.row.hand) knows.part ∙ keeps.hand_is;
+        placed = λ j. ap (λ (p : Part). place_at p.frame j) knows.part ∙ keeps.placed j;
+        risen = λ j there is_there is. goes_on.risen (drops.Frame j) there.cell (keeps.risen j there is_there is)
+            ∙ ap (names there.cell) (ap (λ (p : Part). place_at p.frame j) knows.part ∙ keeps.placed j
+            ∙ ap cell_held is_there)
+            ∙ eq-eqb there.cell there.cell refl;
+        inside = keeps.inside;
+        out = stays.2 ∙ keeps.out ∙ out_unlocked heap.cells before.log works unlocked
+            ∙ sym (out_unlocked heap.cells seat.log works gone);
+        lock_filled = λ j is. absurd (none_held (sym gone ∙ is));
+        lock_has = λ d is. absurd (none_held (sym (nothing_locked heap.cells seat.log gone) ∙ is));
+        listed = knows.blocks ∙ keeps.listed;
+        buried = rw (knows.part, knows.blocks) keeps.buried;
+        popped_is = keeps.popped_is ∙ sym (ap (λ (p : Part). p.popped) knows.part);
+        words = keeps.words;
+        bits = keeps.bits;
+        allocs = keeps.allocs ∙ sym (ap (λ (p : Part). p.row.allocs) knows.part);
+        frees = keeps.frees ∙ sym (ap (λ (p : Part). p.row.frees) knows.part);
+      }
+
+  -- an own object is handed over, and its block, where it ended, is on the worklist
+  pub after_handed : (c : ℕ) (block : Option (ℕ × Payload A)) → Holding A heap before places works popped ledger
+      → Continues before seat
+      → IsKnown heap.cells seat.log
+      (handing hands.Free (taking (is_there block) c (entries_answered block) (known_seen heap.cells before.log)))
+      → KeepsPlaces heap.cells before.log seat.log → Answers heap.cells c block before seat
+      → c < heap.cells → locked_place heap.cells before.log ≡ None
+      → Holding A heap seat places (pushed block works) popped ledger
+  after_handed c block keeps continues knows goes_on answers low unlocked =
+      let gone : locked_place heap.cells seat.log ≡ None = ap (λ (p : Part). p.row.locked) knows.part ∙ unlocked in
+      record {
+        hand_is = ap (λ (p : Part). p.row.hand) knows.part;
+        placed = λ j. ap (λ (p : Part). place_at p.frame j) knows.part ∙ keeps.placed j;
+        risen = λ j held is_there is. goes_on.risen j held.cell
+            (ap (λ (p : Part). place_at p.frame j) knows.part ∙ keeps.placed j ∙ ap cell_held is_there)
+            (keeps.risen j held is_there is);
+        inside = keeps.inside;
+        out = answers.out ∙ ap (out_with c block) (keeps.out ∙ out_unlocked heap.cells before.log works unlocked)
+            ∙ slots_pushed c block works answers.of_cell
+            ∙ sym (out_unlocked heap.cells seat.log (pushed block works) gone);
+        lock_filled = λ j is. absurd (none_held (sym gone ∙ is));
+        lock_has = λ d is. absurd (none_held (sym (nothing_locked heap.cells seat.log gone) ∙ is));
+        listed = knows.blocks ∙ ap (taken_on false (is_there block) c (entries_answered block)) keeps.listed
+            ∙ blocks_pushed c block works answers.of_cell;
+        buried = rw (knows.part, knows.blocks)
+            (after_given c block keeps.buried answers.fresh low (marks_wide heap.cells before.log) answers.entries);
+        popped_is = keeps.popped_is ∙ sym (ap (λ (p : Part). p.popped) knows.part);
+        words = keeps.words;
+        bits = keeps.bits;
         allocs = keeps.allocs ∙ sym (ap (λ (p : Part). p.row.allocs) knows.part);
         frees = keeps.frees ∙ sym (ap (λ (p : Part). p.row.frees) knows.part);
       }

@@ -1,19 +1,46 @@
 -- How a thread leaves: it closes all its queue words, deals with what was in them, and takes its dead blocks apart.
-use Rattle.std.specs.Prelude.{◌≡◌, ℕ, ◌+◌, ◌-◌, ◌==◌, if◌then◌else◌, true, List, ◌∷◌}
-use Rattle.law_world.specs.declared.event.Step.TheVariants.{Close}
+use Rattle.std.specs.Prelude.{◌≡◌, ℕ, ◌+◌, ◌-◌, ◌==◌, ◌<◌, if◌then◌else◌, true, false, List, [], ◌∷◌, Option}
+use Rattle.law_world.specs.declared.event.Step.TheVariants.{Close, Reopen, Register}
 use Rattle.law_world.specs.declared.row.Stage.{Stage}
 use Rattle.law_world.specs.declared.row.Stage.TheVariants as stages
 use Rattle.law_world.specs.Lists.{bit_of, is_blank}
-use Rattle.law_world.specs.Steps.{closed_more}
+use Rattle.law_world.specs.Heap.{words_for}
+use Rattle.law_world.specs.Steps.{closed_more, opened_more}
 use Rattle.law_rule.specs.declared.told.Moved.TheVariants.{Nothing}
 use Rattle.law_rule.specs.declared.told.Told.{Told}
 use Rattle.law_rule.specs.declared.told.Told.TheVariants.{Did}
-use Rattle.brc_count.specs.Frames.{FrameSeen, Turned, popped_seen}
+use Rattle.law_rule.specs.declared.view.View.{View}
+use Rattle.law_steps.specs.Joining.{is_again, starting}
+use Rattle.brc_words.specs.declared.limits.TheConstants.{FIRST_MORTAL}
+use Rattle.brc_block.specs.declared.payload.Payload.{Payload}
+use Rattle.law_rule.specs.Seen.{counts_seen}
+use Rattle.brc_count.specs.Frames.{FrameSeen, Turned, popped_seen, pushed}
+use Rattle.brc_biased.specs.Released.{HandsOver}
 use Rattle.brc_count.specs.Polling.{Deals}
 
 -- where a thread stands that has closed so many of its queue words
 abbrev pub stage_with : ℕ → ℕ → Stage
 stage_with words closed = if closed == 0 then stages.Active else closed_more words (closed - 1)
+
+-- where a thread stands whose number is used again, once so many of its queue words are open
+abbrev pub stage_opened : ℕ → ℕ → Stage
+stage_opened words opened = if opened == 0 then stages.Opening 0 else opened_more words (opened - 1)
+
+-- so many queue words were opened again, by rising number
+pub data Opens (before : List Told) : ℕ → List Told → Type 0 where
+  NoneOpened : Opens before 0 before
+  Opened : (k : ℕ) (log : List Told) → Opens before k log → Opens before (k + 1) (Did (Reopen k) 0 Nothing ∷ log)
+
+-- How the log of a thread begins that the root registers: a new number's with nothing, and one that was used before with
+-- the root's item and all its queue words.
+pub data BeginsBy (n : ℕ) (root : View) (log : List Told) : Type 0 where
+  BeginsNew : is_again root ≡ false → log ≡ [] → BeginsBy n root log
+  BeginsAgain : is_again root ≡ true → Opens (starting root).log (words_for n) log → BeginsBy n root log
+
+-- a log that says at most that its number is used again
+pub data IsFirst (log : List Told) : Type 0 where
+  FirstNew : log ≡ [] → IsFirst log
+  FirstAgain : (t : ℕ) → log ≡ Did (Register t) 0 Nothing ∷ [] → IsFirst log
 
 -- so many queue words were closed, by rising number
 pub data Closes (before : List Told) : ℕ → List Told → Type 0 where
@@ -33,3 +60,24 @@ module _ {A : Type 0} where
     NoTurn : TurnsLeaving old 0 old
     OneMore : (n : ℕ) (mid new : FrameSeen A) → TurnsLeaving old n mid → TurnedLeaving mid new
         → TurnsLeaving old (n + 1) new
+
+  -- an own object is handed over, by which it may end: then its block is at the front of the worklist
+  pub record HandsOne (old new : FrameSeen A) (c : ℕ) : Type 0 where
+    pub block : Option (ℕ × Payload A)
+    pub told : HandsOver c block old.seat.log new.seat.log
+    pub works : new.works ≡ pushed block old.works
+
+  -- of the mortal cells below one, each that the thread counts is handed over, by rising cell, and no other
+  pub data HandsEach (old : FrameSeen A) : ℕ → FrameSeen A → Type 0 where
+    NoneYet : HandsEach old FIRST_MORTAL old
+    NotOwned : (c : ℕ) (new : FrameSeen A) → HandsEach old c new → counts_seen new.heap.cells new.seat.log c ≡ 0
+        → HandsEach old (c + 1) new
+    Handed : (c : ℕ) (mid new : FrameSeen A) → HandsEach old c mid → 0 < counts_seen mid.heap.cells mid.seat.log c
+        → HandsOne mid new c
+        → HandsEach old (c + 1) new
+
+  -- a thread leaves: it hands over all that it counts, and then closes all its queue words
+  pub record GoesOut (old new : FrameSeen A) : Type 0 where
+    pub mid : FrameSeen A
+    pub hands : HandsEach old old.heap.cells mid
+    pub closes : Closes mid.seat.log (words_for old.heap.cells) new.seat.log

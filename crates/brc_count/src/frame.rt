@@ -2,19 +2,19 @@
 
 ghost use Rattle.std.specs.Prelude.{◌≡◌, ◌+◌, ◌-◌, ◌<◌, ◌≤◌, ℕ, Some, None, IsTrue, IsFalse, [], length, replicate};
 ghost use Rattle.std.specs.Prelude.{◌⊎◌, IfOk, IfErr, OnOk, OnErr, true, false};
-ghost use Rattle.brc_words.specs.declared.limits.TheConstants.{FIRST_MORTAL, MOST_THREADS};
+ghost use Rattle.brc_words.specs.declared.limits.TheConstants.{FIRST_MORTAL, MOST_THREADS, MOST_REGISTRATIONS};
 ghost use Rattle.brc_words.specs.declared.fault.Fault.TheVariants.{OutOfMemory};
 ghost use Rattle.law_world.specs.declared.event.Source.TheVariants as sources;
 ghost use Rattle.law_world.specs.Heap.{words_for};
 ghost use Rattle.brc_biased.specs.Bounded.{IsBounded};
-ghost use Rattle.law_steps.specs.Joining.{next_thread, registering};
+ghost use Rattle.law_steps.specs.Joining.{next_thread, registrations, registering};
 ghost use Rattle.brc_table.specs.Seated.{Continues};
 ghost use Rattle.law_living.specs.Living.{OwnLog};
 ghost use Rattle.brc_count.specs.Frames.{place_seen, handle_at, Owns, Given, Refused, ReleasedOf, IsAsBefore};
 ghost use Rattle.brc_count.specs.Frames.{IsUnlocked, Turns, KeepsHandles, KeepsButStart, first_word, word_asked};
 ghost use Rattle.brc_count.specs.Frames.{ledger_seen};
 ghost use Rattle.brc_count.specs.Polling.{Polled};
-ghost use Rattle.brc_count.specs.Closing.{Closes};
+ghost use Rattle.brc_count.specs.Closing.{BeginsBy, GoesOut};
 ghost use Rattle.brc_count.specs.Making.{Made, RefusedMaking};
 ghost use Rattle.brc_count.specs.Owned.{Keeps, Gains, Loses};
 ghost use Rattle.brc_words.specs.Kinds.{is_mortal};
@@ -26,12 +26,12 @@ use crate::handed::Handed;
 use crate::handle::Handle;
 use crate::holdings::Holdings;
 use crate::ledger::Ledger;
-use brc_biased::{Counter, Home, first_counts};
+use brc_biased::{Counter, Home, first_counts, no_bits};
 use brc_block::Payload;
 use brc_table::RootSeat;
 use brc_words::Fault;
 use law_world::Source;
-use std::alloc::{AllocError, Allocator};
+use std::alloc::Allocator;
 use std::marker::Model;
 use std::snapshot::Snapshot;
 
@@ -51,24 +51,19 @@ impl<H: Home<A>, A: Allocator> Model for Frame<H, A> {
     ghost invariant = { λ f. Framing f.holdings f.thread };
 }
 
-/// A popped word for each queue word, without bits.
-fn no_bits<A: Allocator>(alloc: A, cells: u32) -> Result<Vec<u64, A>, AllocError>
-    ensures { IfOk result (λ words. words.items ≡ replicate (words_for cells) 0) }
-{
-    let mut words = Vec::new(alloc);
-    words.resize(cells.div_ceil(32) as usize, 0)?;
-    Ok(words)
-}
-
 impl<H: Home<A> + Drop, A: Allocator + Copy> Frame<H, A> {
-    /// The frame of the next thread, which is registered with it. All memory that its counts and its popped entries
-    /// want is had before: where it is missing the answer is OutOfMemory, and nothing changed.
+    #[tactic(auto, using(crate::proofs::Beginning::started_first, crate::proofs::Beginning::first_none, crate::proofs::Beginning::again_opening, crate::proofs::Leaving::stage_active))]
+    /// The frame of the next thread, which is registered with it, and, where its number was used before, opens its queue
+    /// words. All memory that its counts, its owned bits and its popped entries want is had before: where it is missing
+    /// the answer is OutOfMemory, and nothing changed.
     pub fn enter(alloc: A, heap: H, root: &mut RootSeat<A>) -> Result<Frame<H, A>, Fault>
         requires table { root.old.table ≡ (H.seen heap).table }
         requires few { next_thread root.old.view ≤ MOST_THREADS }
+        requires more { registrations root.old.view < MOST_REGISTRATIONS }
         ensures heap { IfOk result (λ frame. frame.heap ≡ H.seen heap) }
         ensures thread { IfOk result (λ frame. frame.seat.thread ≡ next_thread root.old.view) }
-        ensures new { IfOk result (λ frame. frame.seat.log ≡ []) }
+        ensures begins { IfOk result (λ frame. BeginsBy frame.heap.cells root.old.view frame.seat.log) }
+        ensures ledger { IfOk result (λ frame. ledger_seen frame ≡ record { allocs = 0; frees = 0 }) }
         ensures bare { IfOk result (λ frame. (frame.len ≡ 0) × (frame.works ≡ [])) }
         ensures unlocked { IfOk result (λ frame. IsUnlocked frame) }
         ensures first { IfOk result (λ frame. (frame.from ≡ first_word) × (frame.near ≡ false)) }
@@ -81,16 +76,21 @@ impl<H: Home<A> + Drop, A: Allocator + Copy> Frame<H, A> {
         let Ok(counts) = first_counts(alloc, cells) else {
             return Err(Fault::OutOfMemory);
         };
+        let Ok(owned) = no_bits(alloc, cells) else {
+            return Err(Fault::OutOfMemory);
+        };
         let Ok(popped) = no_bits(alloc, cells) else {
             return Err(Fault::OutOfMemory);
         };
         let thread = root.next();
+        let again = root.is_again();
         let seat = heap.table().split(root);
-        let counter = Counter::new(heap, seat, counts);
-        Ok(Frame {
-            holdings: Holdings::new(alloc, counter, popped),
-            thread,
-        })
+        let counter = Counter::new(heap, seat, counts, owned);
+        let mut holdings = Holdings::new(alloc, counter, popped);
+        if again {
+            holdings.open_all();
+        }
+        Ok(Frame { holdings, thread })
     }
 }
 
@@ -318,13 +318,13 @@ impl<H: Home<A>, A: Allocator> Frame<H, A> {
         self.holdings.poll()
     }
 
-    /// Leaves: all of the thread's queue words are closed, by rising number, and it counts as any other thread does
-    /// from the first on. A frame with a handle or a dead block is answered as it was.
+    /// Leaves: what the thread counts on its own is handed over, by rising cell, and then all of its queue words are
+    /// closed, by rising number. A frame with a handle or a dead block is answered as it was.
     pub fn close(self) -> Result<ClosedFrame<H, A>, Frame<H, A>>
         requires unlocked { IsUnlocked self }
         ensures heap { IfOk result (λ closed. closed.heap ≡ self.heap) }
         ensures thread { IfOk result (λ closed. closed.seat.thread ≡ self.seat.thread) }
-        ensures closes { IfOk result (λ closed. Closes self.seat.log (words_for self.heap.cells) closed.seat.log) }
+        ensures goes { IfOk result (λ closed. GoesOut self closed) }
         ensures idle { OnOk result ((self.len ≡ 0) × (self.works ≡ [])) }
         ensures refused { OnErr result ((0 < self.len) ⊎ (0 < length self.works)) }
         ensures unchanged { IfErr result (λ same. same ≡ self) }
@@ -336,6 +336,8 @@ impl<H: Home<A>, A: Allocator> Frame<H, A> {
             mut holdings,
             thread,
         } = self;
+        holdings.hand_all();
+
         // There are some words to close: by the last one the thread has left.
         let _words = holdings.words();
         holdings.close_all();

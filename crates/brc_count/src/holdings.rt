@@ -11,6 +11,7 @@ ghost use Rattle.brc_biased.specs.Bounded.{IsBounded};
 ghost use Rattle.brc_biased.specs.Standing.{may_give_up};
 ghost use Rattle.law_rule.specs.Seen.{part_seen};
 ghost use Rattle.brc_table.specs.Seated.{Continues};
+ghost use Rattle.brc_count.specs.Closing.{IsFirst};
 ghost use Rattle.brc_count.specs.Frames.{IsActive, MayGiveUp, SourceFits, SourceNames, place_seen, locked_place, Given};
 ghost use Rattle.brc_count.specs.Frames.{IsFull, Refused, ReleasedOf, handle_at, IsAsBefore, KeepsRest, ledger_seen};
 ghost use Rattle.brc_count.specs.Frames.{popped_seen, IsUnlocked, KeepsButStart, first_word, word_asked};
@@ -62,7 +63,7 @@ impl<H: Home<A>, A: Allocator> Holdings<H, A> {
     #[tactic(auto, using(crate::proofs::Changes::opening))]
     /// Nothing is held yet.
     pub(crate) fn new(alloc: A, counter: Counter<H, A>, popped: Vec<u64, A>) -> Self
-        requires new { counter.seat.log ≡ [] }
+        requires new { IsFirst counter.seat.log }
         requires bare { counter.seat.slots ≡ [] }
         requires blank { popped.items ≡ replicate (words_for counter.heap.cells) 0 }
         ensures heap { result.heap ≡ counter.heap }

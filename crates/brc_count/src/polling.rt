@@ -12,6 +12,8 @@ ghost use Rattle.law_rule.specs.declared.told.Moved.TheVariants as moves;
 ghost use Rattle.law_rule.specs.declared.told.Told.TheVariants as told;
 ghost use Rattle.law_living.specs.Living.{OwnLog};
 ghost use Rattle.brc_count.specs.Frames.{IsActive, MayGiveUp, IsUnlocked, KeepsHandles, popped_seen};
+ghost use Rattle.law_world.specs.Steps.{is_left};
+ghost use Rattle.law_rule.specs.Seen.{part_seen};
 ghost use Rattle.brc_count.specs.Polling.{Deals, DealsBits, Drains, DrainsEach, DrainsNamed, Polled};
 
 use crate::holdings::Holdings;
@@ -103,13 +105,30 @@ impl<H: Home<A>, A: Allocator> Holdings<H, A> {
     /// counted down, and where that was the last one the object's block is on the front of the worklist.
     pub(crate) fn settle(&mut self, cell: u32)
         requires popped { bit_of (popped_seen self.old) cell ≡ 1 }
-        requires stage { MayGiveUp self.old }
+        requires active { IsActive self.old }
         requires unlocked { IsUnlocked self.old }
         ensures keeps { KeepsHandles self.old self.new }
         ensures deals { Deals self.old self.new cell }
         ensures popped { popped_seen self.new ≡ without_bit (popped_seen self.old) cell }
     {
         let answered = self.counter.settle(cell);
+        strike(&mut self.popped, cell);
+        if let Some(block) = answered {
+            self.works.push(block);
+        }
+    }
+
+    /// Deals with a popped entry once the thread has left: its object is merged, and the entry's reference is counted
+    /// down.
+    pub(crate) fn settle_left(&mut self, cell: u32)
+        requires popped { bit_of (popped_seen self.old) cell ≡ 1 }
+        requires left { is_left (part_seen self.old.heap.cells self.old.seat.log).row.stage ≡ true }
+        requires unlocked { IsUnlocked self.old }
+        ensures keeps { KeepsHandles self.old self.new }
+        ensures deals { Deals self.old self.new cell }
+        ensures popped { popped_seen self.new ≡ without_bit (popped_seen self.old) cell }
+    {
+        let answered = self.counter.settle_left(cell);
         strike(&mut self.popped, cell);
         if let Some(block) = answered {
             self.works.push(block);
@@ -133,7 +152,7 @@ impl<H: Home<A>, A: Allocator> Holdings<H, A> {
     /// Deals with each entry of one popped word.
     fn settle_word(&mut self, word: u32)
         requires inside { word < words_for self.old.heap.cells }
-        requires stage { MayGiveUp self.old }
+        requires active { IsActive self.old }
         requires unlocked { IsUnlocked self.old }
         ensures keeps { KeepsHandles self.old self.new }
         ensures dealt { DealsBits word (word_at (popped_seen self.old) word) self.old 32 self.new }
@@ -219,11 +238,11 @@ impl<H: Home<A>, A: Allocator> Holdings<H, A> {
         None
     }
 
-    /// Deals with the entry of a popped word's lowest bit, and answers its cell.
+    /// Deals with the entry of a popped word's lowest bit, once the thread has left, and answers its cell.
     pub(crate) fn settle_lowest(&mut self, word: u32) -> u32
         requires inside { word < words_for self.old.heap.cells }
         requires some { word_at (popped_seen self.old) word ≢ 0 }
-        requires stage { MayGiveUp self.old }
+        requires left { is_left (part_seen self.old.heap.cells self.old.seat.log).row.stage ≡ true }
         requires unlocked { IsUnlocked self.old }
         ensures keeps { KeepsHandles self.old self.new }
         ensures popped { bit_of (popped_seen self.old) result ≡ 1 }
@@ -232,7 +251,7 @@ impl<H: Home<A>, A: Allocator> Holdings<H, A> {
     {
         let bit = self.lowest_bit(word);
         let cell = word * 32 + bit;
-        self.settle(cell);
+        self.settle_left(cell);
         cell
     }
 

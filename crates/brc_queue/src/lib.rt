@@ -7,4 +7,4 @@
 
 mod queue;
 
-pub use queue::{Enqueued, close_word, drain_word, enqueue, merge_add, nudge, wake};
+pub use queue::{Enqueued, close_word, drain_word, enqueue, merge_add, nudge, offer, open_word, wake};

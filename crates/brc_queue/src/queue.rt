@@ -9,8 +9,10 @@ ghost use Rattle.law_rule.specs.declared.told.Told.TheVariants as told;
 ghost use Rattle.law_world.specs.Steps.{added_hand};
 ghost use Rattle.law_rule.specs.Noted.{newest_step};
 ghost use Rattle.law_rule.specs.Seen.{part_seen};
-ghost use Rattle.law_steps.specs.Owing.{AddsLocal, Allowed, Enqueues, Tells};
-ghost use Rattle.law_known.specs.Going_On.{handing, popping, closing};
+ghost use Rattle.law_world.specs.declared.row.Hand.TheVariants as hands;
+ghost use Rattle.law_world.specs.declared.row.Phase.TheVariants as phases;
+ghost use Rattle.law_steps.specs.Owing.{AddsLocal, Allowed, Closes, Enqueues, Offers, Tells};
+ghost use Rattle.law_known.specs.Going_On.{handing, popping, closing, reopening};
 ghost use Rattle.brc_table.specs.Knowing.{known_seen, Knows, Keeps};
 ghost use Rattle.brc_table.specs.Seated.{Stays};
 ghost use Rattle.brc_queue.specs.Queue.{PutIn, hand_left};
@@ -68,7 +70,7 @@ pub fn drain_word<A: Allocator>(table: &HeapTable<A>, seat: &mut ThreadSeat<A>, 
 pub fn close_word<A: Allocator>(table: &HeapTable<A>, seat: &mut ThreadSeat<A>, word: u32) -> u64
     requires table { seat.old.table ≡ table.now.table }
     requires inside { word < words_for table.now.cells }
-    requires allowed { Allowed table.now.cells seat.old.log (steps.Close word) }
+    requires closes { Closes table.now.cells seat.old.log word }
     ensures told { seat.new.log ≡ told.Did (steps.Close word) result moves.Nothing ∷ seat.old.log }
     ensures seat { Stays seat.old seat.new }
     ensures knows { Knows table.now.cells seat.new.log
@@ -76,6 +78,34 @@ pub fn close_word<A: Allocator>(table: &HeapTable<A>, seat: &mut ThreadSeat<A>, 
     ensures keeps { Keeps table.now.cells seat.old.log seat.new.log }
 {
     table.close(seat, word)
+}
+
+/// Opens one of the thread's own queue words again, empty.
+pub fn open_word<A: Allocator>(table: &HeapTable<A>, seat: &mut ThreadSeat<A>, word: u32)
+    requires table { seat.old.table ≡ table.now.table }
+    requires inside { word < words_for table.now.cells }
+    requires allowed { Allowed table.now.cells seat.old.log (steps.Reopen word) }
+    ensures told { seat.new.log ≡ told.Did (steps.Reopen word) 0 moves.Nothing ∷ seat.old.log }
+    ensures seat { Stays seat.old seat.new }
+    ensures knows { Knows table.now.cells seat.new.log
+        (reopening table.now.cells word (known_seen table.now.cells seat.old.log)) }
+    ensures keeps { Keeps table.now.cells seat.old.log seat.new.log }
+{
+    table.open_word(seat, word);
+}
+
+/// An own object will be handed over: it counts as asked for.
+pub fn offer<A: Allocator>(table: &HeapTable<A>, seat: &mut ThreadSeat<A>, cell: u32) -> u64
+    requires table { seat.old.table ≡ table.now.table }
+    requires inside { cell < table.now.cells }
+    requires offers { Offers table.now.cells seat.old.log cell }
+    ensures told { seat.new.log ≡ told.Did (steps.Offer cell) result moves.Nothing ∷ seat.old.log }
+    ensures seat { Stays seat.old seat.new }
+    ensures knows { Knows table.now.cells seat.new.log
+        (handing (hands.Busy phases.Offered cell) (known_seen table.now.cells seat.old.log)) }
+    ensures keeps { Keeps table.now.cells seat.old.log seat.new.log }
+{
+    table.offer(seat, cell)
 }
 
 /// The local count, as it was looked at, joins the shared one; answers the shared word that was found. Its item is told

@@ -1,21 +1,48 @@
--- As a thread retires it only lets go, so its log goes on, and nothing is born.
-use Rattle.std.proofs.Common.{◌≡◌, ℕ, List, refl, sym, ap, subst}
+-- As a thread retires its log goes on, and nothing is born: until it hands over it only lets go, and after that, too.
+use Rattle.std.proofs.Common.{◌≡◌, ℕ, List, ◌∷◌, Option, refl, sym, ap, subst, ◌∙◌}
 use Rattle.law_rule.specs.declared.told.Moved.TheVariants.{Nothing}
 use Rattle.law_rule.specs.declared.told.Told.{Told}
-use Rattle.law_rule.specs.declared.told.Told.TheVariants.{Did}
-use Rattle.law_world.specs.declared.event.Step.TheVariants.{Close}
+use Rattle.law_rule.specs.declared.told.Told.TheVariants.{Did, Saw}
+use Rattle.law_world.specs.declared.event.Step.TheVariants.{Close, Offer, Untie, MergeAdd}
 use Rattle.law_living.specs.Quiet.{Quietly, NoItem, OneMore}
+use Rattle.law_living.specs.Later.{IsLater}
+use Rattle.law_living.proofs.Earlier.{later_same, later_one, later_both, quietly_later}
 use Rattle.law_living.proofs.Quiet_Items.{quietly_joined}
+use Rattle.law_isolation.proofs.Quiet_Lives.{allocs_quietly}
+use Rattle.law_known.specs.declared.word.Field.TheVariants.{Local}
+use Rattle.law_known.specs.declared.word.Word.TheVariants.{Of}
+use Rattle.law_rule.specs.Seen.{part_seen}
+use Rattle.brc_block.specs.declared.payload.Payload.{Payload}
 use Rattle.brc_table.specs.Seated.{SeatSeen}
-use Rattle.brc_biased.proofs.Quiet.{settled_quietly}
+use Rattle.brc_biased.specs.Released.{HandsOver}
+use Rattle.brc_biased.proofs.Quiet.{ends_quietly, settled_quietly}
 use Rattle.brc_count.specs.Closing as closing
-use Rattle.brc_count.specs.Closing.{Closes, TurnedLeaving, TurnsLeaving}
+use Rattle.brc_count.specs.Closing.{Closes, HandsEach, GoesOut, TurnedLeaving, TurnsLeaving}
 use Rattle.brc_count.specs.Frames.{FrameSeen}
 use Rattle.brc_count.proofs.Quiet.{GoesQuietly, turned_quietly, turns_quietly, polled_quietly}
 use Rattle.brc_thread.specs.Retiring.{RetiresAs}
 use Rattle.brc_thread.specs.Settling as settling
 use Rattle.brc_thread.specs.Settling.{PollsAndWorks, Settles}
 use Rattle.brc_thread.specs.Threads.{RetiredSeen}
+
+pub record BearsNothing (before log : List Told) : Type 0 where
+  pub later : IsLater before log
+  pub allocs : (n : ℕ) → (part_seen n log).row.allocs ≡ (part_seen n before).row.allocs
+
+quietly_bears : (before log : List Told) → Quietly before log → BearsNothing before log
+quietly_bears before log quiet = record {
+  later = quietly_later before log quiet;
+  allocs = λ n. allocs_quietly n before log quiet;
+}
+
+bears_both : (before mid log : List Told) → BearsNothing before mid → BearsNothing mid log → BearsNothing before log
+bears_both before mid log first second = record {
+  later = later_both before mid log first.later second.later;
+  allocs = λ n. second.allocs n ∙ first.allocs n;
+}
+
+bears_same : (log : List Told) → BearsNothing log log
+bears_same log = record { later = later_same log; allocs = λ n. refl }
 
 closes_quietly : (before : List Told) (n : ℕ) (log : List Told) → Closes before n log → Quietly before log
 closes_quietly before _ _ closing.NoWord = NoItem
@@ -48,13 +75,42 @@ module _ {A : Type 0} where
       quietly_joined old.seat.log mid.seat.log new.seat.log (turns_leaving old n mid more)
       (turned_leaving mid new turned)
 
-  pub retired_quietly : (mutator : FrameSeen A) (retired : RetiredSeen A) → RetiresAs mutator retired
-      → Quietly mutator.seat.log retired.seat.log
-  retired_quietly mutator retired so =
+  -- an Offer ends what was private, so it isn't quiet; but it bears nothing
+  hands_over : (c : ℕ) (block : Option (ℕ × Payload A)) (before log : List Told) → HandsOver c block before log
+      → BearsNothing before log
+  hands_over c block before log hands =
+      let offered : List Told = Did (Offer c) hands.offered Nothing ∷ before in
+      let untied : List Told = Did (Untie c) 0 Nothing ∷ offered in
+      let seen : List Told = Saw (Of Local c) hands.local ∷ untied in
+      bears_both before offered log (record {
+        later = later_one (Did (Offer c) hands.offered Nothing) before before (later_same before);
+        allocs = λ n. refl;
+      })
+      (quietly_bears offered log
+      (quietly_joined offered untied log (OneMore (Did (Untie c) 0 Nothing) offered NoItem refl)
+      (quietly_joined untied seen log (OneMore (Saw (Of Local c) hands.local) untied NoItem refl)
+      (ends_quietly (MergeAdd c) c block seen log refl hands.ends))))
+
+  hands_each : (old : FrameSeen A) (c : ℕ) (new : FrameSeen A) → HandsEach old c new
+      → BearsNothing old.seat.log new.seat.log
+  hands_each old _ _ closing.NoneYet = bears_same old.seat.log
+  hands_each old _ new (closing.NotOwned c _ before none) = hands_each old c new before
+  hands_each old _ new (closing.Handed c mid _ before some one) =
+      bears_both old.seat.log mid.seat.log new.seat.log (hands_each old c mid before)
+      (hands_over c one.block mid.seat.log new.seat.log one.told)
+
+  goes_out : (old new : FrameSeen A) → GoesOut old new → BearsNothing old.seat.log new.seat.log
+  goes_out old new goes =
+      bears_both old.seat.log goes.mid.seat.log new.seat.log (hands_each old old.heap.cells goes.mid goes.hands)
+      (quietly_bears goes.mid.seat.log new.seat.log (closes_quietly goes.mid.seat.log _ new.seat.log goes.closes))
+
+  pub retired_bears : (mutator : FrameSeen A) (retired : RetiredSeen A) → RetiresAs mutator retired
+      → BearsNothing mutator.seat.log retired.seat.log
+  retired_bears mutator retired so =
       let done = so.finishes.done in
       let log : retired.seat.log ≡ done.seat.log = ap (λ (s : SeatSeen A). s.log) so.finishes.seat in
-      subst (Quietly mutator.seat.log) (sym log)
-      (quietly_joined mutator.seat.log so.settled.seat.log done.seat.log (settles_quietly mutator so.settled so.settles)
-      (quietly_joined so.settled.seat.log so.left.seat.log done.seat.log
-      (closes_quietly so.settled.seat.log _ so.left.seat.log so.closes)
-      (turns_leaving so.left so.finishes.turns done so.finishes.works)))
+      subst (BearsNothing mutator.seat.log) (sym log)
+      (bears_both mutator.seat.log so.settled.seat.log done.seat.log
+      (quietly_bears mutator.seat.log so.settled.seat.log (settles_quietly mutator so.settled so.settles))
+      (bears_both so.settled.seat.log so.left.seat.log done.seat.log (goes_out so.settled so.left so.goes)
+      (quietly_bears so.left.seat.log done.seat.log (turns_leaving so.left so.finishes.turns done so.finishes.works))))

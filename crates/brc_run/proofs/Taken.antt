@@ -1,11 +1,14 @@
 -- How many threads the root has registered, and whose lives it has taken in, after one more.
-use Rattle.std.proofs.Common.{◌≡◌, ◌+◌, ◌<◌, ◌++◌, ℕ, List, [], ◌∷◌, refl, sym, ◌∙◌, ap, arith}
-use Rattle.std.specs.Prelude.{sum_by}
+use Rattle.std.proofs.Common.{◌≡◌, ◌+◌, ◌<◌, ◌≤◌, ◌++◌, ℕ, Bool, false, true, List, [], ◌∷◌, length, inl, inr, refl, sym, ◌∙◌, ap, arith}
 use Rattle.std.proofs.lemmas.List.{append_assoc}
-use Rattle.std.proofs.lemmas.List.Sums.{sum_by-cons}
 use Rattle.brc_words.specs.declared.fault.Fault.{Fault}
 use Rattle.brc_words.specs.declared.fault.Fault.TheVariants as faults
-use Rattle.law_known.specs.Root.{rows_of}
+use Rattle.law_known.specs.Items.{Item}
+use Rattle.law_known.specs.Items as logged
+use Rattle.law_known.specs.Root.{marks_of, marks_on, registrations_of, registrations_on}
+use Rattle.law_world.specs.Steps.{first_gathered}
+use Rattle.std.proofs.lemmas.Bool.{cases_lt, lt-ltb, le-ltb}
+use Rattle.std.proofs.lemmas.List.{length-set, length-append}
 use Rattle.law_world.specs.declared.event.Step.TheVariants.{Register, Gather}
 use Rattle.law_rule.specs.declared.told.Told.{Told}
 use Rattle.law_rule.specs.declared.told.Told.TheVariants.{Did, Saw, Lost}
@@ -16,36 +19,55 @@ use Rattle.law_steps.specs.Joining.{next_thread, registering, gathering}
 use Rattle.brc_table.specs.Seated.{RootSeen, view_of}
 use Rattle.brc_count.specs.declared.ledger.Ledger.{Ledger}
 use Rattle.brc_count.specs.Frames.{FrameSeen}
-use Rattle.brc_thread.specs.Counting.{registers, registrations}
+use Rattle.brc_thread.specs.Counting.{registrations}
 use Rattle.brc_thread.specs.Retiring.{EndsThread}
 use Rattle.brc_thread.specs.Threads.{RefusesThread}
 use Rattle.brc_run.specs.Runs.{Life, TakesIn, TakesInOne}
 
--- the thread that is registered next has the number of registrations, and one
-rows_more : (x : Told) (log : List Told) → rows_of (log_items (x ∷ log)) ≡ rows_of (log_items log) + registers x
-rows_more (Did (Register u) number moved) log = refl
-rows_more (Did _ number moved) log = omega arith
-rows_more (Saw word number) log = omega arith
-rows_more (Lost word number) log = omega arith
+first_low : (xs : List Bool) → first_gathered xs ≤ length xs
+first_low [] = omega arith
+first_low (true ∷ xs) = omega arith
+first_low (false ∷ xs) = omega (arith, first_low xs)
 
-rows_counted : (log : List Told) → rows_of (log_items log) ≡ sum_by registers log + 1
-rows_counted [] = refl
-rows_counted (x ∷ log) = omega (arith, rows_more x log, rows_counted log, sum_by-cons registers x log)
+-- the next thread's number is at most that of registrations, and one
+marks_few : (items : List Item) → length (marks_of items) ≤ registrations_of items + 1
+marks_few [] = omega arith
+marks_few (x ∷ items) = by_item x (marks_few items)
+  where
+    by_item : (x : Item) → length (marks_of items) ≤ registrations_of items + 1
+        → length (marks_on x (marks_of items)) ≤ registrations_on x (registrations_of items) + 1
+    by_item (logged.Did (Register u) number entries) few = elim (cases_lt u (length (marks_of items))) [
+      | inl used ↦ rw (lt-ltb u (length (marks_of items)) used) (omega (
+        arith,
+        few,
+        length-set (marks_of items) u false,
+      ))
+      | inr new ↦ rw (le-ltb u (length (marks_of items)) new) (omega (
+        arith,
+        few,
+        length-append (marks_of items) (false ∷ []),
+      ))
+    ]
+    by_item (logged.Did (Gather u) number entries) few = omega (arith, few, length-set (marks_of items) u true)
+    by_item _ few = few
 
-pub next_is : (v : View) → next_thread v ≡ registrations v + 1
-next_is v = rows_counted v.log
+pub next_is : (v : View) → next_thread v ≤ registrations v + 1
+next_is v = omega (arith, first_low (marks_of (log_items v.log)), marks_few (log_items v.log))
 
 pub only_memory : (root : RootSeen) (fault : Fault) → registrations root.view < 64 → RefusesThread root fault
     → fault ≡ faults.OutOfMemory
-only_memory root faults.TooManyThreads few refuses = absurd (omega (arith, next_is root.view, few, refuses))
+only_memory root faults.TooManyThreads few refuses = absurd (elim refuses [
+  | inl many ↦ omega (arith, next_is root.view, few, many)
+  | inr all ↦ omega (arith, few, all)
+])
 only_memory root faults.OutOfMemory few refuses = refl
 only_memory root _ few refuses = absurd refuses
 
 registered : (v : View) → registrations (registering v) ≡ registrations v + 1
-registered v = omega (arith, sum_by-cons registers (Did (Register (next_thread v)) 0 moves.Nothing) v.log)
+registered v = refl
 
 not_registered : (v w : View) → registrations (gathering v w) ≡ registrations v
-not_registered v w = omega (arith, sum_by-cons registers (Did (Gather w.thread) 0 moves.Nothing) v.log)
+not_registered v w = refl
 
 pub takes_none : (root : RootSeen) → TakesIn root root 0 []
 takes_none root = record { same_table = refl; more_registered = omega arith; gathered = refl }

@@ -11,10 +11,9 @@ use Rattle.brc_script.specs.declared.script.Section.{Section}
 use Rattle.brc_script.specs.Scripts.{is_private}
 use Rattle.law_rule.specs.declared.told.Told.{Told}
 use Rattle.law_living.specs.Later.{IsLater}
-use Rattle.law_living.specs.Quiet.{Quietly}
-use Rattle.law_living.proofs.Earlier.{later_both, quietly_later}
-use Rattle.law_isolation.proofs.Quiet_Lives.{allocs_quietly}
+use Rattle.law_living.proofs.Earlier.{later_both}
 use Rattle.brc_table.specs.Seated.{TableSeen}
+use Rattle.brc_count.specs.declared.ledger.Ledger.{Ledger}
 use Rattle.brc_count.specs.Frames.{FrameSeen, ledger_seen}
 use Rattle.brc_meaning.specs.Sections.{meaning}
 use Rattle.brc_instructions.specs.Causes.{NoneWasFree}
@@ -24,20 +23,20 @@ use Rattle.brc_thread.specs.Retiring.{RetiresAs}
 use Rattle.brc_thread.specs.Threads.{RetiredSeen, ledger_of}
 use Rattle.brc_run.specs.declared.crew.Done.{Done}
 use Rattle.brc_run.specs.Runs.{Life, Tells, EachTells, EndsAs, IsDone, IsReady, InOrder, life_of}
-use Rattle.brc_run.proofs.Retired_Quietly.{retired_quietly}
+use Rattle.brc_run.proofs.Retired_Quietly.{retired_bears}
 
 -- every log is the empty one with its items after it
 from_nothing : (log : List Told) → IsLater [] log
 from_nothing log = record { items = log; is = sym (append-nil log) }
 
 -- a search that the log has once the thread has retired, too
-none_at_last : (n : ℕ) (old mid new : List Told) → Quietly mid new → NoneWasFree n old mid → NoneWasFree n [] new
-none_at_last n old mid new quiet none = record {
+none_at_last : (n : ℕ) (old mid new : List Told) → IsLater mid new → NoneWasFree n old mid → NoneWasFree n [] new
+none_at_last n old mid new later none = record {
   before = none.before;
   after = none.after;
   began = from_nothing none.before;
   searched = none.searched;
-  ended = later_both none.after mid new none.ended (quietly_later mid new quiet);
+  ended = later_both none.after mid new none.ended later;
 }
 
 module _ {A : Type 0} where
@@ -51,17 +50,17 @@ module _ {A : Type 0} where
       → MOST_BIRTHS ≤ (ledger_seen new).allocs)
       → Tells heap.cells section end (retired.seat.thread, retired.seat.log)
   tells heap section end old new retired ready same retires bore searched many =
-      let quiet = retired_quietly new retired retires in
+      let bears = retired_bears new retired retires in
       let counted : (ledger_of heap.cells retired.seat.log).allocs ≡ (ledger_seen new).allocs
-      = allocs_quietly heap.cells new.seat.log retired.seat.log quiet
+      = bears.allocs heap.cells
       ∙ ap (λ (h : TableSeen). (ledger_of h.cells new.seat.log).allocs) (sym (same ∙ ready.heap_is)) in record {
         births = λ private own.
             let none : (ledger_seen old).allocs ≡ 0
-            = ap (λ (log : List Told). (ledger_of old.heap.cells log).allocs) ready.nothing in
+            = ap (λ (l : Ledger). l.allocs) ready.nothing in
             counted ∙ bore private own ∙ omega (arith, none);
         heap_full = λ private line is.
             subst (λ (h : TableSeen). NoneWasFree h.cells [] retired.seat.log) ready.heap_is
-            (none_at_last old.heap.cells old.seat.log new.seat.log retired.seat.log quiet (searched private line is));
+            (none_at_last old.heap.cells old.seat.log new.seat.log retired.seat.log bears.later (searched private line is));
         ledger_full = λ private line is.
             subst (λ (births : ℕ). MOST_BIRTHS ≤ births) (sym counted) (many private line is);
       }

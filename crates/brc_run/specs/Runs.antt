@@ -16,7 +16,7 @@ use Rattle.law_rule.specs.declared.told.Told.{Told}
 use Rattle.law_rule.specs.declared.view.View.{View}
 use Rattle.law_rule.specs.Logs.{lives_of}
 use Rattle.brc_table.specs.Seated.{TableSeen, RootSeen}
-use Rattle.brc_count.specs.Frames.{FrameSeen}
+use Rattle.brc_count.specs.Frames.{FrameSeen, ledger_seen}
 use Rattle.brc_thread.specs.Counting.{registrations, gatherings}
 use Rattle.brc_thread.specs.Threads.{ledger_of}
 use Rattle.brc_close.specs.Closing.{Closes}
@@ -74,7 +74,7 @@ module _ {A : Type 0} where
   -- a thread at rest, of this heap, that has done nothing yet
   pub record IsReady (heap : TableSeen) (resting : FrameSeen A) : Type 0 where
     pub heap_is : resting.heap ≡ heap
-    pub nothing : resting.seat.log ≡ []
+    pub nothing : ledger_seen resting ≡ record { allocs = 0; frees = 0 }
 
   -- A section's thread came back from this heap, and its section, if it ran, ended so; of that its life tells.
   pub record IsDone (heap : TableSeen) (refuses : ℕ → ℕ → Type 0) (number : ℕ) (section : Section A)

@@ -5,3 +5,4 @@ pub mod Bounding
 pub mod Giving
 pub mod Showing
 pub mod Wakes_Own
+pub mod Numbering

@@ -15,7 +15,8 @@ use Rattle.atomic_table.specs.Table as tables
 use Rattle.brc_words.specs.declared.limits.TheConstants.{FIRST_MORTAL, IMMORTAL_LOCAL}
 use Rattle.law_world.specs.declared.cell.Cell.{Cell}
 use Rattle.law_world.specs.Lists.{word_at, one}
-use Rattle.law_world.specs.Heap.{opening, immortal, no_cell, cell_at, row_at, queue_at, is_registered, AreOptions}
+use Rattle.law_known.specs.Start.{start_of}
+use Rattle.law_world.specs.Heap.{immortal, no_cell, cell_at, row_at, queue_at, is_registered, AreOptions}
 use Rattle.law_world.specs.Steps.{is_closed, is_free}
 use Rattle.law_world.proofs.Beginning.{length-opening, free_cell, immortal_cell}
 use Rattle.law_world.proofs.Registering.{length-push, read_push}
@@ -91,7 +92,7 @@ past_free n at high =
 -- a cell's word is an immortal's, or a free cell's
 by_cell : (n limit : ℕ) (field : Field) (c number : ℕ) → FIRST_MORTAL ≤ n
     → (c < FIRST_MORTAL → number ≡ word_in field (immortal c)) → (FIRST_MORTAL ≤ c → number ≡ word_in field no_cell)
-    → number ≡ word_in field (cell_at (opening n limit) c)
+    → number ≡ word_in field (cell_at (start_of n limit) c)
 by_cell n limit field c number enough fixed mortal = elim (cases_lt c FIRST_MORTAL) [
   | inl low ↦ fixed low ∙ sym (ap (word_in field) (immortal_cell n c enough low))
   | inr high ↦ mortal high ∙ sym (ap (word_in field) (free_cell n c high))
@@ -108,14 +109,14 @@ right_false : (a b : Bool) → b ≡ false → (a && b) ≡ false
 right_false true b is = is
 right_false false b is = refl
 
-none_registered : (n limit t : ℕ) → is_registered (opening n limit) t ≡ false
+none_registered : (n limit t : ℕ) → is_registered (start_of n limit) t ≡ false
 none_registered n limit t = elim (cases_lt 0 t) [
   | inl low ↦ right_false (nat_lt 0 t) (nat_lt t 1) (le-ltb t 1 low)
   | inr high ↦ left_false (nat_lt 0 t) (nat_lt t 1) (le-ltb 0 t high)
 ]
 
 -- nobody has an immortal, and a free cell's owner word means nothing
-opens_owner : (n limit c : ℕ) → FIRST_MORTAL ≤ n → ShowsOwner 1 (cell_at (opening n limit) c).owner 0
+opens_owner : (n limit c : ℕ) → FIRST_MORTAL ≤ n → ShowsOwner 1 (cell_at (start_of n limit) c).owner 0
 opens_owner n limit c enough = elim (cases_lt c FIRST_MORTAL) [
   | inl low ↦ subst (λ (x : Cell). ShowsOwner 1 x.owner 0) (sym (immortal_cell n c enough low)) refl
   | inr high ↦ subst (λ (x : Cell). ShowsOwner 1 x.owner 0) (sym (free_cell n c high)) (omega arith)
@@ -123,28 +124,28 @@ opens_owner n limit c enough = elim (cases_lt c FIRST_MORTAL) [
 
 -- a bit of a free word is its cell's
 opens_bit : (n limit k i : ℕ) → FIRST_MORTAL ≤ n → i < 64
-    → bit_at (opening_free n k) i ≡ one (is_free_cell (opening n limit) (k * 64 + i))
+    → bit_at (opening_free n k) i ≡ one (is_free_cell (start_of n limit) (k * 64 + i))
 opens_bit n limit k i enough inside = elim (cases_lt (k * 64 + i) FIRST_MORTAL) [
   | inl low ↦ bit_at_mask_below (bits_below FIRST_MORTAL k) (bits_below n k) i (omega (arith, low, inside))
-      ∙ sym (ap one (ap (λ (x : Cell). nat_lt (k * 64 + i) (length (opening n limit).cells) && is_free x.owner)
+      ∙ sym (ap one (ap (λ (x : Cell). nat_lt (k * 64 + i) (length (start_of n limit).cells) && is_free x.owner)
       (immortal_cell n (k * 64 + i) enough low)
-      ∙ right_false (nat_lt (k * 64 + i) (length (opening n limit).cells)) false refl))
+      ∙ right_false (nat_lt (k * 64 + i) (length (start_of n limit).cells)) false refl))
   | inr high ↦ elim (cases_lt (k * 64 + i) n) [
     | inl low ↦ bit_at_mask_inside (bits_below FIRST_MORTAL k) (bits_below n k) i (omega (arith, high, inside))
         (omega (arith, low, inside))
         ∙ sym (ap one (both_true
-        (lt-ltb (k * 64 + i) (length (opening n limit).cells) (omega (arith, low, length-opening n)))
+        (lt-ltb (k * 64 + i) (length (start_of n limit).cells) (omega (arith, low, length-opening n)))
         (ap (λ (x : Cell). is_free x.owner) (free_cell n (k * 64 + i) high))))
     | inr past ↦ bit_at_mask_above (bits_below FIRST_MORTAL k) (bits_below n k) i (omega (arith, past, inside))
-        ∙ sym (ap one (left_false (nat_lt (k * 64 + i) (length (opening n limit).cells)) _
-        (le-ltb (k * 64 + i) (length (opening n limit).cells) (omega (arith, past, length-opening n)))))
+        ∙ sym (ap one (left_false (nat_lt (k * 64 + i) (length (start_of n limit).cells)) _
+        (le-ltb (k * 64 + i) (length (start_of n limit).cells) (omega (arith, past, length-opening n)))))
   ]
 ]
 
-opens_free : (n limit k : ℕ) → FIRST_MORTAL ≤ n → opening_free n k ≡ free_bits (opening n limit) k
+opens_free : (n limit k : ℕ) → FIRST_MORTAL ≤ n → opening_free n k ≡ free_bits (start_of n limit) k
 opens_free n limit k enough =
-    let f : ℕ → Bool = λ i. is_free_cell (opening n limit) (k * 64 + i) in
-    same_from_bits_below 64 (opening_free n k) (free_bits (opening n limit) k)
+    let f : ℕ → Bool = λ i. is_free_cell (start_of n limit) (k * 64 + i) in
+    same_from_bits_below 64 (opening_free n k) (free_bits (start_of n limit) k)
     (mask_small (bits_below FIRST_MORTAL k) (bits_below n k) (omega arith)) (told_below f 64)
     (λ i inside. opens_bit n limit k i enough inside ∙ sym (told_bit f 64 i inside))
   where
@@ -152,8 +153,8 @@ opens_free n limit k enough =
     mask_small lo hi few = let most : 2 ^ hi ≤ 2 ^ 64 = pow_mono few in omega (arith, most, pow_pos lo)
 
 opens_word : (n limit : ℕ) (w : Word) → FIRST_MORTAL ≤ n → IsWord n w
-    → Shows (opening n limit) w (opening_word n (spot n w))
-opens_word n limit (Of Owner c) enough is = subst (ShowsOwner 1 (cell_at (opening n limit) c).owner)
+    → Shows (start_of n limit) w (opening_word n (spot n w))
+opens_word n limit (Of Owner c) enough is = subst (ShowsOwner 1 (cell_at (start_of n limit) c).owner)
     (sym (among_owners n (spot n (Of Owner c)) c is (omega arith))) (opens_owner n limit c enough)
 opens_word n limit (FreeWord k) enough is = among_free n (spot n (FreeWord k)) k is (omega arith)
     ∙ opens_free n limit k enough
@@ -166,7 +167,7 @@ opens_word n limit (Of Shared c) enough is = among_counts n (spot n (Of Shared c
 opens_word n limit (Of Mutex c) enough is = among_counts n (spot n (Of Mutex c)) c 9 is (omega arith) refl
     ∙ by_cell n limit Mutex c 0 enough (λ low. refl) (λ high. refl)
 opens_word n limit (Queue t k) enough is =
-    subst (λ b. ShowsQueue b (is_closed (row_at (opening n limit) t).stage k) (word_at (queue_at (opening n limit) t) k)
+    subst (λ b. ShowsQueue b (is_closed (row_at (start_of n limit) t).stage k) (word_at (queue_at (start_of n limit) t) k)
     (opening_word n (spot n (Queue t k)))) (sym (none_registered n limit t))
     (past_free n (spot n (Queue t k)) (omega arith))
 opens_word n limit (NotifyWord t) enough is = past_free n (spot n (NotifyWord t)) (omega arith) ∙ sym (lone t)
@@ -249,7 +250,7 @@ module _ {A : Type 0} where
   opens_so n limit slots options made = record {
     wide = length-opening_words n (extent n);
     deep = deep_of n slots made;
-    each_word = λ w is. subst (Shows (opening n limit) w) (sym (read_word n (extent n) (spot n w) (inside n w is)))
+    each_word = λ w is. subst (Shows (start_of n limit) w) (sym (read_word n (extent n) (spot n w) (inside n w is)))
         (opens_word n limit w (omega (arith, options.enough)) is);
     immortals = λ c fixed.
         let low : c < n = omega (arith, fixed, options.enough) in

@@ -18,8 +18,8 @@ use Rattle.law_rule.specs.Rule.{with_told, Kept}
 use Rattle.law_rule.specs.Seen.{part_seen}
 use Rattle.law_world.specs.Lists.{is_blank, is_unmarked}
 use Rattle.law_world.specs.Steps.{is_left, is_free_hand}
-use Rattle.brc_words.specs.declared.limits.TheConstants.{MOST_CELLS, MOST_THREADS}
-use Rattle.law_steps.specs.Joining.{next_thread, registering, starting, gathering, spent, Leaves}
+use Rattle.brc_words.specs.declared.limits.TheConstants.{MOST_CELLS, MOST_THREADS, MOST_REGISTRATIONS}
+use Rattle.law_steps.specs.Joining.{next_thread, registrations, registering, starting, gathering, spent, Leaves}
 use Rattle.law_steps.proofs.Root_Steps.{splits, joins}
 use Rattle.brc_table.specs.declared.rule.Sizes.{Sizes}
 use Rattle.brc_table.specs.Machine.{exchanged, MayTell, MayFind, MayExchange}
@@ -92,9 +92,9 @@ module _ {B : Type 0} (shows : B → ℕ × Contents) where
 
   -- a thread's seat is split off, and one that has left is joined
   pub split_allowed : (cells most id : ℕ) (v : View) → v.active ≡ true → v.thread ≡ 0 → next_thread v ≤ MOST_THREADS
-      → Splits (Kept shows cells most) id v (registering v) (starting v)
-  split_allowed cells most id v active root few = splits shows cells most id v
-      (record { active = active; root = root; few = few })
+      → registrations v < MOST_REGISTRATIONS → Splits (Kept shows cells most) id v (registering v) (starting v)
+  split_allowed cells most id v active root few more = splits shows cells most id v
+      (record { active = active; root = root; few = few; more = more })
 
   pub join_allowed : (n cells most id : ℕ) (v : View) (other : ℕ) (w : View) → cells ≡ n → v.active ≡ true
       → v.thread ≡ 0 → Leaves n w → Joins (Kept shows cells most) id v other w (gathering v w) spent

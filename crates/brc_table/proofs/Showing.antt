@@ -2,7 +2,7 @@
 use Rattle.std.proofs.Common.{ℕ, Option, sym, ◌∙◌, ap}
 use Rattle.atomic_table.specs.Table.{State}
 use Rattle.brc_block.specs.declared.payload.Payload.{Payload}
-use Rattle.law_world.proofs.Reached.{run_histories}
+use Rattle.law_known.proofs.Starting.{run_histories}
 use Rattle.law_known.specs.Items.{events_of}
 use Rattle.law_known.proofs.Items_Runs.{events_run}
 use Rattle.law_rule.specs.declared.view.View.{View}
@@ -10,7 +10,7 @@ use Rattle.law_rule.specs.Logs.{items_of}
 use Rattle.law_rule.specs.Rule.{Kept}
 use Rattle.law_rule.proofs.Knowing.{kept_reached, kept_headline}
 use Rattle.law_rule.proofs.Once.{root_once}
-use Rattle.law_world.specs.Heap.{opening}
+use Rattle.law_known.specs.Start.{start_of}
 use Rattle.brc_table.specs.Moment.{ShowsOneRun}
 use Rattle.brc_table.specs.Shown.{shows}
 
@@ -23,7 +23,7 @@ module _ {A : Type 0} where
     reached = kept_reached shows n limit s kept;
     headline = kept_headline shows n limit s kept;
     histories = run_histories n limit (events_of (items_of kept.run)) kept.options
-        (events_run (opening n limit) (items_of kept.run) kept.legal.items);
+        (events_run (start_of n limit) (items_of kept.run) kept.legal.items);
     words = kept.each_word;
     homes = kept.each_home;
     seats = λ t stood. (kept.seat t, kept.each_thread t stood);

@@ -6,3 +6,4 @@ pub mod Moving
 pub mod Knowing
 pub mod Rest
 pub mod Moment
+pub mod Numbers

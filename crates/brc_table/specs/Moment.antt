@@ -4,8 +4,9 @@ use mathlib.Core.Option.{some}
 use lib.ListN.{get_elem?}
 use Rattle.atomic_table.specs.Table.{State}
 use Rattle.brc_block.specs.declared.payload.Payload.{Payload}
-use Rattle.law_world.specs.Heap.{opening}
-use Rattle.law_world.specs.Holding.{Headline, Histories}
+use Rattle.law_known.specs.Start.{start_of}
+use Rattle.law_world.specs.Holding.{Headline}
+use Rattle.law_world.specs.Since.{HistoriesSince}
 use Rattle.law_world.specs.Runs.{IsReached}
 use Rattle.law_known.specs.declared.word.Word.{Word}
 use Rattle.law_known.specs.Items.{IsWord, Shows, events_of}
@@ -27,7 +28,7 @@ module _ {A : Type 0} where
     pub legal : IsLegal n limit run
     pub reached : IsReached (world n limit run)
     pub headline : Headline (world n limit run)
-    pub histories : Histories (opening n limit) (events_of (items_of run))
+    pub histories : HistoriesSince (start_of n limit) (events_of (items_of run))
     pub words : (w : Word) → IsWord n w → Shows (world n limit run) w (slice_index s.words (spot n w))
     pub homes : (c : ℕ) → c < n → HomeShown shows s.homes (world n limit run) run c
     pub seats : (t : ℕ) → stands (world n limit run) t ≡ true → (j : ℕ) × Seated s.views t j

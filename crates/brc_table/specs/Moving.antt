@@ -79,6 +79,11 @@ module _ {A : Type 0} where
     MayEnd c f m s d = Allows (Kept shows n limit) n id me (spot n (Of Shared c)) f
         (λ there after. Ended shows m me.0 me.1 s d there (takes_block s (cell_told s there)) after)
 
+    -- the same of a step that is told another number than the one found
+    abbrev pub MayEndAt : ℕ → (ℕ → ℕ) → (ℕ → ℕ) → ℕ → Step → ℕ → Type 0
+    MayEndAt c f told m s d = Allows (Kept shows n limit) n id me (spot n (Of Shared c)) f
+        (λ there after. Ended shows m me.0 me.1 s d (told there) (takes_block s (cell_told s (told there))) after)
+
     -- the cell's free word keeps the bits of the mask, and where it had the cell's bit the seat has its slot
     abbrev pub MayClaim : ℕ → ℕ → ℕ → ℕ → Type 0
     MayClaim c mask m d = Allows (Kept shows n limit) n id me (spot n (FreeWord (c / 64))) (λ there. bit_and there mask)

@@ -11,7 +11,7 @@ ghost use Rattle.law_known.specs.Items.{cell_told};
 ghost use Rattle.law_known.specs.Taken.{listed_at};
 ghost use Rattle.law_rule.specs.declared.told.Told.TheVariants as told;
 ghost use Rattle.law_rule.specs.Seen.{taken_seen};
-ghost use Rattle.law_steps.specs.Owing.{Carries, EndsRisen, EndsPopped, EndsAdded, EndsHeld, EndsNobodys};
+ghost use Rattle.law_steps.specs.Owing.{Carries, EndsRisen, EndsPopped, EndsAdded, EndsLeft, EndsShut, EndsNobodys};
 ghost use Rattle.law_steps.specs.Taking.{AreCells};
 ghost use Rattle.brc_table.specs.Knowing.{known_seen, entries_of, Knows, Keeps};
 ghost use Rattle.brc_table.specs.Moving.{is_there, found_in, out_with};
@@ -144,12 +144,36 @@ impl<A: Allocator> HeapTable<A> {
         end_by_sub(self, &mut seat.place, cell, 4, step)
     }
 
-    #[tactic(auto, using(law_steps::proofs::Last_Steps::ends_held))]
-    /// LastDown of the reference in the hand, of an object that the thread has adopted.
-    pub fn last_held(&self, seat: &mut ThreadSeat<A>, cell: u32) -> Found<A>
+    #[tactic(auto, using(law_steps::proofs::Last_Steps::ends_left))]
+    /// LastDown of a popped entry, once the thread isn't active any more.
+    pub fn last_left(&self, seat: &mut ThreadSeat<A>, cell: u32) -> Found<A>
         requires table { seat.old.table ≡ self.now.table }
         requires inside { cell < self.now.cells }
-        requires ends { EndsHeld self.now.cells seat.old.log cell }
+        requires ends { EndsLeft self.now.cells seat.old.log cell }
+        ensures of_cell { IfSome result.block (λ block. block.0 ≡ cell) }
+        ensures fresh { IfSome result.block (λ block. listed_at (taken_seen self.now.cells seat.old.log) cell ≡ None) }
+        ensures entries { AreCells self.now.cells (entries_of result.block) }
+        ensures dead { is_there result.block ≡ takes_block (steps.LastDown (lasts.Popped cell))
+            (cell_told (steps.LastDown (lasts.Popped cell)) result.number) }
+        ensures told { seat.new.log ≡ told.Did (steps.LastDown (lasts.Popped cell)) result.number
+            (found_in cell result.block) ∷ seat.old.log }
+        ensures out { seat.new.slots ≡ out_with cell result.block seat.old.slots }
+        ensures seat { Continues seat.old seat.new }
+        ensures knows { Knows self.now.cells seat.new.log
+            (settling cell (taking (is_there result.block) cell (entries_of result.block)
+            (known_seen self.now.cells seat.old.log))) }
+        ensures keeps { Keeps self.now.cells seat.old.log seat.new.log }
+    {
+        let step = Step::LastDown(LastDropped::Popped(cell));
+        end_by_sub(self, &mut seat.place, cell, 4, step)
+    }
+
+    #[tactic(auto, using(law_steps::proofs::Last_Steps::ends_shut))]
+    /// LastDown of the reference in the hand, which met a closed queue word: the object is nobody's.
+    pub fn last_shut(&self, seat: &mut ThreadSeat<A>, cell: u32) -> Found<A>
+        requires table { seat.old.table ≡ self.now.table }
+        requires inside { cell < self.now.cells }
+        requires ends { EndsShut self.now.cells seat.old.log cell }
         ensures of_cell { IfSome result.block (λ block. block.0 ≡ cell) }
         ensures fresh { IfSome result.block (λ block. listed_at (taken_seen self.now.cells seat.old.log) cell ≡ None) }
         ensures entries { AreCells self.now.cells (entries_of result.block) }

@@ -1,24 +1,29 @@
 //! Merging: an object is made nobody's, and its local count joins the shared one; who has asked for it puts it into a
 //! queue.
 
-ghost use Rattle.std.specs.Prelude.{◌≡◌, ◌<◌, ◌≤◌, ◌∷◌, ◌+◌, ◌*◌, ◌%◌, ◌^◌, if◌then◌else◌, Some};
+ghost use Rattle.std.specs.Prelude.{◌≡◌, ◌<◌, ◌≤◌, ◌∷◌, ◌+◌, ◌*◌, ◌%◌, ◌^◌, if◌then◌else◌, Some, None, IfSome};
 ghost use Rattle.brc_words.specs.declared.limits.TheConstants.{MOST_THREADS};
 ghost use Rattle.law_world.specs.declared.event.Step.TheVariants as steps;
 ghost use Rattle.law_world.specs.declared.row.Hand.TheVariants as hands;
 ghost use Rattle.law_world.specs.declared.row.Phase.TheVariants as phases;
-ghost use Rattle.law_world.specs.Steps.{added_hand};
 ghost use Rattle.law_known.specs.Items.{is_shut_word};
-ghost use Rattle.law_known.specs.Going_On.{handing, counting};
+ghost use Rattle.law_known.specs.Going_On.{handing, counting, taking};
 ghost use Rattle.law_rule.specs.declared.told.Moved.TheVariants as moves;
 ghost use Rattle.law_rule.specs.declared.told.Told.TheVariants as told;
-ghost use Rattle.law_steps.specs.Owing.{UntiesOver, UntiesShut, UntiesPopped, AddsLocal, Enqueues};
+ghost use Rattle.law_steps.specs.Owing.{UntiesOver, UntiesOffered, UntiesPopped, Offers, AddsLocal, Yields, Enqueues};
+ghost use Rattle.law_steps.specs.Taking.{AreCells};
+ghost use Rattle.law_world.specs.Steps.{takes_block, added_hand};
+ghost use Rattle.law_known.specs.Items.{cell_told};
+ghost use Rattle.law_known.specs.Taken.{listed_at};
+ghost use Rattle.law_rule.specs.Seen.{part_seen, taken_seen};
+ghost use Rattle.brc_table.specs.Moving.{is_there, found_in, out_with};
 ghost use Rattle.law_rule.specs.Noted.{newest_step};
-ghost use Rattle.law_rule.specs.Seen.{part_seen};
-ghost use Rattle.brc_table.specs.Knowing.{known_seen, Knows, Keeps};
-ghost use Rattle.brc_table.specs.Seated.{Stays};
+ghost use Rattle.brc_table.specs.Knowing.{known_seen, entries_of, Knows, Keeps};
+ghost use Rattle.brc_table.specs.Seated.{Stays, Continues};
 
 use crate::layout::bit;
 use crate::machine::{add_up, or, store};
+use crate::moving::{Found, end_by_add};
 use crate::seats::ThreadSeat;
 use crate::table::HeapTable;
 use law_known::{Field, Word};
@@ -43,18 +48,34 @@ impl<A: Allocator> HeapTable<A> {
         store(self, &mut seat.place, word, 0, Step::Untie(cell));
     }
 
-    /// Untie of an object whose owner has left, as it was found.
-    pub fn untie_shut(&self, seat: &mut ThreadSeat<A>, cell: u32, owner: u64)
+    #[tactic(auto, using(law_steps::proofs::Offering_Steps::offers_own))]
+    /// Offer: an own object that the thread counts will be handed over, and counts as asked for.
+    pub fn offer(&self, seat: &mut ThreadSeat<A>, cell: u32) -> u64
         requires table { seat.old.table ≡ self.now.table }
         requires inside { cell < self.now.cells }
-        requires unties { UntiesShut self.now.cells seat.old.log cell owner }
+        requires offers { Offers self.now.cells seat.old.log cell }
+        ensures told { seat.new.log ≡ told.Did (steps.Offer cell) result moves.Nothing ∷ seat.old.log }
+        ensures seat { Stays seat.old seat.new }
+        ensures knows { Knows self.now.cells seat.new.log
+            (handing (hands.Busy phases.Offered cell) (known_seen self.now.cells seat.old.log)) }
+        ensures keeps { Keeps self.now.cells seat.old.log seat.new.log }
+    {
+        let word = Word::Of(Field::Shared, cell);
+        or(self, &mut seat.place, word, 2, Step::Offer(cell))
+    }
+
+    #[tactic(auto, using(law_steps::proofs::Untying_Steps::unties_offered))]
+    /// Untie of an own object that the thread has offered.
+    pub fn untie_offered(&self, seat: &mut ThreadSeat<A>, cell: u32)
+        requires table { seat.old.table ≡ self.now.table }
+        requires inside { cell < self.now.cells }
+        requires unties { UntiesOffered self.now.cells seat.old.log cell }
         ensures told { seat.new.log ≡ told.Did (steps.Untie cell) 0 moves.Nothing ∷ seat.old.log }
         ensures seat { Stays seat.old seat.new }
         ensures knows { Knows self.now.cells seat.new.log
-            (handing (hands.Busy phases.Taking cell) (counting cell 0 (known_seen self.now.cells seat.old.log))) }
+            (handing (hands.Busy phases.Yielding cell) (counting cell 0 (known_seen self.now.cells seat.old.log))) }
         ensures keeps { Keeps self.now.cells seat.old.log seat.new.log }
     {
-        let _owner = owner;
         let word = Word::Of(Field::Owner, cell);
         store(self, &mut seat.place, word, 0, Step::Untie(cell));
     }
@@ -93,6 +114,30 @@ impl<A: Allocator> HeapTable<A> {
         let word = Word::Of(Field::Shared, cell);
         let more = u64::from(local) * 4 + 1;
         add_up::<A, Brand>(self, &mut seat.place, word, more, Step::MergeAdd(cell))
+    }
+
+    /// MergeAdd of an object that is handed over. The answer has the sum, which the item is told, and the block where
+    /// the object is dead.
+    pub fn merge_yielding(&self, seat: &mut ThreadSeat<A>, cell: u32, local: u32) -> Found<A>
+        requires table { seat.old.table ≡ self.now.table }
+        requires inside { cell < self.now.cells }
+        requires yields { Yields self.now.cells seat.old.log cell local }
+        ensures of_cell { IfSome result.block (λ block. block.0 ≡ cell) }
+        ensures fresh { IfSome result.block (λ block. listed_at (taken_seen self.now.cells seat.old.log) cell ≡ None) }
+        ensures entries { AreCells self.now.cells (entries_of result.block) }
+        ensures dead { is_there result.block ≡ takes_block (steps.MergeAdd cell)
+            (cell_told (steps.MergeAdd cell) result.number) }
+        ensures told { seat.new.log ≡ told.Did (steps.MergeAdd cell) result.number (found_in cell result.block)
+            ∷ seat.old.log }
+        ensures out { seat.new.slots ≡ out_with cell result.block seat.old.slots }
+        ensures seat { Continues seat.old seat.new }
+        ensures knows { Knows self.now.cells seat.new.log
+            (handing hands.Free (taking (is_there result.block) cell (entries_of result.block)
+            (known_seen self.now.cells seat.old.log))) }
+        ensures keeps { Keeps self.now.cells seat.old.log seat.new.log }
+    {
+        let added = u64::from(local) * 4 + 1;
+        end_by_add(self, &mut seat.place, cell, added, Step::MergeAdd(cell))
     }
 
     #[tactic(auto, using(crate::proofs::Placing::queue_inside))]

@@ -20,7 +20,7 @@ ghost use Rattle.law_rule.specs.Rule.{with_told, Kept};
 ghost use Rattle.law_rule.specs.Seen.{taken_seen};
 ghost use Rattle.law_steps.specs.Taking.{AreCells, Ended, Claimed, Locked};
 ghost use Rattle.brc_table.specs.Knowing.{entries_of};
-ghost use Rattle.brc_table.specs.Moving.{MayEnd, MayClaim, MayLock, MayGive, MayGiveOfFew, MayGiveBy, MayGiveByOfFew};
+ghost use Rattle.brc_table.specs.Moving.{MayEnd, MayEndAt, MayClaim, MayLock, MayGive, MayGiveOfFew, MayGiveBy, MayGiveByOfFew};
 ghost use Rattle.brc_table.specs.Moving.{FewFrees, found_in, out_with, emptied, put_home, is_there, HasBlock};
 ghost use Rattle.brc_table.specs.Shown.{shows, contents_of};
 
@@ -133,6 +133,59 @@ fn sub_ends<A: Allocator, M: Ending>(
     let _step = step;
     let at = spot_of(table.cells, Word::Of(Field::Shared, cell));
     table.table.shared.fetch_sub::<Ends<M>>(seat, at, less)
+}
+
+/// By how much the word was raised, too. A caller's proof picks it.
+pub(crate) trait Summing {
+    ghost cells: { ℕ };
+
+    ghost step: { step_data };
+
+    ghost cell: { ℕ };
+
+    ghost more: { ℕ };
+}
+
+impl Summing for Brand {
+    ghost cells = { 0 };
+
+    ghost step = { steps.Wake };
+
+    ghost cell = { 0 };
+
+    ghost more = { 0 };
+}
+
+/// The seat's log has the step, which is told the sum, and where the object is dead the seat has its block.
+pub(crate) struct SumEnds<M> {
+    marker: PhantomData<M>,
+}
+
+impl<A: Allocator, M: Summing> Play<Option<Block<A>>, View> for SumEnds<M> {
+    ghost then = { λ step me number after. Ended shows M.cells me.0 me.1 M.step M.cell ((number + M.more) % 2 ^ 64)
+        (takes_block M.step (cell_told M.step ((number + M.more) % 2 ^ 64))) after };
+}
+
+/// An addition.
+#[inline(always)]
+fn add_ends<A: Allocator, M: Summing>(
+    table: &HeapTable<A>,
+    seat: &mut Place<A>,
+    cell: u32,
+    more: u64,
+    step: Step,
+) -> u64
+    requires same { seat.old.table_id ≡ table.now.table }
+    requires inside { cell < table.now.cells }
+    requires allowed { MayEndAt table.now.cells table.now.local_limit seat.old.id seat.old.me cell
+        (λ there. (there + more) % 2 ^ 64) (λ there. (there + M.more) % 2 ^ 64) M.cells M.step M.cell }
+    ensures same { (seat.new.table_id ≡ seat.old.table_id) × (seat.new.id ≡ seat.old.id) }
+    ensures ended { Ended shows M.cells seat.old.me.0 seat.old.me.1 M.step M.cell ((result + M.more) % 2 ^ 64)
+        (takes_block M.step (cell_told M.step ((result + M.more) % 2 ^ 64))) seat.new.me }
+{
+    let _step = step;
+    let at = spot_of(table.cells, Word::Of(Field::Shared, cell));
+    table.table.shared.fetch_add::<SumEnds<M>>(seat, at, more)
 }
 
 /// Whether the object is dead, by the number that the step found.
@@ -250,6 +303,35 @@ pub(crate) fn end_by_sub<A: Allocator>(
     ) }
 {
     let number = sub_ends::<A, Brand>(table, seat, cell, less, step);
+    let block = take_if(table, seat, cell, step, number);
+    Found { number, block }
+}
+
+/// A step that adds to it, and is told the sum.
+pub(crate) fn end_by_add<A: Allocator>(
+    table: &HeapTable<A>,
+    seat: &mut Place<A>,
+    cell: u32,
+    more: u64,
+    step: Step,
+) -> Found<A>
+    requires same { seat.old.table_id ≡ table.now.table }
+    requires inside { cell < table.now.cells }
+    requires allowed { MayEndAt table.now.cells table.now.local_limit seat.old.id seat.old.me cell
+        (λ there. (there + more) % 2 ^ 64) (λ there. (there + more) % 2 ^ 64) table.now.cells step cell }
+    ensures same { (seat.new.table_id ≡ seat.old.table_id) × (seat.new.id ≡ seat.old.id) }
+    ensures of_cell { IfSome result.block (λ block. block.0 ≡ cell) }
+    ensures fresh { IfSome result.block
+        (λ block. listed_at (taken_seen table.now.cells seat.old.me.0.log) cell ≡ None) }
+    ensures entries { AreCells table.now.cells (entries_of result.block) }
+    ensures when { is_there result.block ≡ takes_block step (cell_told step result.number) }
+    ensures told { seat.new.me ≡ (
+      with_told (told.Did step result.number (found_in cell result.block)) seat.old.me.0,
+      out_with cell result.block seat.old.me.1,
+    ) }
+{
+    let there = add_ends::<A, Brand>(table, seat, cell, more, step);
+    let number = there.wrapping_add(more);
     let block = take_if(table, seat, cell, step, number);
     Found { number, block }
 }

@@ -3,10 +3,10 @@
 ghost use Rattle.std.specs.Prelude.{◌≡◌, ◌<◌, ◌≤◌, ◌∷◌};
 ghost use Rattle.law_world.specs.Heap.{words_for};
 ghost use Rattle.law_world.specs.declared.event.Step.TheVariants as steps;
-ghost use Rattle.law_known.specs.Going_On.{popping, closing};
+ghost use Rattle.law_known.specs.Going_On.{popping, closing, reopening};
 ghost use Rattle.law_rule.specs.declared.told.Moved.TheVariants as moves;
 ghost use Rattle.law_rule.specs.declared.told.Told.TheVariants as told;
-ghost use Rattle.law_steps.specs.Owing.{Allowed, Tells};
+ghost use Rattle.law_steps.specs.Owing.{Allowed, Closes, Tells};
 ghost use Rattle.law_steps.specs.Taking.{AreQueued};
 ghost use Rattle.law_living.specs.Living.{OwnLog};
 ghost use Rattle.brc_table.specs.Knowing.{known_seen, Knows, Keeps};
@@ -14,7 +14,7 @@ ghost use Rattle.brc_table.specs.Seated.{Stays};
 
 use crate::draining::{take_and_close, take_bits};
 use crate::layout::bit;
-use crate::machine::or;
+use crate::machine::{or, store};
 use crate::seats::ThreadSeat;
 use crate::table::HeapTable;
 use crate::waking::take_told;
@@ -46,7 +46,7 @@ impl<A: Allocator> HeapTable<A> {
     pub fn close(&self, seat: &mut ThreadSeat<A>, word: u32) -> u64
         requires table { seat.old.table ≡ self.now.table }
         requires inside { word < words_for self.now.cells }
-        requires allowed { Allowed self.now.cells seat.old.log (steps.Close word) }
+        requires closes { Closes self.now.cells seat.old.log word }
         ensures told { seat.new.log ≡ told.Did (steps.Close word) result moves.Nothing ∷ seat.old.log }
         ensures seat { Stays seat.old seat.new }
         ensures knows { Knows self.now.cells seat.new.log
@@ -56,6 +56,22 @@ impl<A: Allocator> HeapTable<A> {
     {
         let at = Word::Queue(seat.thread, word);
         take_and_close::<A, Brand>(self, &mut seat.place, at, Step::Close(word))
+    }
+
+    #[tactic(auto, using(crate::proofs::Placing::own_queue_inside))]
+    /// Reopen: one of the queue words of a number that is used again is open, and empty.
+    pub fn open_word(&self, seat: &mut ThreadSeat<A>, word: u32)
+        requires table { seat.old.table ≡ self.now.table }
+        requires inside { word < words_for self.now.cells }
+        requires allowed { Allowed self.now.cells seat.old.log (steps.Reopen word) }
+        ensures told { seat.new.log ≡ told.Did (steps.Reopen word) 0 moves.Nothing ∷ seat.old.log }
+        ensures seat { Stays seat.old seat.new }
+        ensures knows { Knows self.now.cells seat.new.log
+            (reopening self.now.cells word (known_seen self.now.cells seat.old.log)) }
+        ensures keeps { Keeps self.now.cells seat.old.log seat.new.log }
+    {
+        let at = Word::Queue(seat.thread, word);
+        store(self, &mut seat.place, at, 0, Step::Reopen(word));
     }
 
     /// Nudge: a thread is told that this one of its queue words has something, or a word beside it.

@@ -65,7 +65,11 @@ impl<A: Allocator> HeapTable<A> {
             cells: _cells,
             local_limit: _limit,
         } = self;
-        let RootSeat { place, next: _next } = root;
+        let RootSeat {
+            place,
+            free: _free,
+            rows: _rows,
+        } = root;
         let closed = table.close_with(place);
         Rest { closed, at: 0 }
     }

@@ -36,7 +36,7 @@ impl<A: Allocator> Model for HeapTable<A> {
 }
 
 impl<A: Allocator + Copy> HeapTable<A> {
-    #[tactic(auto, using(crate::proofs::Opened::opened, crate::proofs::Opened::wide_of, crate::proofs::Opened::deep_of))]
+    #[tactic(auto, using(crate::proofs::Opened::opened, crate::proofs::Opened::wide_of, crate::proofs::Opened::deep_of, crate::proofs::Numbering::none_taken))]
     /// A table of so many cells, which opens with the immortals, and the root's seat.
     pub fn new(alloc: A, cells: u32, local_limit: u32) -> Result<(HeapTable<A>, RootSeat<A>), Fault>
         ensures sizes { IfOk result (λ made. (made.0.cells ≡ cells) × (made.0.local_limit ≡ local_limit)) }
@@ -60,7 +60,11 @@ impl<A: Allocator + Copy> HeapTable<A> {
                     cells,
                     local_limit,
                 },
-                RootSeat { place, next: 1 },
+                RootSeat {
+                    place,
+                    free: u64::MAX,
+                    rows: 1,
+                },
             )),
             Err(refused) => {
                 let Refused { slots } = refused;

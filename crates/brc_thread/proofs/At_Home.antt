@@ -13,7 +13,6 @@ use Rattle.brc_words.specs.declared.limits.TheConstants.{FIRST_MORTAL}
 use Rattle.brc_words.specs.declared.owner.Owner.{Owner}
 use Rattle.brc_words.specs.declared.owner.Owner.TheVariants as owners
 use Rattle.brc_words.specs.declared.state.State.{State}
-use Rattle.law_world.specs.declared.edition.Edition.TheVariants as editions
 use Rattle.law_world.specs.declared.event.Event.{Event}
 use Rattle.law_world.specs.declared.event.Step.{Step}
 use Rattle.law_world.specs.declared.event.Step.TheVariants.{Register, Gather}
@@ -21,7 +20,7 @@ use Rattle.law_world.specs.declared.row.Row.{Row}
 use Rattle.law_world.specs.declared.row.Hand.{Hand}
 use Rattle.law_world.specs.declared.row.Hand.TheVariants as hands
 use Rattle.law_world.specs.Lists.{one, is_marked, place_at, bit_of}
-use Rattle.law_world.specs.Heap.{Heap, opening, cell_at, row_at, worklist_at, frame_at, popped_at, queue_at}
+use Rattle.law_world.specs.Heap.{Heap, cell_at, row_at, worklist_at, frame_at, popped_at, queue_at}
 use Rattle.law_world.specs.Heap.{is_immortal, is_registered, no_row, new_row, again_row, AreOptions}
 use Rattle.law_world.specs.Steps.{is_active, after_target, root_after, root_may, thread_may, target_at}
 use Rattle.law_world.specs.Holding.{lives, lives_at}
@@ -29,11 +28,13 @@ use Rattle.law_world.specs.Runs.{IsRun, IsReached, world_after}
 use Rattle.law_world.specs.Sound.{IsSound, grips, gripped, grips_by_owner}
 use Rattle.law_world.proofs.Asking.{may_parts}
 use Rattle.law_world.proofs.Changes.{read_there}
-use Rattle.law_world.proofs.Reached.{run_sound, reached_sound}
+use Rattle.law_world.proofs.Reached.{reached_sound}
+use Rattle.law_known.specs.Start.{start_of}
+use Rattle.law_known.proofs.Starting.{run_sound, run_reached}
 use Rattle.law_world.proofs.Registering.{push_else}
 use Rattle.law_world.proofs.Reusing.{fresh, reused, registers}
 use Rattle.law_lasting.proofs.Lasting.{others_own}
-use Rattle.law_lasting.proofs.Standing.{run_reached, gathered_hold_nothing}
+use Rattle.law_lasting.proofs.Standing.{gathered_hold_nothing}
 use Rattle.law_known.specs.Items.{events_of}
 use Rattle.law_known.proofs.Items_Runs.{events_run}
 use Rattle.law_known.proofs.Items_Tells.{no_start}
@@ -73,13 +74,13 @@ after_root h (Register u) sound may rests = elim (registers h u sound may) [
 after_root h (Gather u) sound may rests = record { row = rests.row; worklist = rests.worklist }
 after_root h _ sound may rests = rests
 
-pub root_rests : (n limit : ℕ) (run : List Event) → AreOptions n limit → IsRun (opening n limit) run
-    → RootRests (world_after (opening n limit) run)
+pub root_rests : (n limit : ℕ) (run : List Event) → AreOptions n limit → IsRun (start_of n limit) run
+    → RootRests (world_after (start_of n limit) run)
 root_rests n limit [] options is_run = record { row = refl; worklist = refl }
 root_rests n limit (e ∷ run) options is_run =
-    let h : Heap = world_after (opening n limit) run in
+    let h : Heap = world_after (start_of n limit) run in
     let moved : Heap = after_target h e.thread e.step (target_at h e.thread e.step) in
-    let sound : IsSound h = run_sound editions.One n limit run options is_run.0 in
+    let sound : IsSound h = run_sound n limit run options is_run.0 in
     let before : RootRests h = root_rests n limit run options is_run.0 in
     elim (cases_Bool (e.thread == 0)) [
       | inl root ↦ subst (λ b. RootRests (if b then root_after h e.step else moved)) (sym root)
@@ -246,7 +247,7 @@ module _ {A : Type 0} where
       let run = remains.kept.run in
       let h : Heap = world n limit run in
       let options = remains.kept.options in
-      let is_run = events_run (opening n limit) (items_of run) remains.kept.legal.items in
+      let is_run = events_run (start_of n limit) (items_of run) remains.kept.legal.items in
       let reached : IsReached h = run_reached n limit (events_of (items_of run)) options is_run in
       let sound : IsSound h = reached_sound h reached in
       let idle : (t : ℕ) → IsIdle h t = λ t. all_idle h t reached

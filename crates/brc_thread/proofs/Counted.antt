@@ -19,7 +19,7 @@ use Rattle.law_steps.specs.Joining.{next_thread, registering, gathering}
 use Rattle.law_rule.specs.declared.told.Moved.TheVariants.{Nothing}
 use Rattle.brc_count.specs.declared.ledger.Ledger.{Ledger}
 use Rattle.brc_thread.specs.Threads.{ledger_of}
-use Rattle.brc_thread.specs.Counting.{registers, bears, frees, registrations, gatherings, births_of_all, frees_of_all}
+use Rattle.brc_thread.specs.Counting.{bears, frees, registrations, gatherings, births_of_all, frees_of_all}
 use Rattle.brc_thread.specs.Counting.{in_u32, in_u64, Counts}
 
 allocs_step : (s : Step) (n : ℕ) → allocs_after s n ≡ n + one (is_birth s)
@@ -76,32 +76,14 @@ pub frees_told : (n : ℕ) (log : List Told) → (part_seen n log).row.frees ≡
 frees_told n [] = refl
 frees_told n (x ∷ log) = omega (arith, frees_more n x log, frees_told n log, sum_by-cons frees x log)
 
--- the thread that is registered next has the number of registrations, and one
-rows_more : (x : Told) (log : List Told) → rows_of (log_items (x ∷ log)) ≡ rows_of (log_items log) + registers x
-rows_more (Did (Register u) number moved) log = refl
-rows_more (Did _ number moved) log = omega arith
-rows_more (Saw word number) log = omega arith
-rows_more (Lost word number) log = omega arith
-
-rows_counted : (log : List Told) → rows_of (log_items log) ≡ sum_by registers log + 1
-rows_counted [] = refl
-rows_counted (x ∷ log) = omega (arith, rows_more x log, rows_counted log, sum_by-cons registers x log)
-
-pub next_counted : (v : View) → next_thread v ≡ registrations v + 1
-next_counted v = rows_counted v.log
-
 -- ---- one more is registered, and one more gathered
 
 pub counts_registered : (v : View) (registered gathered : ℕ) (ledger : Ledger) → Counts v registered gathered ledger
-    → next_thread v ≤ MOST_THREADS
+    → registrations v < MOST_REGISTRATIONS
     → Counts (registering v) (registered + 1) gathered ledger
 counts_registered v registered gathered ledger counts few = record {
-  all_registered = omega (
-    arith,
-    counts.all_registered,
-    sum_by-cons registers (Did (Register (next_thread v)) 0 Nothing) v.log,
-  );
-  few = omega (arith, counts.all_registered, next_counted v, few);
+  all_registered = omega (arith, counts.all_registered);
+  few = omega (arith, counts.all_registered, few);
   all_gathered = counts.all_gathered;
   allocs = counts.allocs;
   frees = counts.frees;
@@ -120,7 +102,7 @@ pub counts_gathered : (v w : View) (registered gathered : ℕ) (ledger : Ledger)
     → given_back ≡ min (ledger.frees + own.frees) 18446744073709551615
     → Counts (gathering v w) registered more (record { allocs = allocs; frees = given_back })
 counts_gathered v w registered gathered ledger n more allocs given_back own counts is one_more births deaths = record {
-  all_registered = omega (arith, counts.all_registered, sum_by-cons registers (Did (Gather w.thread) 0 Nothing) v.log);
+  all_registered = counts.all_registered;
   few = counts.few;
   all_gathered = within_u32 gathered (gatherings v) more counts.all_gathered one_more
       ∙ ap in_u32 (omega arith);

@@ -3,21 +3,20 @@ use Rattle.std.proofs.Common.{◌≡◌, ℕ, true, List, length, Option, refl, 
 use Rattle.std.specs.Prelude.{sum_by}
 use Rattle.brc_block.specs.declared.payload.Payload.{Payload}
 use Rattle.law_known.specs.Items.{AreItems, IsPart, part_of, events_of, own}
-use Rattle.law_known.specs.Root.{rows_of, gathered_of}
-use Rattle.law_known.proofs.Root_Law.{rows_are_told, gathered_are_told}
+use Rattle.law_known.specs.Start.{start_of}
+use Rattle.law_known.specs.Root.{rows_of, registrations_of, gathered_of}
+use Rattle.law_known.proofs.Starting.{run_histories}
+use Rattle.law_known.proofs.Root_Law.{rows_are_told, registrations_are_told, gathered_are_told}
 use Rattle.law_known.proofs.Items_Runs.{events_run}
 use Rattle.law_known.proofs.Items_Law.{parts_are_told}
 use Rattle.law_rule.specs.declared.view.View.{View}
 use Rattle.law_rule.specs.Logs.{Run, items_of, log_items, own_of, lives_of, world}
-use Rattle.law_steps.specs.Joining.{next_thread}
 use Rattle.law_rule.specs.Seen.{part_seen}
 use Rattle.law_rule.proofs.Own_Logs.{own_items}
 use Rattle.law_rule.proofs.Knowing.{kept_reached, kept_headline}
 use Rattle.law_rule.proofs.Once.{root_once}
-use Rattle.law_world.specs.Heap.{AreOptions, opening, row_at, no_row, is_registered}
+use Rattle.law_world.specs.Heap.{AreOptions, row_at, no_row, is_registered}
 use Rattle.law_world.specs.declared.row.Row.{Row}
-use Rattle.law_world.specs.Holding.{Histories}
-use Rattle.law_world.proofs.Reached.{run_histories, root_counts_nothing}
 use Rattle.brc_table.specs.Rest.{Remains}
 use Rattle.brc_table.specs.Shown.{shows}
 use Rattle.brc_thread.specs.Threads.{ledger_of}
@@ -25,11 +24,11 @@ use Rattle.brc_thread.specs.Ending.{Ends, ledger_at}
 use Rattle.brc_thread.specs.Counting.{bears, frees, registrations, gatherings, births_of_all, frees_of_all}
 use Rattle.brc_thread.specs.Emptied.{AllGathered}
 use Rattle.brc_thread.proofs.At_Home.{root_rests, all_at_home}
-use Rattle.brc_thread.proofs.Counted.{births_told, frees_told, next_counted}
-use Rattle.brc_thread.proofs.Everyone.{everyone, all_added_up}
+use Rattle.brc_thread.proofs.Counted.{births_told, frees_told}
+use Rattle.brc_thread.proofs.Everyone.{everyone, all_added_up, counts_allocs, counts_frees}
 
 -- a registered thread's part of a run's world is what its own steps tell
-pub own_part : (n limit : ℕ) (run : Run) (t : ℕ) → AreOptions n limit → AreItems (opening n limit) (items_of run)
+pub own_part : (n limit : ℕ) (run : Run) (t : ℕ) → AreOptions n limit → AreItems (start_of n limit) (items_of run)
     → is_registered (world n limit run) t ≡ true
     → IsPart (world n limit run) t (part_seen n (own_of t run))
 own_part n limit run t options items registered =
@@ -37,7 +36,7 @@ own_part n limit run t options items registered =
     (parts_are_told n limit (items_of run) t options items registered)
 
 -- so is what that world counts for it
-own_ledger : (n limit : ℕ) (run : Run) (t : ℕ) → AreOptions n limit → AreItems (opening n limit) (items_of run)
+own_ledger : (n limit : ℕ) (run : Run) (t : ℕ) → AreOptions n limit → AreItems (start_of n limit) (items_of run)
     → is_registered (world n limit run) t ≡ true
     → ledger_at (world n limit run) t ≡ ledger_of n (own_of t run)
 own_ledger n limit run t options items registered =
@@ -45,44 +44,45 @@ own_ledger n limit run t options items registered =
     (own_part n limit run t options items registered).row_is
 
 -- for the root it counts nothing
-root_ledger : (n limit : ℕ) (run : Run) → AreItems (opening n limit) (items_of run)
-    → Histories (opening n limit) (events_of (items_of run))
+root_ledger : (n limit : ℕ) (run : Run) → AreOptions n limit → AreItems (start_of n limit) (items_of run)
     → ledger_at (world n limit run) 0 ≡ record { allocs = 0; frees = 0 }
-root_ledger n limit run items told =
-    let nothing = root_counts_nothing (opening n limit) (events_of (items_of run))
-    (events_run (opening n limit) (items_of run) items) in
-    ap (λ (k : ℕ). record { allocs = k; frees = (row_at (world n limit run) 0).frees }) (told.allocs 0 ∙ nothing.0)
-    ∙ ap (λ (k : ℕ). record { allocs = 0; frees = k }) (told.frees 0 ∙ nothing.1)
+root_ledger n limit run options items =
+    ap (λ (row : Row). record { allocs = row.allocs; frees = row.frees })
+    (root_rests n limit (events_of (items_of run)) options (events_run (start_of n limit) (items_of run) items)).row
 
 -- ---- as many as were registered
 
-all_of_them : (n limit : ℕ) (run : Run) (root : View) → AreOptions n limit → AreItems (opening n limit) (items_of run)
+all_of_them : (n limit : ℕ) (run : Run) (root : View) → AreOptions n limit → AreItems (start_of n limit) (items_of run)
     → root.gathered ≡ lives_of run
-    → length (world n limit run).rows ≡ next_thread root → registrations root ≡ gatherings root
+    → (world n limit run).registrations ≡ registrations root → registrations root ≡ gatherings root
     → AllGathered (world n limit run)
-all_of_them n limit run root options items lives rows same =
-    everyone n limit run options items (omega (arith, rows, next_counted root, same, ap length lives))
+all_of_them n limit run root options items lives all same =
+    everyone n limit run options items (omega (arith, all, same, ap length lives))
 
 -- what the logs count is what the world counts
 module _ (n limit : ℕ) (run : Run) (root : View) (options : AreOptions n limit)
-    (items : AreItems (opening n limit) (items_of run)) where
+    (items : AreItems (start_of n limit) (items_of run)) where
   no_row_there : row_at (world n limit run) 0 ≡ no_row
   no_row_there = (root_rests n limit (events_of (items_of run)) options
-      (events_run (opening n limit) (items_of run) items)).row
+      (events_run (start_of n limit) (items_of run) items)).row
 
   births_added : root.gathered ≡ lives_of run → AllGathered (world n limit run)
-      → births_of_all root.gathered ≡ sum_by (λ (row : Row). row.allocs) (world n limit run).rows
+      → births_of_all root.gathered
+      ≡ (world n limit run).past_allocs + sum_by (λ (row : Row). row.allocs) (world n limit run).rows
   births_added lives all =
       ap births_of_all lives
-      ∙ sym (all_added_up n limit run options items (λ (row : Row). row.allocs) (sum_by bears) refl no_row_there
+      ∙ sym (all_added_up n limit run options items (λ (row : Row). row.allocs) (sum_by bears) (λ h. h.past_allocs)
+      counts_allocs refl refl no_row_there
       (λ older u are there. ap (λ (row : Row). row.allocs) (own_part n limit older u options are there).row_is
       ∙ births_told n (own_of u older)) all)
 
   frees_added : root.gathered ≡ lives_of run → AllGathered (world n limit run)
-      → frees_of_all root.gathered ≡ sum_by (λ (row : Row). row.frees) (world n limit run).rows
+      → frees_of_all root.gathered
+      ≡ (world n limit run).past_frees + sum_by (λ (row : Row). row.frees) (world n limit run).rows
   frees_added lives all =
       ap frees_of_all lives
-      ∙ sym (all_added_up n limit run options items (λ (row : Row). row.frees) (sum_by frees) refl no_row_there
+      ∙ sym (all_added_up n limit run options items (λ (row : Row). row.frees) (sum_by frees) (λ h. h.past_frees)
+      counts_frees refl refl no_row_there
       (λ older u are there. ap (λ (row : Row). row.frees) (own_part n limit older u options are there).row_is
       ∙ frees_told n (own_of u older)) all)
 
@@ -96,10 +96,11 @@ module _ {A : Type 0} where
       let did : own_of 0 run ≡ root.log = subst (λ t. own_of t run ≡ root.log) is_root fits.log in
       let log : own 0 (items_of run) ≡ log_items root.log = own_items 0 run ∙ ap log_items did in
       let lives : root.gathered ≡ lives_of run = fits.lives is_root in
-      let rows : length (world n limit run).rows ≡ next_thread root =
-      rows_are_told n limit (items_of run) remains.kept.options remains.kept.legal.items ∙ ap rows_of log in
+      let all : (world n limit run).registrations ≡ registrations root =
+      registrations_are_told n limit (items_of run) remains.kept.options remains.kept.legal.items
+      ∙ ap registrations_of log in
       let told = run_histories n limit (events_of (items_of run)) remains.kept.options
-      (events_run (opening n limit) (items_of run) remains.kept.legal.items) in record {
+      (events_run (start_of n limit) (items_of run) remains.kept.legal.items) in record {
         remains = remains;
         reached = kept_reached shows n limit remains.state remains.kept;
         headline = kept_headline shows n limit remains.state remains.kept;
@@ -109,13 +110,14 @@ module _ {A : Type 0} where
         root_once = root_once n limit run remains.kept.options remains.kept.legal.items;
         lives_did = lives;
         each_once = remains.kept.each_once;
-        root_counts = root_ledger n limit run remains.kept.legal.items told;
+        root_counts = root_ledger n limit run remains.kept.options remains.kept.legal.items;
         ledgers = λ t registered. own_ledger n limit run t remains.kept.options remains.kept.legal.items registered;
-        registered = rows;
+        registered = all;
+        rows = rows_are_told n limit (items_of run) remains.kept.options remains.kept.legal.items ∙ ap rows_of log;
         gathered = λ t. gathered_are_told n limit (items_of run) t remains.kept.options remains.kept.legal.items
             ∙ ap (λ items. gathered_of items t) log;
         all_at_home = all_at_home n limit id root slots remains;
-        everyone = all_of_them n limit run root remains.kept.options remains.kept.legal.items lives rows;
+        everyone = all_of_them n limit run root remains.kept.options remains.kept.legal.items lives all;
         births = births_added n limit run root remains.kept.options remains.kept.legal.items lives;
         frees = frees_added n limit run root remains.kept.options remains.kept.legal.items lives;
       }

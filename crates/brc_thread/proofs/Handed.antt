@@ -1,12 +1,14 @@
 -- A held cell is no step's to free or to bear.
 use Rattle.std.proofs.Common.{◌≡◌, ℕ, ◌≤◌, Some, ap, ◌∙◌, subst}
 use Rattle.law_world.specs.declared.event.Event.{Event}
-use Rattle.law_world.specs.Heap.{Heap, opening}
+use Rattle.law_world.specs.Heap.{Heap}
+use Rattle.law_known.specs.Start.{start_of}
+use Rattle.law_known.proofs.Starting.{run_reached}
 use Rattle.law_world.specs.Lists.{place_at}
 use Rattle.law_world.specs.Runs.{IsReached}
 use Rattle.law_world.specs.Sound.{held}
 use Rattle.law_world.proofs.Dropping.{held_by_place}
-use Rattle.law_lasting.proofs.Standing.{run_reached, held_not_freed, held_not_born}
+use Rattle.law_lasting.proofs.Standing.{held_not_freed, held_not_born}
 use Rattle.law_known.specs.Items.{IsPart, events_of}
 use Rattle.law_known.proofs.Items_Runs.{events_run}
 use Rattle.law_rule.specs.declared.told.Told.{Told}
@@ -41,7 +43,7 @@ spared runs handle c u (Did s number moved) handed next =
     let h : Heap = world n limit run in
     let e : Event = record { thread = u; step = s } in
     let reached : IsReached h = run_reached n limit (events_of (items_of run)) next.options
-    (events_run (opening n limit) (items_of run) next.legal.items.0) in
+    (events_run (start_of n limit) (items_of run) next.legal.items.0) in
     let some : 1 ≤ held h c = held_there runs handle c u (Did s number moved) handed next in (
       held_not_freed h e c reached next.legal.items.1.0 some,
       λ kind j. held_not_born h e c kind j reached

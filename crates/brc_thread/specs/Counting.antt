@@ -1,20 +1,17 @@
 -- How many threads the root has registered and gathered, and what those that it gathered did, counted from its view.
 use Rattle.std.specs.Prelude.{◌≡◌, ◌≤◌, ℕ, List, length, min, sum_by}
-use Rattle.brc_words.specs.declared.limits.TheConstants.{MOST_THREADS}
+use Rattle.brc_words.specs.declared.limits.TheConstants.{MOST_REGISTRATIONS}
 use Rattle.law_world.specs.Lists.{one}
 use Rattle.law_world.specs.Holding.{is_birth}
 use Rattle.law_world.specs.Steps.{is_free_step}
-use Rattle.law_world.specs.declared.event.Step.TheVariants.{Register}
+use Rattle.law_known.specs.Root.{registrations_of}
 use Rattle.law_rule.specs.declared.told.Told.{Told}
 use Rattle.law_rule.specs.declared.told.Told.TheVariants.{Did}
 use Rattle.law_rule.specs.declared.view.View.{View}
+use Rattle.law_rule.specs.Logs.{log_items}
 use Rattle.brc_count.specs.declared.ledger.Ledger.{Ledger}
 
--- the step registers a thread, bears an object, gives a cell back
-abbrev pub registers : Told → ℕ
-registers (Did (Register u) number moved) = 1
-registers x = 0
-
+-- the step bears an object, gives a cell back
 abbrev pub bears : Told → ℕ
 bears (Did s number moved) = one (is_birth s)
 bears x = 0
@@ -25,7 +22,7 @@ frees x = 0
 
 -- how many threads the root has registered
 abbrev pub registrations : View → ℕ
-registrations v = sum_by registers v.log
+registrations v = registrations_of (log_items v.log)
 
 -- and how many it has gathered: it has a log for each
 abbrev pub gatherings : View → ℕ
@@ -49,7 +46,7 @@ in_u64 n = min n 18446744073709551615
 -- what a root counts is so of its view; it registers no more threads than a heap may have
 pub record Counts (view : View) (registered gathered : ℕ) (ledger : Ledger) : Type 0 where
   pub all_registered : registered ≡ registrations view
-  pub few : registered ≤ MOST_THREADS
+  pub few : registered ≤ MOST_REGISTRATIONS
   pub all_gathered : gathered ≡ in_u32 (gatherings view)
   pub allocs : ledger.allocs ≡ in_u64 (births_of_all view.gathered)
   pub frees : ledger.frees ≡ in_u64 (frees_of_all view.gathered)

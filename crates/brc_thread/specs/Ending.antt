@@ -1,15 +1,16 @@
 -- How a heap ends: what is left of it, and what is so of all that was done on it.
-use Rattle.std.specs.Prelude.{◌≡◌, ◌<◌, ℕ, true, List, length, sum_by, Option, Some}
+use Rattle.std.specs.Prelude.{◌≡◌, ◌<◌, ◌+◌, ℕ, true, List, length, sum_by, Option, Some}
 use Rattle.brc_block.specs.declared.payload.Payload.{Payload}
 use Rattle.law_known.specs.Items.{events_of}
-use Rattle.law_known.specs.Root.{gathered_of}
+use Rattle.law_known.specs.Root.{gathered_of, rows_of}
 use Rattle.law_rule.specs.declared.view.View.{View}
 use Rattle.law_rule.specs.Logs.{items_of, log_items, own_of, all_of, lives_of, world}
 use Rattle.law_rule.specs.Rule.{log_in, StandsOnce}
-use Rattle.law_world.specs.Heap.{Heap, opening, row_at, is_registered, is_gathered}
-use Rattle.law_world.specs.Holding.{Headline, Histories}
+use Rattle.law_known.specs.Start.{start_of}
+use Rattle.law_world.specs.Heap.{Heap, row_at, is_registered, is_gathered}
+use Rattle.law_world.specs.Holding.{Headline}
+use Rattle.law_world.specs.Since.{HistoriesSince}
 use Rattle.law_world.specs.Runs.{IsReached}
-use Rattle.law_steps.specs.Joining.{next_thread}
 use Rattle.brc_table.specs.Rest.{Remains}
 use Rattle.brc_count.specs.declared.ledger.Ledger.{Ledger}
 use Rattle.brc_thread.specs.Counting.{registrations, gatherings, births_of_all, frees_of_all}
@@ -29,13 +30,13 @@ module _ {A : Type 0} where
   -- order. What that world counts for a registered thread, as the headline sums it up, is the ledger of all that the
   -- thread did, which `Retired` answers; for the root it counts nothing. Which threads were registered and which are
   -- gathered is told by the root's log: all are, where it has gathered as many as it has registered. Where all are
-  -- gathered, what their logs count, added up, is what that world counts, and the blocks that are left are those of all
+  -- gathered, what their logs count, added up, is what that world counts with its past, and the blocks that are left are those of all
   -- live objects and immortals, each with what was put home there last.
   pub record Ends (n limit id : ℕ) (root : View) (slots : List (Option (ℕ × Payload A))) : Type 0 where
     pub remains : Remains n limit id root slots
     pub reached : IsReached (world n limit remains.kept.run)
     pub headline : Headline (world n limit remains.kept.run)
-    pub histories : Histories (opening n limit) (events_of (items_of remains.kept.run))
+    pub histories : HistoriesSince (start_of n limit) (events_of (items_of remains.kept.run))
     pub root_did : own_of 0 remains.kept.run ≡ root.log
     pub gathered_did : (t : ℕ) → 0 < t → is_gathered (world n limit remains.kept.run) t ≡ true
         → log_in root.gathered t ≡ Some (own_of t remains.kept.run)
@@ -45,12 +46,15 @@ module _ {A : Type 0} where
     pub root_counts : ledger_at (world n limit remains.kept.run) 0 ≡ record { allocs = 0; frees = 0 }
     pub ledgers : (t : ℕ) → is_registered (world n limit remains.kept.run) t ≡ true
         → ledger_at (world n limit remains.kept.run) t ≡ ledger_of n (own_of t remains.kept.run)
-    pub registered : length (world n limit remains.kept.run).rows ≡ next_thread root
+    pub registered : (world n limit remains.kept.run).registrations ≡ registrations root
+    pub rows : length (world n limit remains.kept.run).rows ≡ rows_of (log_items root.log)
     pub gathered : (t : ℕ) → is_gathered (world n limit remains.kept.run) t ≡ gathered_of (log_items root.log) t
     pub all_at_home : AllGathered (world n limit remains.kept.run)
         → AllAtHome n (world n limit remains.kept.run) remains.kept.run slots
     pub everyone : registrations root ≡ gatherings root → AllGathered (world n limit remains.kept.run)
-    pub births : AllGathered (world n limit remains.kept.run) → births_of_all root.gathered ≡ sum_by (λ row. row.allocs)
-        (world n limit remains.kept.run).rows
-    pub frees : AllGathered (world n limit remains.kept.run) → frees_of_all root.gathered ≡ sum_by (λ row. row.frees)
-        (world n limit remains.kept.run).rows
+    pub births : AllGathered (world n limit remains.kept.run) → births_of_all root.gathered
+        ≡ (world n limit remains.kept.run).past_allocs
+        + sum_by (λ row. row.allocs) (world n limit remains.kept.run).rows
+    pub frees : AllGathered (world n limit remains.kept.run) → frees_of_all root.gathered
+        ≡ (world n limit remains.kept.run).past_frees
+        + sum_by (λ row. row.frees) (world n limit remains.kept.run).rows

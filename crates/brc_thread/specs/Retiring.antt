@@ -5,7 +5,7 @@ use Rattle.law_steps.specs.Joining.{gathering}
 use Rattle.brc_table.specs.Seated.{RootSeen, view_of}
 use Rattle.brc_count.specs.declared.ledger.Ledger.{Ledger}
 use Rattle.brc_count.specs.Frames.{FrameSeen, IsUnlocked, Turns}
-use Rattle.brc_count.specs.Closing.{Closes, TurnsLeaving}
+use Rattle.brc_count.specs.Closing.{GoesOut, TurnsLeaving}
 use Rattle.brc_thread.specs.Settling.{Settles}
 use Rattle.brc_thread.specs.Threads.{RetiredSeen, ledger_of}
 
@@ -20,12 +20,12 @@ module _ {A : Type 0} where
     pub heap : retired.heap ≡ left.heap
     pub thread : retired.seat.thread ≡ left.seat.thread
 
-  -- The thread settles, closes all its queue words, by rising number, and finishes.
+  -- The thread settles, hands over what it owns, closes all its queue words, by rising number, and finishes.
   pub record RetiresAs (mutator : FrameSeen A) (retired : RetiredSeen A) : Type 0 where
     pub settled : FrameSeen A
     pub settles : Settles mutator settled
     pub left : FrameSeen A
-    pub closes : Closes settled.seat.log (words_for settled.heap.cells) left.seat.log
+    pub goes : GoesOut settled left
     pub finishes : Finishes left retired
     pub heap : retired.heap ≡ mutator.heap
     pub thread : retired.seat.thread ≡ mutator.seat.thread
@@ -37,14 +37,14 @@ module _ {A : Type 0} where
     pub gathers : new.view ≡ gathering old.view (view_of retired.seat)
     pub counted : ledger ≡ ledger_of retired.heap.cells retired.seat.log
 
-  -- The thread does some turns of work on dead blocks, at most so many, and closes all its queue words: it neither
-  -- polls nor waits.
+  -- The thread does some turns of work on dead blocks, at most so many, hands over, and closes all its queue words: it
+  -- neither polls nor waits.
   pub record Departs (budget : ℕ) (mutator left : FrameSeen A) : Type 0 where
     pub turns : ℕ
     pub few : turns ≤ budget
     pub worked : FrameSeen A
     pub works : Turns mutator turns worked
-    pub closes : Closes worked.seat.log (words_for worked.heap.cells) left.seat.log
+    pub goes : GoesOut worked left
     pub heap : left.heap ≡ mutator.heap
     pub thread : left.seat.thread ≡ mutator.seat.thread
 

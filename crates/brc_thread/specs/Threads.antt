@@ -1,18 +1,19 @@
 -- When a thread is refused, and what is left of one that is done.
-use Rattle.std.specs.Prelude.{◌≡◌, ◌<◌, ◌≤◌, ℕ, List, []}
+use Rattle.std.specs.Prelude.{◌≡◌, ◌⊎◌, ◌<◌, ◌≤◌, ℕ, List, []}
 use Rattle.brc_words.specs.declared.fault.Fault.{Fault}
 use Rattle.brc_words.specs.declared.fault.Fault.TheVariants.{TooManyThreads, OutOfMemory}
-use Rattle.brc_words.specs.declared.limits.TheConstants.{MOST_THREADS}
+use Rattle.brc_words.specs.declared.limits.TheConstants.{MOST_THREADS, MOST_REGISTRATIONS}
 use Rattle.law_rule.specs.declared.told.Told.{Told}
 use Rattle.law_rule.specs.Seen.{part_seen}
-use Rattle.law_steps.specs.Joining.{next_thread, Leaves}
+use Rattle.law_steps.specs.Joining.{next_thread, registrations, Leaves}
 use Rattle.brc_table.specs.Seated.{TableSeen, SeatSeen, RootSeen, view_of}
 use Rattle.brc_count.specs.declared.ledger.Ledger.{Ledger}
 
--- a thread is refused where 64 have been registered; or memory was missing
+-- a thread is refused where 64 are there that aren't gathered, or 65,536 were registered; or memory was missing
 abbrev pub RefusesThread : RootSeen → Fault → Type 0
-RefusesThread root TooManyThreads = MOST_THREADS < next_thread root.view
-RefusesThread root OutOfMemory = next_thread root.view ≤ MOST_THREADS
+RefusesThread root TooManyThreads =
+    (MOST_THREADS < next_thread root.view) ⊎ (MOST_REGISTRATIONS ≤ registrations root.view)
+RefusesThread root OutOfMemory = (next_thread root.view ≤ MOST_THREADS) × (registrations root.view < MOST_REGISTRATIONS)
 RefusesThread root _ = ⊥
 
 -- how many objects a thread made that did this, and how many cells it gave back

@@ -4,12 +4,11 @@ ghost use Rattle.std.specs.Prelude.{◌≡◌, ◌<◌, ◌≤◌, ◌-◌, [], 
 ghost use Rattle.std.specs.Prelude.{OnOk, OnErr};
 ghost use Rattle.brc_words.specs.declared.limits.TheConstants.{GLOBALS};
 ghost use Rattle.law_world.specs.declared.event.Source.TheVariants as sources;
-ghost use Rattle.law_world.specs.Heap.{words_for};
 ghost use Rattle.law_living.specs.Living.{OwnLog};
 ghost use Rattle.brc_count.specs.Frames.{Given, Refused, IsAsBefore, IsUnlocked, KeepsHandles, KeepsButStart, Turns};
 ghost use Rattle.brc_count.specs.Frames.{word_asked, ledger_seen};
 ghost use Rattle.brc_count.specs.Polling.{Polled};
-ghost use Rattle.brc_count.specs.Closing.{Closes};
+ghost use Rattle.brc_count.specs.Closing.{GoesOut};
 ghost use Rattle.brc_count.specs.Owned.{Keeps, Gains};
 
 use crate::leaving::Leaving;
@@ -144,13 +143,13 @@ impl<H: Home<A>, A: Allocator> Mutator<H, A> {
         self.frame.work(budget)
     }
 
-    /// Leaves: its queue words are closed, by rising number, and from then on others do for it what they asked of it. A
-    /// mutator that isn't idle, with a handle or a dead block, is answered as it was.
+    /// Leaves: what it owns is handed over, by rising cell, and its queue words are closed, by rising number. It takes no
+    /// memory. A mutator that isn't idle, with a handle or a dead block, is answered as it was.
     pub fn leave(self) -> Result<Leaving<H, A>, Mutator<H, A>>
         requires unlocked { IsUnlocked self }
         ensures heap { IfOk result (λ leaving. leaving.heap ≡ self.heap) }
         ensures thread { IfOk result (λ leaving. leaving.seat.thread ≡ self.seat.thread) }
-        ensures closes { IfOk result (λ leaving. Closes self.seat.log (words_for self.heap.cells) leaving.seat.log) }
+        ensures goes { IfOk result (λ leaving. GoesOut self leaving) }
         ensures idle { OnOk result ((self.len ≡ 0) × (self.works ≡ [])) }
         ensures refused { OnErr result ((0 < self.len) ⊎ (0 < length self.works)) }
         ensures unchanged { IfErr result (λ same. same ≡ self) }

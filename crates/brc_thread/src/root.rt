@@ -2,10 +2,11 @@
 
 ghost use Rattle.std.specs.Prelude.{◌≡◌, ◌≤◌, [], false, IfOk, IfErr, OnOk, OnErr};
 ghost use Rattle.brc_count.specs.Frames.{IsUnlocked, first_word, ledger_seen};
-ghost use Rattle.brc_words.specs.declared.limits.TheConstants.{MOST_THREADS};
+ghost use Rattle.brc_words.specs.declared.limits.TheConstants.{MOST_REGISTRATIONS};
 ghost use Rattle.law_steps.specs.Joining.{next_thread, registering, gathering};
 ghost use Rattle.brc_table.specs.Seated.{view_of};
 ghost use Rattle.brc_thread.specs.Counting.{registrations, gatherings, births_of_all, frees_of_all, in_u32, in_u64};
+ghost use Rattle.brc_count.specs.Closing.{BeginsBy};
 ghost use Rattle.brc_thread.specs.Threads.{RefusesThread};
 
 use crate::heap::Heap;
@@ -14,7 +15,7 @@ use crate::mutator::Mutator;
 use brc_biased::Home;
 use brc_count::{Frame, Ledger};
 use brc_table::RootSeat;
-use brc_words::{Fault, MOST_THREADS};
+use brc_words::{Fault, MOST_REGISTRATIONS, MOST_THREADS};
 use std::alloc::{Allocator, Global};
 use std::marker::Model;
 
@@ -42,13 +43,13 @@ impl<A: Allocator> Model for Root<A> {
 
 impl<A: Allocator + Copy> Root<A> {
     /// The mutator of the next thread, which is registered with it: threads are numbered from 1. TooManyThreads, looked
-    /// at first, where 64 have been registered; OutOfMemory where its counts or popped bits can't be had. A refusal
+    /// at first, where 64 are there that aren't gathered, or 65,536 were registered in all; OutOfMemory where its counts or popped bits can't be had. A refusal
     /// changes nothing.
     pub fn register<H: Home<A> + Drop>(&mut self, alloc: A, heap: H) -> Result<Mutator<H, A>, Fault>
         requires heap { self.old.table ≡ (H.seen heap).table }
         ensures heap { IfOk result (λ mutator. mutator.heap ≡ H.seen heap) }
         ensures thread { IfOk result (λ mutator. mutator.seat.thread ≡ next_thread self.old.view) }
-        ensures new { IfOk result (λ mutator. mutator.seat.log ≡ []) }
+        ensures begins { IfOk result (λ mutator. BeginsBy mutator.heap.cells self.old.view mutator.seat.log) }
         ensures idle { IfOk result (λ mutator. (mutator.len ≡ 0) × (mutator.works ≡ [])) }
         ensures unlocked { IfOk result (λ mutator. IsUnlocked mutator) }
         ensures first { IfOk result (λ mutator. (mutator.from ≡ first_word) × (mutator.near ≡ false)) }
@@ -58,7 +59,7 @@ impl<A: Allocator + Copy> Root<A> {
         ensures refused { IfErr result (RefusesThread self.old) }
         ensures unchanged { OnErr result (self.new ≡ self.old) }
     {
-        if self.seat.next() > MOST_THREADS {
+        if self.seat.next() > MOST_THREADS || self.registered >= MOST_REGISTRATIONS {
             return Err(Fault::TooManyThreads);
         }
         match Frame::enter(alloc, heap, &mut self.seat) {
@@ -72,22 +73,22 @@ impl<A: Allocator + Copy> Root<A> {
 }
 
 impl<A: Allocator> Root<A> {
-    /// The number that the next thread gets: how many have been registered, and 1.
+    /// The number that the next thread gets: the lowest that nobody has.
     pub fn next(&self) -> u32
         ensures { result ≡ next_thread self.now.view }
     {
         self.seat.next()
     }
 
-    /// How many threads have been registered: 64 at most.
+    /// How many threads have been registered: 65,536 at most.
     pub fn registered(&self) -> u32
         ensures told { result ≡ registrations self.now.view }
-        ensures few { result ≤ MOST_THREADS }
+        ensures few { result ≤ MOST_REGISTRATIONS }
     {
         self.registered
     }
 
-    /// How many threads have been gathered, as far as 32 bits count. No more are than were registered, 64 at most; but
+    /// How many threads have been gathered, as far as 32 bits count. No more are than were registered; but
     /// that is so of the run of the whole heap, and no type of the root's says it.
     pub fn gathered(&self) -> u32
         ensures { result ≡ in_u32 (gatherings self.now.view) }

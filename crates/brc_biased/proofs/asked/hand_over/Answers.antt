@@ -7,7 +7,5 @@ returns-then-found-clause-told g c = AskedQueued c.load_owner-owner.result c.enq
     (search rules) (search rules) refl (search rules)
 
 pub returns-clause-told : goal.returns-clause-told
-returns-clause-told g c =
-    let queued = rw c.enqueue-found.ensures.told at c.adopt.ensures.told in
-    AskedShut c.load_owner-owner.result c.enqueue-found.result (search rules) (search rules)
-    (rw c.load_owner-owner.ensures.told at queued)
+returns-clause-told g c = AskedShut c.load_owner-owner.result c.enqueue-found.result (search rules) (search rules)
+    (search rules)

@@ -16,3 +16,10 @@ invariant_of-result g c =
       unlocked = c.close_all.ensures.unlocked;
       done = λ k low. absurd (omega (arith, low));
     }
+
+pub returns-clause-goes : goal.returns-clause-goes
+returns-clause-goes g c = record {
+  mid = c.hand_all.new.self;
+  hands = c.hand_all.ensures.hands;
+  closes = rw c.hand_all.ensures.heap at c.close_all.ensures.closes;
+}

@@ -12,4 +12,5 @@ loop-word-init g c = (
   is_first (part_seen c.args.self.now.heap.cells c.args.self.now.seat.log).row.stage c.requires.active,
   c.requires.unlocked,
   c.requires.idle,
+  c.requires.none,
 )

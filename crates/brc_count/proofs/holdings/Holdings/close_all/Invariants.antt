@@ -1,6 +1,7 @@
-use Rattle.std.proofs.Common.{◌≡◌, []}
+use Rattle.std.proofs.Common.{◌≡◌, ◌<◌, ◌≤◌, ℕ}
+use Rattle.brc_words.specs.declared.limits.TheConstants.{FIRST_MORTAL}
 use Rattle.law_world.specs.Heap.{words_for}
-use Rattle.law_rule.specs.Seen.{part_seen}
+use Rattle.law_rule.specs.Seen.{part_seen, counts_seen}
 use Rattle.brc_count.specs.Frames.{IsUnlocked}
 use Rattle.brc_count.specs.Closing.{Closes, stage_with}
 use Rattle.brc_count.proofs.holdings.Holdings.close_all.Given as goal
@@ -10,4 +11,5 @@ invariant-loop-word g l = Closes l.fn.self.seat.log l.word l.self.seat.log × (l
     × (l.self.seat.thread ≡ l.fn.self.seat.thread)
     × ((part_seen l.fn.self.heap.cells l.self.seat.log).row.stage ≡ stage_with (words_for l.fn.self.heap.cells) l.word)
     × IsUnlocked l.self
-    × ((l.self.len ≡ 0) × (l.self.works ≡ []))
+    × (l.self.len ≡ 0)
+    × ((c : ℕ) → FIRST_MORTAL ≤ c → c < l.fn.self.heap.cells → counts_seen l.fn.self.heap.cells l.self.seat.log c ≡ 0)

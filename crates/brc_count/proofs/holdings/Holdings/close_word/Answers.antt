@@ -8,12 +8,10 @@ use Rattle.brc_count.proofs.Leaving.{may_close}
 use Rattle.brc_count.proofs.Popping.{after_pops, closed_pops}
 use Rattle.brc_count.proofs.holdings.Holdings.close_word.Goals as goal
 
-pub close-bits-requires-clause-allowed : goal.close-bits-requires-clause-allowed
-close-bits-requires-clause-allowed g c =
-    let none = rw (← c.self.view_is) at c.requires.idle in
-    let keeps = subst (λ w. Holding g.row.A.Denot c.self.inside.counter.heap c.self.inside.counter.seat
-    c.self.inside.places w c.self.inside.popped.items c.self.inside.ledger) none.1 c.self.invariant in
-    may_close c.args.word keeps none.0 (subst IsUnlocked (sym c.self.view_is) c.requires.unlocked)
+pub close-bits-requires-clause-closes : goal.close-bits-requires-clause-closes
+close-bits-requires-clause-closes g c =
+    may_close c.args.word c.self.invariant (rw (← c.self.view_is) at c.requires.idle)
+    (subst IsUnlocked (sym c.self.view_is) c.requires.unlocked) (rw (← c.self.view_is) at c.requires.none)
     (subst (λ (f : FrameSeen g.row.A.Denot). (part_seen f.heap.cells f.seat.log).row.stage ≡ stage_with
     (words_for f.heap.cells) c.args.word) (sym c.self.view_is) c.requires.stage)
     (rw (← c.self.view_is) at c.requires.inside)

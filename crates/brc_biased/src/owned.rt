@@ -1,0 +1,82 @@
+//! The owned bits, one for each cell of the heap: they are set at a birth, and cleared where the object is nobody's by
+//! now or its cell is given back. So the cells that a thread counts are found without a look at all counts.
+
+ghost use Rattle.std.specs.Prelude.{◌≡◌, ◌≢◌, ◌<◌, ◌≤◌, ◌/◌, ◌==◌, ℕ, length, replicate, slice_index, IfOk, IsTrue, IsFalse};
+ghost use Rattle.std.specs.Prelude.{IfSome, IfNone};
+ghost use Rattle.brc_words.specs.declared.limits.TheConstants.{FIRST_MORTAL};
+ghost use Rattle.law_world.specs.Heap.{words_for};
+ghost use Rattle.law_world.specs.Lists.{bit_of, with_bit, without_bit};
+ghost use Rattle.law_rule.specs.Seen.{counts_seen};
+
+use crate::counter::Counter;
+use crate::home::Home;
+use std::alloc::{AllocError, Allocator};
+
+/// The bits of a thread that owns nothing.
+pub fn no_bits<A: Allocator>(alloc: A, cells: u32) -> Result<Vec<u64, A>, AllocError>
+    ensures { IfOk result (λ words. words.items ≡ replicate (words_for cells) 0) }
+{
+    let mut words = Vec::new(alloc);
+    words.resize(cells.div_ceil(32) as usize, 0)?;
+    Ok(words)
+}
+
+/// The cell's bit is set.
+#[inline(always)]
+pub(crate) fn mark_owned<A: Allocator>(words: &mut Vec<u64, A>, cell: u32)
+    requires inside { cell / 32 < length words.old.items }
+    ensures { words.new.items ≡ with_bit words.old.items cell }
+{
+    let at = (cell / 32) as usize;
+    words[at] = words[at] | (1 << (cell % 32));
+}
+
+/// Whether the cell's bit is set.
+#[inline(always)]
+fn is_marked<A: Allocator>(words: &Vec<u64, A>, cell: u32) -> bool
+    requires inside { cell / 32 < length words.now.items }
+    ensures { result ≡ (bit_of words.now.items cell == 1) }
+{
+    (words[(cell / 32) as usize] >> (cell % 32)) & 1 == 1
+}
+
+#[tactic(auto, using(crate::proofs::Owning::other_bits, crate::proofs::Owning::same_width))]
+/// The cell's bit is cleared.
+#[inline(always)]
+pub(crate) fn clear_owned<A: Allocator>(words: &mut Vec<u64, A>, cell: u32)
+    requires inside { cell / 32 < length words.old.items }
+    ensures wide { length words.new.items ≡ length words.old.items }
+    ensures others { (c : ℕ) → c ≢ cell → bit_of words.new.items c ≡ bit_of words.old.items c }
+{
+    if is_marked(words, cell) {
+        let at = (cell / 32) as usize;
+        words[at] = words[at] ^ (1 << (cell % 32));
+    }
+}
+
+impl<H: Home<A>, A: Allocator> Counter<H, A> {
+    #[tactic(auto, using(crate::proofs::Owning::none_in_word))]
+    /// The first cell at or after one that the thread counts, if there is one.
+    pub fn next_owned(&self, from: u32) -> Option<u32>
+        requires mortal { FIRST_MORTAL ≤ from }
+        ensures some { IfSome result (λ cell. (from ≤ cell) × (FIRST_MORTAL ≤ cell) × (cell < self.now.heap.cells)
+            × (0 < counts_seen self.now.heap.cells self.now.seat.log cell)) }
+        ensures first { IfSome result (λ cell. (c : ℕ) → from ≤ c → c < cell → FIRST_MORTAL ≤ c
+            → c < self.now.heap.cells → counts_seen self.now.heap.cells self.now.seat.log c ≡ 0) }
+        ensures none { IfNone result ((c : ℕ) → from ≤ c → FIRST_MORTAL ≤ c → c < self.now.heap.cells
+            → counts_seen self.now.heap.cells self.now.seat.log c ≡ 0) }
+    {
+        let cells = self.heap.table().cells();
+        let mut cell = from;
+        while cell < cells {
+            if self.owned[(cell / 32) as usize] >> (cell % 32) == 0 {
+                cell = (cell / 32 + 1) * 32;
+            } else if self.counts[cell as usize] > 0 {
+                return Some(cell);
+            } else {
+                cell += 1;
+            }
+        }
+        None
+    }
+}
