@@ -4,11 +4,9 @@ use Rattle.brc_words.specs.declared.limits.TheConstants.{MOST_REGISTRATIONS}
 use Rattle.law_world.specs.Lists.{one}
 use Rattle.law_world.specs.Holding.{is_birth}
 use Rattle.law_world.specs.Steps.{is_free_step}
-use Rattle.law_known.specs.Root.{registrations_of}
 use Rattle.law_rule.specs.declared.told.Told.{Told}
 use Rattle.law_rule.specs.declared.told.Told.TheVariants.{Did}
 use Rattle.law_rule.specs.declared.view.View.{View}
-use Rattle.law_rule.specs.Logs.{log_items}
 use Rattle.brc_count.specs.declared.ledger.Ledger.{Ledger}
 
 -- the step bears an object, gives a cell back
@@ -21,8 +19,7 @@ frees (Did s number moved) = one (is_free_step s)
 frees x = 0
 
 -- how many threads the root has registered
-abbrev pub registrations : View → ℕ
-registrations v = registrations_of (log_items v.log)
+pub use Rattle.law_steps.specs.Joining.{registrations}
 
 -- and how many it has gathered: it has a log for each
 abbrev pub gatherings : View → ℕ
@@ -43,7 +40,7 @@ in_u32 n = min n 4294967295
 abbrev pub in_u64 : ℕ → ℕ
 in_u64 n = min n 18446744073709551615
 
--- what a root counts is so of its view; it registers no more threads than a heap may have
+-- what a root counts is so of its view; it registers no more threads than a heap may register
 pub record Counts (view : View) (registered gathered : ℕ) (ledger : Ledger) : Type 0 where
   pub all_registered : registered ≡ registrations view
   pub few : registered ≤ MOST_REGISTRATIONS
