@@ -8,6 +8,8 @@ use Rattle.law_rule.specs.declared.told.Told.{Told}
 use Rattle.law_rule.specs.declared.told.Told.TheVariants.{Did}
 use Rattle.law_rule.specs.declared.view.View.{View}
 use Rattle.brc_count.specs.declared.ledger.Ledger.{Ledger}
+-- how many threads the root has registered
+pub use Rattle.law_steps.specs.Joining.{registrations}
 
 -- the step bears an object, gives a cell back
 abbrev pub bears : Told → ℕ
@@ -18,10 +20,7 @@ abbrev pub frees : Told → ℕ
 frees (Did s number moved) = one (is_free_step s)
 frees x = 0
 
--- how many threads the root has registered
-pub use Rattle.law_steps.specs.Joining.{registrations}
-
--- and how many it has gathered: it has a log for each
+-- how many threads the root has gathered: it has a log for each
 abbrev pub gatherings : View → ℕ
 gatherings v = length v.gathered
 
