@@ -19,7 +19,7 @@ use Rattle.brc_biased.specs.Released.{Ends, EndedOwn, SeenZero, MergedAtZero, As
 use Rattle.brc_biased.specs.Released.{AskedNobodys, AskedQueued, AskedShut, Asks, AskedLate, AskTurned, GoesShared}
 use Rattle.brc_biased.specs.Released.{SharedRisen, SharedCounted, SharedNoCount, SharedMoved, GoesOwn, OwnCounted}
 use Rattle.brc_biased.specs.Released.{OwnEnded, Released, ReleaseImmortal, ReleaseOwn, ReleaseSeen, ReleaseShared}
-use Rattle.brc_biased.specs.Released.{Settled, SettledMerged, SettledMerging, SettledLeft}
+use Rattle.brc_biased.specs.Released.{Settled, SettledMerged, SettledMerging}
 
 -- one such item
 one : (x : Told) (before log : List Told) → is_quiet x ≡ true → log ≡ x ∷ before → Quietly before log
@@ -120,5 +120,3 @@ module _ {A : Type 0} where
       (and_more (Did (MergeAdd c) merges.shared Nothing) third log refl
       (ends_quietly (LastDown (lasts.Popped c)) c block (Did (MergeAdd c) merges.shared Nothing ∷ third) log refl
       merges.ends))))
-  settled_quietly c block before log (SettledLeft ends) =
-      ends_quietly (LastDown (lasts.Popped c)) c block before log refl ends

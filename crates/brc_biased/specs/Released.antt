@@ -123,12 +123,10 @@ module _ {A : Type 0} where
     pub ends : Ends (MergeAdd c) c block (Saw (Of Local c) local ∷ Did (Untie c) 0 Nothing ∷ Did (Offer c) offered
         Nothing ∷ before) log
 
-  -- a popped entry is counted down, after its object was found merged or is merged by the thread; or it is left to a
-  -- thread that isn't active any more
+  -- a popped entry is counted down, after its object was found merged or is merged by the thread
   pub data Settled (c : ℕ) (block : Option (ℕ × Payload A)) (before log : List Told) : Type 0 where
     SettledMerged : (word : ℕ) → word % 4 ≡ 3
         → Ends (LastDown (lasts.Popped c)) c block (Saw (Of Shared c) word ∷ before) log
         → Settled c block before log
     SettledMerging : (word : ℕ) → word % 4 ≢ 3 → Merges c block (Saw (Of Shared c) word ∷ before) log
         → Settled c block before log
-    SettledLeft : Ends (LastDown (lasts.Popped c)) c block before log → Settled c block before log

@@ -36,12 +36,9 @@ pub fn first_counts<A: Allocator>(alloc: A, cells: u32) -> Result<Vec<u32, A>, A
     ensures each { IfOk result (λ counts. (c : ℕ) → c < cells → slice_index counts.items c ≡ first_count c) }
 {
     let mut counts = Vec::new(alloc);
-    for cell in 0..cells {
-        counts.push(if cell < FIRST_MORTAL {
-            IMMORTAL_LOCAL
-        } else {
-            0
-        })?;
+    counts.resize(cells as usize, 0)?;
+    for cell in 0..FIRST_MORTAL.min(cells) {
+        counts[cell as usize] = IMMORTAL_LOCAL;
     }
     Ok(counts)
 }

@@ -70,13 +70,6 @@ impl<H: Home<A>, A: Allocator> Counter<H, A> {
         }
         // The thread's own memory comes first: what is loaded after the word's store waits for it.
         self.counts[cell as usize] = count - 1;
-        release_own(
-            table,
-            &mut self.seat,
-            &mut self.owned,
-            drop,
-            cell,
-            count,
-        )
+        release_own(table, &mut self.seat, &mut self.owned, drop, cell, count)
     }
 }

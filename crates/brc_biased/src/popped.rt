@@ -3,6 +3,8 @@
 ghost use Rattle.std.specs.Prelude.{◌≡◌, ◌<◌, ◌%◌, ◌≢◌, ◌==◌, ℕ, if◌then◌else◌, IfSome, Some, true, false};
 ghost use Rattle.law_world.specs.Lists.{bit_of};
 ghost use Rattle.law_world.specs.Steps.{is_active};
+ghost use Rattle.law_world.specs.declared.event.LastDropped.TheVariants as lasts;
+ghost use Rattle.law_world.specs.declared.event.Step.TheVariants as steps;
 ghost use Rattle.law_world.specs.declared.row.Hand.TheVariants as hands;
 ghost use Rattle.law_known.specs.declared.word.Field.TheVariants as fields;
 ghost use Rattle.law_known.specs.Going_On.{settling, taking};
@@ -13,7 +15,7 @@ ghost use Rattle.brc_table.specs.Knowing.{known_seen, entries_of};
 ghost use Rattle.brc_table.specs.Moving.{is_there};
 ghost use Rattle.brc_table.specs.Seated.{Continues};
 ghost use Rattle.brc_table.specs.Shown.{contents_of};
-ghost use Rattle.brc_biased.specs.Released.{Answers, Merges, Settled};
+ghost use Rattle.brc_biased.specs.Released.{Answers, Ends, Merges, Settled};
 ghost use Rattle.brc_biased.specs.Standing.{HasDead, Stands, KeepsPlaces};
 ghost use Rattle.brc_biased.specs.Up.{IsKnown};
 
@@ -111,7 +113,7 @@ impl<H: Home<A>, A: Allocator> Counter<H, A> {
 
         ensures heap { self.new.heap ≡ self.old.heap }
         ensures seat { Continues self.old.seat self.new.seat }
-        ensures told { Settled cell result self.old.seat.log self.new.seat.log }
+        ensures told { Ends (steps.LastDown (lasts.Popped cell)) cell result self.old.seat.log self.new.seat.log }
         ensures block { Answers self.old.heap.cells cell result self.old.seat self.new.seat }
         ensures dead { IfSome result (λ there.
             HasDead self.old.heap.cells self.new.seat.log cell (entries_in (contents_of there.1))) }

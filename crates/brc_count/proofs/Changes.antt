@@ -153,7 +153,6 @@ opening heap seat places popped (FirstNew log) slots none blank = record {
   frees = rw log refl;
   bits = λ k i is. absurd (no_bit (words_for heap.cells) k i (ap (λ ws. bit_at (word_at ws k) i) (sym blank) ∙ is));
 }
-
 opening heap seat places popped (FirstAgain t log) slots none blank = record {
   hand_is = rw log refl;
   placed = λ k. rw (log, none) refl;

@@ -38,8 +38,16 @@ module _ {A : Type 0} where
 
   pub begun : (old : FrameSeen A) → FIRST_MORTAL ≤ old.heap.cells → IsActive old → IsUnlocked old → HandsUpTo old FIRST_MORTAL old
   begun old enough active unlocked = record {
-    mortal = omega arith; inside = enough; hands = NoneYet; none = λ c mortal low. absurd (omega (arith, mortal, low));
-    heap = refl; thread = refl; active = active; unlocked = unlocked; len = refl; popped = refl;
+    mortal = omega arith;
+    inside = enough;
+    hands = NoneYet;
+    none = λ c mortal low. absurd (omega (arith, mortal, low));
+    heap = refl;
+    thread = refl;
+    active = active;
+    unlocked = unlocked;
+    len = refl;
+    popped = refl;
   }
 
   -- nothing more is counted
@@ -54,7 +62,12 @@ module _ {A : Type 0} where
           | inl below ↦ up.none c mortal below
           | inr past ↦ none c past mortal (inside c low)
         ];
-        heap = up.heap; thread = up.thread; active = up.active; unlocked = up.unlocked; len = up.len; popped = up.popped;
+        heap = up.heap;
+        thread = up.thread;
+        active = up.active;
+        unlocked = up.unlocked;
+        len = up.len;
+        popped = up.popped;
       }
 
   -- what one more handing over leaves
@@ -83,5 +96,10 @@ module _ {A : Type 0} where
             | inr higher ↦ first c higher (omega (arith, below, other)) mortal (omega (arith, below, other, low))
           ]
         ];
-        heap = next.heap ∙ up.heap; thread = next.thread ∙ up.thread; active = next.active; unlocked = next.unlocked; len = next.len ∙ up.len; popped = next.popped ∙ up.popped;
+        heap = next.heap ∙ up.heap;
+        thread = next.thread ∙ up.thread;
+        active = next.active;
+        unlocked = next.unlocked;
+        len = next.len ∙ up.len;
+        popped = next.popped ∙ up.popped;
       }

@@ -1,6 +1,8 @@
--- How a thread leaves: it closes all its queue words, deals with what was in them, and takes its dead blocks apart.
+-- How a thread leaves: it hands over what it counts, closes all its queue words, counts the entries down that were in
+-- them, and takes its dead blocks apart. And how the log of a registration begins.
 use Rattle.std.specs.Prelude.{◌≡◌, ℕ, ◌+◌, ◌-◌, ◌==◌, ◌<◌, if◌then◌else◌, true, false, List, [], ◌∷◌, Option}
-use Rattle.law_world.specs.declared.event.Step.TheVariants.{Close, Reopen, Register}
+use Rattle.law_world.specs.declared.event.LastDropped.TheVariants as lasts
+use Rattle.law_world.specs.declared.event.Step.TheVariants.{Close, Reopen, Register, LastDown}
 use Rattle.law_world.specs.declared.row.Stage.{Stage}
 use Rattle.law_world.specs.declared.row.Stage.TheVariants as stages
 use Rattle.law_world.specs.Lists.{bit_of, is_blank}
@@ -15,8 +17,7 @@ use Rattle.brc_words.specs.declared.limits.TheConstants.{FIRST_MORTAL}
 use Rattle.brc_block.specs.declared.payload.Payload.{Payload}
 use Rattle.law_rule.specs.Seen.{counts_seen}
 use Rattle.brc_count.specs.Frames.{FrameSeen, Turned, popped_seen, pushed}
-use Rattle.brc_biased.specs.Released.{HandsOver}
-use Rattle.brc_count.specs.Polling.{Deals}
+use Rattle.brc_biased.specs.Released.{Ends, HandsOver}
 
 -- where a thread stands that has closed so many of its queue words
 abbrev pub stage_with : ℕ → ℕ → Stage
@@ -31,8 +32,8 @@ pub data Opens (before : List Told) : ℕ → List Told → Type 0 where
   NoneOpened : Opens before 0 before
   Opened : (k : ℕ) (log : List Told) → Opens before k log → Opens before (k + 1) (Did (Reopen k) 0 Nothing ∷ log)
 
--- How the log of a thread begins that the root registers: a new number's with nothing, and one that was used before with
--- the root's item and all its queue words.
+-- How the log of a thread begins that the root registers: a new number's with nothing, and one that was used before
+-- with the root's item and all its queue words.
 pub data BeginsBy (n : ℕ) (root : View) (log : List Told) : Type 0 where
   BeginsNew : is_again root ≡ false → log ≡ [] → BeginsBy n root log
   BeginsAgain : is_again root ≡ true → Opens (starting root).log (words_for n) log → BeginsBy n root log
@@ -49,10 +50,18 @@ pub data Closes (before : List Told) : ℕ → List Told → Type 0 where
       → Closes before (k + 1) (Did (Close k) bits Nothing ∷ log)
 
 module _ {A : Type 0} where
-  -- A turn of a thread that has left: a popped entry is dealt with; or, where none is left, a turn of the work on dead
+  -- A popped entry of a thread that has left is counted down: its object is merged, since the thread handed over all that
+  -- it counted. If the object ends, its block is at the front of the worklist.
+  pub record CountsDown (old new : FrameSeen A) (c : ℕ) : Type 0 where
+    pub heap : new.heap ≡ old.heap
+    pub block : Option (ℕ × Payload A)
+    pub events : Ends (LastDown (lasts.Popped c)) c block old.seat.log new.seat.log
+    pub works : new.works ≡ pushed block old.works
+
+  -- A turn of a thread that has left: a popped entry is counted down; or, if none is left, a turn of the work on dead
   -- blocks.
   pub data TurnedLeaving (old new : FrameSeen A) : Type 0 where
-    EntryDealt : (c : ℕ) → bit_of (popped_seen old) c ≡ 1 → Deals old new c → TurnedLeaving old new
+    EntryDealt : (c : ℕ) → bit_of (popped_seen old) c ≡ 1 → CountsDown old new c → TurnedLeaving old new
     BlockTurned : is_blank (popped_seen old) ≡ true → Turned old new → TurnedLeaving old new
 
   -- so many turns, one after the other
@@ -63,6 +72,7 @@ module _ {A : Type 0} where
 
   -- an own object is handed over, by which it may end: then its block is at the front of the worklist
   pub record HandsOne (old new : FrameSeen A) (c : ℕ) : Type 0 where
+    pub heap : new.heap ≡ old.heap
     pub block : Option (ℕ × Payload A)
     pub told : HandsOver c block old.seat.log new.seat.log
     pub works : new.works ≡ pushed block old.works

@@ -14,6 +14,7 @@ ghost use Rattle.law_living.specs.Living.{OwnLog};
 ghost use Rattle.brc_count.specs.Frames.{IsActive, MayGiveUp, IsUnlocked, KeepsHandles, popped_seen};
 ghost use Rattle.law_world.specs.Steps.{is_left};
 ghost use Rattle.law_rule.specs.Seen.{part_seen};
+ghost use Rattle.brc_count.specs.Closing.{CountsDown};
 ghost use Rattle.brc_count.specs.Polling.{Deals, DealsBits, Drains, DrainsEach, DrainsNamed, Polled};
 
 use crate::holdings::Holdings;
@@ -125,7 +126,7 @@ impl<H: Home<A>, A: Allocator> Holdings<H, A> {
         requires left { is_left (part_seen self.old.heap.cells self.old.seat.log).row.stage ≡ true }
         requires unlocked { IsUnlocked self.old }
         ensures keeps { KeepsHandles self.old self.new }
-        ensures deals { Deals self.old self.new cell }
+        ensures counts { CountsDown self.old self.new cell }
         ensures popped { popped_seen self.new ≡ without_bit (popped_seen self.old) cell }
     {
         let answered = self.counter.settle_left(cell);
@@ -246,7 +247,7 @@ impl<H: Home<A>, A: Allocator> Holdings<H, A> {
         requires unlocked { IsUnlocked self.old }
         ensures keeps { KeepsHandles self.old self.new }
         ensures popped { bit_of (popped_seen self.old) result ≡ 1 }
-        ensures deals { Deals self.old self.new result }
+        ensures counts { CountsDown self.old self.new result }
         ensures others { (k : ℕ) → k ≢ word → word_at (popped_seen self.new) k ≡ word_at (popped_seen self.old) k }
     {
         let bit = self.lowest_bit(word);

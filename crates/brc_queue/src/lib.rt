@@ -7,4 +7,6 @@
 
 mod queue;
 
-pub use queue::{Enqueued, close_word, drain_word, enqueue, merge_add, nudge, offer, open_word, wake};
+pub use queue::{
+    Enqueued, close_word, drain_word, enqueue, merge_add, nudge, offer, open_word, wake,
+};

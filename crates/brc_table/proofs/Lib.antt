@@ -6,3 +6,4 @@ pub mod Giving
 pub mod Showing
 pub mod Wakes_Own
 pub mod Numbering
+mod Laying

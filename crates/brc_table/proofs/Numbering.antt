@@ -136,10 +136,20 @@ taken_number bits new u number entries items free is few bit_is =
       root = root_stays marks u positive free.root (nat_lt u (length marks));
       some = some_stays marks u free.some (nat_lt u (length marks));
       few = elim (cases_lt u (length marks)) [
-        | inl inside ↦ omega (arith, free.few, length-set marks u false,
-            ap (λ b. length (if b then set marks u false else marks ++ false ∷ [])) (lt-ltb u (length marks) inside))
-        | inr past ↦ omega (arith, few, low, past, length-push marks false,
-            ap (λ b. length (if b then set marks u false else marks ++ false ∷ [])) (le-ltb u (length marks) past))
+        | inl inside ↦ omega (
+          arith,
+          free.few,
+          length-set marks u false,
+          ap (λ b. length (if b then set marks u false else marks ++ false ∷ [])) (lt-ltb u (length marks) inside),
+        )
+        | inr past ↦ omega (
+          arith,
+          few,
+          low,
+          past,
+          length-push marks false,
+          ap (λ b. length (if b then set marks u false else marks ++ false ∷ [])) (le-ltb u (length marks) past),
+        )
       ];
       each = λ i small. elim (cases_eq i (u - 1)) [
         | inl same ↦ here_bit bits new now (u - 1) i 0 small (bit_is i small) same

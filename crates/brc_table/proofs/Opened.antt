@@ -48,7 +48,7 @@ if_not b x y is = ap (λ z. if z then x else y) is
 
 -- ---- words, by where they lie
 
-among_counts : (n at c part : ℕ) → c < n → part < 16 → at ≡ c * 16 + part → opening_word n at ≡ opening_count c part
+pub among_counts : (n at c part : ℕ) → c < n → part < 16 → at ≡ c * 16 + part → opening_word n at ≡ opening_count c part
 among_counts n at c part low small there =
     let cell : at / 16 ≡ c = omega (arith, small, there) in
     let of_it : at % 16 ≡ part = omega (arith, small, there) in
@@ -60,11 +60,14 @@ past_counts : (n at : ℕ) → owners_from n ≤ at → opening_word n at ≡ op
 past_counts n at high = ap (λ z. if z then opening_count (at / 16) (at % 16) else opening_else n at)
     (le-ltb at (owners_from n) high)
 
-among_owners : (n at c : ℕ) → c < n → at ≡ owners_from n + c → opening_word n at ≡ 0
-among_owners n at c low there =
-    past_counts n at (omega (arith, there))
+pub between : (n at : ℕ) → owners_from n ≤ at → at < free_from n → opening_word n at ≡ 0
+between n at past low =
+    past_counts n at past
     ∙ ap (λ z. if z then 0 else (if nat_lt at (free_from n + free_words_for n) then opening_free n
-    (at - free_from n) else 0)) (lt-ltb at (free_from n) (omega (arith, low, there)))
+    (at - free_from n) else 0)) (lt-ltb at (free_from n) low)
+
+among_owners : (n at c : ℕ) → c < n → at ≡ owners_from n + c → opening_word n at ≡ 0
+among_owners n at c low there = between n at (omega (arith, there)) (omega (arith, low, there))
 
 past_owners : (n at : ℕ) → free_from n ≤ at
     → opening_word n at ≡ (if nat_lt at (free_from n + free_words_for n) then opening_free n (at - free_from n) else 0)
@@ -73,7 +76,7 @@ past_owners n at high =
     ∙ ap (λ z. if z then 0 else (if nat_lt at (free_from n + free_words_for n) then opening_free n
     (at - free_from n) else 0)) (le-ltb at (free_from n) high)
 
-among_free : (n at k : ℕ) → k < free_words_for n → at ≡ free_from n + k → opening_word n at ≡ opening_free n k
+pub among_free : (n at k : ℕ) → k < free_words_for n → at ≡ free_from n + k → opening_word n at ≡ opening_free n k
 among_free n at k low there =
     let word : at - free_from n ≡ k = omega (arith, there) in
     past_owners n at (omega (arith, there))
@@ -81,11 +84,14 @@ among_free n at k low there =
     (lt-ltb at (free_from n + free_words_for n) (omega (arith, low, there)))
     ∙ ap (opening_free n) word
 
-past_free : (n at : ℕ) → queues_from n ≤ at → opening_word n at ≡ 0
-past_free n at high =
+pub past_words : (n at : ℕ) → free_from n + free_words_for n ≤ at → opening_word n at ≡ 0
+past_words n at high =
     past_owners n at (omega (arith, high))
     ∙ ap (λ z. if z then opening_free n (at - free_from n) else 0)
-    (le-ltb at (free_from n + free_words_for n) (omega (arith, high)))
+    (le-ltb at (free_from n + free_words_for n) high)
+
+past_free : (n at : ℕ) → queues_from n ≤ at → opening_word n at ≡ 0
+past_free n at high = past_words n at (omega (arith, high))
 
 -- ---- the opening world's words
 
@@ -174,7 +180,7 @@ opens_word n limit (NotifyWord t) enough is = past_free n (spot n (NotifyWord t)
 
 -- ---- lists
 
-length-opening_words : (n k : ℕ) → length (opening_words n k) ≡ k
+pub length-opening_words : (n k : ℕ) → length (opening_words n k) ≡ k
 length-opening_words n zero = refl
 length-opening_words n (suc k) = omega (
   arith,
@@ -185,7 +191,7 @@ length-opening_words n (suc k) = omega (
 pub wide_of : (n k : ℕ) (words : List ℕ) → words ≡ opening_words n k → length words ≡ k
 wide_of n k words are = ap length are ∙ length-opening_words n k
 
-read_word : (n k at : ℕ) → at < k → get_or (opening_words n k) at 0 ≡ opening_word n at
+pub read_word : (n k at : ℕ) → at < k → get_or (opening_words n k) at 0 ≡ opening_word n at
 read_word n zero at low = absurd (omega arith)
 read_word n (suc k) at low = read_push (λ j x. j < suc k → x ≡ opening_word n j) (opening_words n k)
     (opening_word n k) 0

@@ -7,11 +7,11 @@ ghost use Rattle.law_world.specs.Heap.{AreOptions};
 ghost use Rattle.law_known.specs.Free_Words.{free_words_for};
 ghost use Rattle.law_rule.specs.Layout.{extent as extent_of};
 ghost use Rattle.law_rule.specs.Logs.{opening_contents};
-ghost use Rattle.brc_table.specs.Opening.{bits_below, opening_free, opening_count, opening_word, opening_words};
+ghost use Rattle.brc_table.specs.Opening.{bits_below, opening_free, opening_count, opening_words};
 ghost use Rattle.brc_table.specs.Opening.{slot_shows, opening_slot, opening_slots};
 ghost use Rattle.brc_table.specs.Shown.{contents_of};
 
-use crate::layout::{bit, extent, free_from, free_words_for as free_words, owners_from};
+use crate::layout::{bit, extent, free_from, free_words_for as free_words};
 use brc_block::{Block, Pairs, Payload};
 use brc_words::{
     FEWEST_CELLS, FIRST_MORTAL, Fault, GLOBALS, IMMORTAL_LOCAL, MOST_CELLS, MOST_LOCAL,
@@ -51,49 +51,34 @@ fn opening_free(cells: u32, word: u32) -> u64
     ones(bits_below(cells, word)) - ones(bits_below(FIRST_MORTAL, word))
 }
 
-/// A word among the counts of a cell.
-fn opening_count(cell: usize, part: usize) -> u64
-    ensures { result ≡ opening_count cell part }
+/// The local word of a cell.
+fn opening_local(cell: u32) -> u64
+    ensures { result ≡ opening_count cell 0 }
 {
-    if part == 0 {
-        if cell < FIRST_MORTAL as usize {
-            u64::from(IMMORTAL_LOCAL)
-        } else {
-            0
-        }
-    } else if part == 8 {
-        1 << 42
+    if cell < FIRST_MORTAL {
+        u64::from(IMMORTAL_LOCAL)
     } else {
         0
     }
 }
 
-/// The word at a spot.
-fn opening_word(cells: u32, at: usize) -> u64
-    requires few { cells ≤ MOST_CELLS }
-    requires some { FIRST_MORTAL ≤ cells }
-    ensures { result ≡ opening_word cells at }
-{
-    let free = free_from(cells);
-    if at < owners_from(cells) {
-        opening_count(at / 16, at % 16)
-    } else if free <= at && at < free + free_words(cells) as usize {
-        opening_free(cells, (at - free) as u32)
-    } else {
-        0
-    }
-}
-
-/// All words.
+#[tactic(auto, using(crate::proofs::Laying::nothing_laid, crate::proofs::Laying::one_cell_more, crate::proofs::Laying::all_cells, crate::proofs::Laying::one_word_more, crate::proofs::Laying::all_laid, crate::proofs::Laying::cell_inside, crate::proofs::Laying::free_inside))]
+/// All words. Most are 0, so they are filled at once; what isn't 0 is stored after that.
 pub(crate) fn opening_words<A: Allocator>(alloc: A, cells: u32) -> Result<Vec<u64, A>, AllocError>
     requires few { cells ≤ MOST_CELLS }
     requires some { FIRST_MORTAL ≤ cells }
     ensures { IfOk result (λ made. made.items ≡ opening_words cells (extent_of cells)) }
 {
-    let wide = extent(cells);
-    let mut made = Vec::with_capacity(alloc, wide)?;
-    for at in 0..wide {
-        made.push(opening_word(cells, at))?;
+    let mut made = Vec::new(alloc);
+    made.resize(extent(cells), 0)?;
+    for cell in 0..cells {
+        let counts = cell as usize * 16;
+        made[counts] = opening_local(cell);
+        made[counts + 8] = 1 << 42;
+    }
+    let free = free_from(cells);
+    for word in 0..free_words(cells) {
+        made[free + word as usize] = opening_free(cells, word);
     }
     Ok(made)
 }

@@ -1,5 +1,4 @@
--- The ends of objects: SeeZero, MergeZero, and LastDown of a reference that is a place's, an entry's, or the hand's
--- after an adoption.
+-- The ends of objects: SeeZero, MergeZero, and LastDown of a reference that is a place's or an entry's.
 use Rattle.std.proofs.Common.{◌≡◌, ℕ, ◌+◌, ◌-◌, ◌<◌, ◌≤◌, ◌^◌, ◌%◌, not, true, false, pos, ◌-ℤ◌, List, length, Option}
 use Rattle.std.proofs.Common.{Some, refl, sym, ◌∙◌, ap, subst, arith}
 use Rattle.std.specs.Int.RustNames.{bit_or}

@@ -8,7 +8,7 @@
 mod laws;
 
 pub use laws::{
-    asked_references_are_queued, cells_are_used_again, objects_are_locked, objects_are_merged, objects_are_offered,
-    objects_end, others_count, owners_count, queued_references_end, queues_are_drained,
-    threads_come_and_go,
+    asked_references_are_queued, cells_are_used_again, objects_are_locked, objects_are_merged,
+    objects_are_offered, objects_end, others_count, owners_count, queued_references_end,
+    queues_are_drained, threads_come_and_go,
 };

@@ -1,6 +1,8 @@
-use Rattle.std.proofs.Common.{◌≡◌}
-use Rattle.brc_table.specs.Opening.{opening_words}
+use Rattle.brc_table.proofs.Laying.{CountsLaid, FreeLaid}
 use Rattle.brc_table.proofs.opening.opening_words.Given as goal
 
-abbrev pub invariant-loop-at : goal.invariant-loop-at
-invariant-loop-at g l = l.made.items ≡ opening_words l.cells l.at
+abbrev pub invariant-loop-cell : goal.invariant-loop-cell
+invariant-loop-cell g l = CountsLaid l.cells l.cell l.made.items
+
+abbrev pub invariant-loop-word : goal.invariant-loop-word
+invariant-loop-word g l = FreeLaid l.cells l.word l.made.items

@@ -1,10 +1,6 @@
 use Rattle.std.proofs.Common.{rules}
 use Rattle.brc_biased.proofs.Marking.{dead_settled}
-use Rattle.brc_biased.specs.Released.{SettledLeft}
 use Rattle.brc_biased.proofs.counter.Counter.settle_left.Goals as goal
-
-pub returns-clause-told : goal.returns-clause-told
-returns-clause-told g c = rw (← c.self.view_is) (SettledLeft (search rules))
 
 pub returns-clause-dead : goal.returns-clause-dead
 returns-clause-dead g c =

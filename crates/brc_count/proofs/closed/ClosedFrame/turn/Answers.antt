@@ -11,4 +11,4 @@ returns-in_default-clause-turned g c = λ is.
 pub returns-clause-turned : goal.returns-clause-turned
 returns-clause-turned g c = λ is.
     subst (λ (f : FrameSeen g.row.A.Denot). TurnedLeaving f c.settle_lowest.new.self) c.self.view_is
-    (EntryDealt c.settle_lowest.result c.settle_lowest.ensures.popped c.settle_lowest.ensures.deals)
+    (EntryDealt c.settle_lowest.result c.settle_lowest.ensures.popped c.settle_lowest.ensures.counts)

@@ -23,7 +23,9 @@ loop-from-preserved g c =
       unlocked = did.unlocked;
       len = did.len;
       popped = did.popped;
-    } in
-    (c.loop-from.invariant.0, goes_on c.args.self.now c.loop-from.self c.hand_one.new.self c.loop-from.from c.in-Some.cell c.loop-from.invariant.1 c.in-Some.ensures.some.0
-    (rw (← c.self-in-loop-from.view_is) c.in-Some.ensures.some.2) (rw (← c.self-in-loop-from.view_is) c.in-Some.ensures.some.3)
-    (rw (← c.self-in-loop-from.view_is) c.in-Some.ensures.first) next)
+    } in (
+      c.loop-from.invariant.0,
+      goes_on c.args.self.now c.loop-from.self c.hand_one.new.self c.loop-from.from c.in-Some.cell c.loop-from.invariant.1 c.in-Some.ensures.some.0
+          (rw (← c.self-in-loop-from.view_is) c.in-Some.ensures.some.2) (rw (← c.self-in-loop-from.view_is) c.in-Some.ensures.some.3)
+          (rw (← c.self-in-loop-from.view_is) c.in-Some.ensures.first) next,
+    )

@@ -24,6 +24,7 @@ invariant_of-self-in_default g c =
 pub returns-in-Some-clause-hands : goal.returns-in-Some-clause-hands
 returns-in-Some-clause-hands g c =
     rw (← c.self.view_is) record {
+      heap = c.hand_on-answered.ensures.heap;
       block = c.hand_on-answered.result;
       told = c.hand_on-answered.ensures.told;
       works = c.push.ensures ∙ ap (λ b. pushed b c.self.inside.works) (sym c.in-Some.is);
@@ -32,6 +33,7 @@ returns-in-Some-clause-hands g c =
 pub returns-in_default-clause-hands : goal.returns-in_default-clause-hands
 returns-in_default-clause-hands g c =
     rw (← c.self.view_is) record {
+      heap = c.hand_on-answered.ensures.heap;
       block = c.hand_on-answered.result;
       told = c.hand_on-answered.ensures.told;
       works = ap (λ b. pushed b c.self.inside.works) (sym c.in_default.is);

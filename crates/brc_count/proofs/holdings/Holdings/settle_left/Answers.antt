@@ -28,8 +28,8 @@ invariant_of-self-in_default g c =
     (subst IsUnlocked (sym c.self.view_is) c.requires.unlocked) in
     rw (up.heap, c.strike.ensures) (rw c.in_default.is at all)
 
-pub returns-in-Some-clause-deals : goal.returns-in-Some-clause-deals
-returns-in-Some-clause-deals g c =
+pub returns-in-Some-clause-counts : goal.returns-in-Some-clause-counts
+returns-in-Some-clause-counts g c =
     rw (← c.self.view_is) record {
       heap = c.settle_left-answered.ensures.heap;
       block = c.settle_left-answered.result;
@@ -37,8 +37,8 @@ returns-in-Some-clause-deals g c =
       works = c.push.ensures ∙ ap (λ b. pushed b c.self.inside.works) (sym c.in-Some.is);
     }
 
-pub returns-in_default-clause-deals : goal.returns-in_default-clause-deals
-returns-in_default-clause-deals g c =
+pub returns-in_default-clause-counts : goal.returns-in_default-clause-counts
+returns-in_default-clause-counts g c =
     rw (← c.self.view_is) record {
       heap = c.settle_left-answered.ensures.heap;
       block = c.settle_left-answered.result;
