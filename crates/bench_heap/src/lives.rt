@@ -97,6 +97,7 @@ fn handles_for(case: Case) -> u64 {
         Case::ClaimFull | Case::ClaimFullNear => NEARLY_ALL as u64,
         Case::NewInt | Case::NewIntApart | Case::NewText16 | Case::NewText16Apart => 0,
         Case::Chain | Case::MakeChain | Case::MakeChainNear | Case::Wide => 0,
+        Case::ThreadLife { .. } | Case::Leave { .. } => 0,
     }
 }
 

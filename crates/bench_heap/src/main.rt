@@ -10,6 +10,7 @@ mod containers;
 mod deaths;
 mod dicts;
 mod globals;
+mod leavers;
 mod letters;
 mod lists;
 mod lives;

@@ -1,5 +1,7 @@
 //! The lines that the program answers.
 
+use crate::lives::CELLS;
+
 /// What an operation is.
 #[derive(Clone, Copy, Debug, PartialEq, Eq)]
 pub enum Case {
@@ -47,11 +49,18 @@ pub enum Case {
     ClaimFull,
     /// The same, where each claim begins near the last one.
     ClaimFullNear,
+    /// A thread is registered, puts so many integers into the globals of a heap of so many cells, leaves and is gathered.
+    ThreadLife { objects: u32, cells: u32 },
+    /// A thread leaves that owns so many integers, which the globals hold.
+    Leave { objects: u32 },
 }
+
+/// The least heap, which has 246 cells for objects.
+const FEW_CELLS: u32 = 512;
 
 /// The names of the cases.
 pub const CASES: &str =
-    "pair_own pair_own8 pair_own256 pair_shared pair_foreign new_int new_text16 new_list10 new_int_apart new_text16_apart new_list10_apart list list_shared dict dict4 mail chain make_chain make_chain_near wide claim_full claim_full_near";
+    "pair_own pair_own8 pair_own256 pair_shared pair_foreign new_int new_text16 new_list10 new_int_apart new_text16_apart new_list10_apart list list_shared dict dict4 mail chain make_chain make_chain_near wide claim_full claim_full_near thread_life0 thread_life1 thread_life200 thread_life0_large thread_life1_large thread_life1000_large leave10000";
 
 /// What a line asks for.
 #[derive(Clone, Copy, Debug, PartialEq, Eq)]
@@ -62,6 +71,11 @@ pub enum Request {
     Run { case: Case, threads: u32, n: u64 },
     /// What all threads together have made and given back after such a run.
     Count { case: Case, threads: u32, n: u64 },
+}
+
+/// The life of a thread that shares so many integers, in a heap of so many cells.
+fn life(objects: u32, cells: u32) -> Option<Case> {
+    Some(Case::ThreadLife { objects, cells })
 }
 
 /// The case of this name.
@@ -89,6 +103,13 @@ fn case_of(name: &str) -> Option<Case> {
         "wide" => Some(Case::Wide),
         "claim_full" => Some(Case::ClaimFull),
         "claim_full_near" => Some(Case::ClaimFullNear),
+        "thread_life0" => life(0, FEW_CELLS),
+        "thread_life1" => life(1, FEW_CELLS),
+        "thread_life200" => life(200, FEW_CELLS),
+        "thread_life0_large" => life(0, CELLS),
+        "thread_life1_large" => life(1, CELLS),
+        "thread_life1000_large" => life(1_000, CELLS),
+        "leave10000" => Some(Case::Leave { objects: 10_000 }),
         _ => None,
     }
 }

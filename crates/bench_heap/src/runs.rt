@@ -4,6 +4,7 @@ ghost use Rattle.std.specs.Prelude.{◌≡◌, IfOk};
 ghost use Rattle.std.specs.List.{All};
 
 use crate::globals::Giving;
+use crate::leavers::{Timing, clears, times_of_lives};
 use crate::letters::{Post, SENDERS};
 use crate::lives::{Asked, CELLS, Timed};
 use crate::request::Case;
@@ -114,7 +115,46 @@ fn threads_of(case: Case, threads: u32) -> u32 {
         Case::Mail => SENDERS + 1,
         Case::Chain | Case::MakeChain | Case::MakeChainNear | Case::Wide => 1,
         Case::ClaimFull | Case::ClaimFullNear => 1,
+        Case::ThreadLife { .. } | Case::Leave { .. } => 1,
         _ => threads,
+    }
+}
+
+/// Runs lives of threads on this heap, one after the other; one thread more clears up after them.
+fn answer_of_lives<R: Wait + Clock + CpuClock>(
+    rt: &R,
+    alloc: Global,
+    heap: &Heap<Global>,
+    root: &mut Root<Global>,
+    timing: Timing,
+    objects: u32,
+    n: u64,
+) -> io::Result<Answer>
+    requires heap { root.old.table ≡ heap.now.table }
+    ensures root { root.new.table ≡ root.old.table }
+{
+    let times = times_of_lives(rt, alloc, heap, root, timing, objects, n)?;
+    match clears(rt, alloc, heap, root) {
+        None => Err(refused()),
+        Some(()) => {
+            let ledger = root.ledger();
+            Ok(Answer {
+                times,
+                allocs: ledger.allocs,
+                frees: ledger.frees,
+            })
+        }
+    }
+}
+
+/// How many cells the heap of a case has.
+fn cells_of(case: Case) -> u32 {
+    match case {
+        Case::ThreadLife {
+            objects: _objects,
+            cells,
+        } => cells,
+        _ => CELLS,
     }
 }
 
@@ -127,7 +167,7 @@ pub fn run_case<R: Threads + Wait + Clock + CpuClock + Sync>(
     n: u64,
 ) -> io::Result<Answer> {
     let options = Options {
-        cells: CELLS,
+        cells: cells_of(case),
         local_limit: 4_294_967_294,
     };
     let asked = Asked {
@@ -140,7 +180,15 @@ pub fn run_case<R: Threads + Wait + Clock + CpuClock + Sync>(
         Err(_) => Err(refused()),
         Ok((heap, root)) => {
             let mut root = root;
-            let answer = answer_on(rt, alloc, &heap, &mut root, asked);
+            let answer = match case {
+                Case::ThreadLife { objects, .. } => {
+                    answer_of_lives(rt, alloc, &heap, &mut root, Timing::Lives, objects, n)
+                }
+                Case::Leave { objects } => {
+                    answer_of_lives(rt, alloc, &heap, &mut root, Timing::Leaving, objects, n)
+                }
+                _ => answer_on(rt, alloc, &heap, &mut root, asked),
+            };
             give_back(take_apart(heap, root));
             answer
         }

@@ -40,6 +40,20 @@ pub struct Times {
     pub cpu: u128,
 }
 
+impl Times {
+    /// Nothing was timed.
+    pub const NONE: Times = Times { wall: 0, cpu: 0 };
+
+    /// With those of one span more, which came after the others.
+    pub fn and(self, span: Span) -> Times {
+        let more = times_of(&[span]);
+        Times {
+            wall: self.wall.wrapping_add(more.wall),
+            cpu: self.cpu.wrapping_add(more.cpu),
+        }
+    }
+}
+
 /// The times of all threads together.
 pub fn times_of(spans: &[Span]) -> Times {
     let mut first = None;

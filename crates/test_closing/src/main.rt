@@ -1,5 +1,5 @@
 //! Heaps that are closed, and their reports: a list that holds itself, a text that the globals hold, globals that are
-//! cleared, a thread that nobody gathered, and a report for which memory is wanting.
+//! cleared, threads that nobody gathered, and a report for which memory is wanting.
 #![tactic(auto)]
 
 mod lives;
@@ -31,11 +31,14 @@ fn report_of<A: Allocator + Copy>(
     closed(memories.scarce, heap, root).ok()
 }
 
-/// How many threads were registered, and how many gathered, of a heap that one of two threads left without the root.
-fn missing<A: Allocator + Copy>(rt: &impl Wait, alloc: A) -> Option<(u32, u32)> {
+/// How many threads were registered, and how many gathered, of a heap that so many left with the root, one after the
+/// other, and one more without it. All of them bear number 1.
+fn missing<A: Allocator + Copy>(rt: &impl Wait, alloc: A, ends: u32) -> Option<(u32, u32)> {
     let (heap, mut root) = Heap::new(alloc, SIZES).ok()?;
-    if let Ok(mutator) = root.register(alloc, &heap) {
-        let _ledger = mutator.end(rt, &mut root, &heap);
+    for _ in 0..ends {
+        if let Ok(mutator) = root.register(alloc, &heap) {
+            let _ledger = mutator.end(rt, &mut root, &heap);
+        }
     }
     if let Ok(mutator) = root.register(alloc, &heap) {
         let _retired = mutator.retire(rt);
@@ -87,8 +90,10 @@ fn main(rt: HostRuntime) -> io::Result<()> {
     shows(&rt, "a text that the globals hold", report)?;
     let report = report_of(&rt, memories, Life::ClearsUp);
     shows(&rt, "globals that are cleared", report)?;
-    let missing = missing(&rt, rt.alloc());
-    println!(rt; "registered and gathered: {missing:?}")?;
+    for ends in 1..3 {
+        let missing = missing(&rt, rt.alloc(), ends);
+        println!(rt; "registered and gathered: {missing:?}")?;
+    }
     let refused = is_refused_first(&rt, rt.alloc());
     println!(rt; "refused for want of memory, and had with more: {refused}")
 }

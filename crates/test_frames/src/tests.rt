@@ -7,6 +7,7 @@ mod limits;
 mod lists;
 mod makers;
 mod many;
+mod numbers;
 mod opening;
 mod phases;
 mod readings;

@@ -136,6 +136,10 @@ abbrev pub shared_log : ℕ → List Told
 shared_log thread =
     changed_log 1 held.Nothing (held.One (pos 1) 266) (changes.Put 0) (globals_log 1 (born_log thread))
 
+-- and has let the globals go, so that it has nothing any more
+abbrev pub given_log : ℕ → List Told
+given_log thread = Did (LocalDown (dropped.Frame 1)) 4294967295 moves.Nothing ∷ shared_log thread
+
 -- it has taken the list out again
 abbrev pub taken_back_log : ℕ → List Told
 taken_back_log thread =

@@ -1,6 +1,7 @@
 //! Counting through a counter: an owner's references from the birth to the end, below its limit and at it.
 
-ghost use Rattle.std.specs.Prelude.{◌≡◌, ◌<◌, ℕ, [], length, slice_index};
+ghost use Rattle.std.specs.Prelude.{◌≡◌, ◌<◌, ℕ, [], length, replicate, slice_index};
+ghost use Rattle.law_world.specs.Heap.{words_for};
 ghost use Rattle.law_world.specs.declared.event.Dropped.TheVariants as drops;
 ghost use Rattle.brc_table.specs.Seated.{Continues};
 ghost use Rattle.brc_biased.specs.Counter.{first_count};
@@ -9,7 +10,7 @@ ghost use Rattle.test_table.specs.Parts.{seven_log};
 
 use crate::comparing::is;
 use crate::helpers::{alive, ends, opened};
-use brc_biased::{Counter, Home, first_counts};
+use brc_biased::{Counter, Home, first_counts, no_bits};
 use brc_block::{Block, Payload};
 use brc_words::Kind;
 use law_world::{Dropped, Source};
@@ -23,6 +24,16 @@ fn counts_of<A: Allocator>(rt: &impl Abort, alloc: A, cells: u32) -> Vec<u32, A>
 {
     match first_counts(alloc, cells) {
         Ok(counts) => counts,
+        Err(_) => panic!(rt; "memory"),
+    }
+}
+
+/// The owned bits of a thread that owns nothing, or the end of the test.
+fn bits_of<A: Allocator>(rt: &impl Abort, alloc: A, cells: u32) -> Vec<u64, A>
+    ensures { result.items ≡ replicate (words_for cells) 0 }
+{
+    match no_bits(alloc, cells) {
+        Ok(bits) => bits,
         Err(_) => panic!(rt; "memory"),
     }
 }
@@ -89,8 +100,9 @@ fn for_owner<R: Abort + AllocGlobal>(rt: &R, local_limit: u32, run: &impl OfOwne
     let (table, root) = opened(rt, rt.alloc(), local_limit);
     let mut root = root;
     let counts = counts_of(rt, rt.alloc(), table.cells());
+    let owned = bits_of(rt, rt.alloc(), table.cells());
     let seat = table.split(&mut root);
-    let mut counter = Counter::new(&table, seat, counts);
+    let mut counter = Counter::new(&table, seat, counts, owned);
     makes_seven(rt, rt.alloc(), &mut counter);
     run.run(rt, &mut counter);
     let (_table, seat) = counter.into_parts();

@@ -11,8 +11,8 @@ ghost use Rattle.brc_table.specs.Seated.{Continues};
 ghost use Rattle.test_table.specs.declared.globals.Held.TheVariants as held;
 ghost use Rattle.test_table.specs.Parts.{StandsAt, Went, HasPopped, MayFree, globals_with, globals_log, locked_log};
 ghost use Rattle.test_table.specs.Parts.{changed_log, more_log, asked_log, enqueued_log, seen_log, added_log};
-ghost use Rattle.test_table.specs.Parts.{last_shared, born_log, shared_log, taken_back_log, merged_log, kept_log};
-ghost use Rattle.test_table.specs.Parts.{shared_twice_log, counted_log, taken_log};
+ghost use Rattle.test_table.specs.Parts.{last_shared, born_log, shared_log, given_log, taken_back_log, merged_log};
+ghost use Rattle.test_table.specs.Parts.{kept_log, shared_twice_log, counted_log, taken_log};
 
 use crate::comparing::is;
 use crate::globals::Held;
@@ -157,6 +157,16 @@ pub(crate) fn shares_a_list(rt: &impl Abort, alloc: Global, table: &Table, seat:
     let list = Held::One { key: 1, cell: 266 };
     let put = Change::Put(0);
     changes_globals(rt, alloc, table, seat, 1, Held::Nothing, list, put);
+}
+
+/// It makes a list, puts it into the globals, and has nothing any more.
+pub(crate) fn gives_a_list(rt: &impl Abort, alloc: Global, table: &Table, seat: &mut Seat)
+    requires new { StandsAt [] table.now seat.old }
+    ensures went { Went (given_log seat.old.thread) seat.old seat.new }
+{
+    shares_a_list(rt, alloc, table, seat);
+    let found = table.immortal_down(seat, Dropped::Frame(1), 265);
+    is(rt, found, 4_294_967_295);
 }
 
 /// It makes a list, has it twice, and has the globals in place 2.

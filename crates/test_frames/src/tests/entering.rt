@@ -1,7 +1,7 @@
 //! A thread that has too little memory to enter, with a bit more each time until it enters.
 
 use crate::tests::phases::{ends, entered, leaves, opened};
-use brc_biased::first_counts;
+use brc_biased::{first_counts, no_bits};
 use brc_count::Frame;
 use brc_words::Fault;
 use bumpalo::Bump;
@@ -54,28 +54,28 @@ fn enters_with(rt: &impl Abort, alloc: Global, bytes: usize) -> bool {
     enters(rt, memories)
 }
 
-/// Whether the counts of a thread are had from so much memory.
-fn counts_with(rt: &impl Abort, alloc: Global, bytes: usize) -> bool {
+/// How many of a thread's growths are had from so much memory, before that of its popped words: those of its counts,
+/// and that of its owned bits.
+fn had_with(rt: &impl Abort, alloc: Global, bytes: usize) -> usize {
     let scarce = an_arena(rt, alloc, bytes);
-    first_counts(&scarce, 512).is_ok()
+    let Ok(_counts) = first_counts(&scarce, 512) else {
+        return 0;
+    };
+    if no_bits(&scarce, 512).is_ok() { 2 } else { 1 }
 }
 
-/// The local counts are had as a thread enters, and then the popped words: each growth of both is refused with some
-/// memory.
+/// The local counts are had as a thread enters, then the owned bits, and then the popped words: each growth of them is
+/// refused with some memory.
 #[test]
 fn a_thread_without_memory_is_not_registered(rt: HostRuntime) {
-    let (mut no_counts, mut no_words) = (false, false);
+    let mut refused = [false; 3];
     for size in 0..1_000usize {
         let bytes = size * 16;
         if enters_with(&rt, rt.alloc(), bytes) {
-            assert!(rt; no_counts && no_words);
+            assert!(rt; refused[0] && refused[1] && refused[2]);
             return;
         }
-        if counts_with(&rt, rt.alloc(), bytes) {
-            no_words = true;
-        } else {
-            no_counts = true;
-        }
+        refused[had_with(&rt, rt.alloc(), bytes)] = true;
     }
     panic!(rt; "no thread enters");
 }

@@ -1,18 +1,18 @@
-//! Refusals of a heap, of its root, and of a thread that leaves.
+//! Refusals of a heap, and of a thread that leaves.
 
 ghost use Rattle.std.specs.Prelude.{◌≡◌};
 ghost use Rattle.brc_count.specs.Frames.{IsUnlocked};
 
 use crate::tests::phases::ends;
 use brc_biased::Home;
-use brc_thread::{Heap, Mutator, Options, Root, take_apart};
+use brc_thread::{Heap, Mutator, Options, take_apart};
 use brc_words::Fault;
 use std::alloc::{Allocator, Global};
 use std::process::Abort;
 use std::sync::Wait;
 
 /// The least heap.
-const LEAST: Options = Options {
+pub(super) const LEAST: Options = Options {
     cells: 512,
     local_limit: 1,
 };
@@ -32,33 +32,6 @@ fn sizes_out_of_range_are_refused(rt: HostRuntime) {
     assert!(rt; is_refused(&rt, rt.alloc(), 65_537, 1));
     assert!(rt; is_refused(&rt, rt.alloc(), 512, 0));
     assert!(rt; is_refused(&rt, rt.alloc(), 512, 4_294_967_295));
-}
-
-/// Whether no thread more is registered.
-fn is_full(rt: &impl Abort, alloc: Global, heap: &Heap<Global>, root: &mut Root<Global>) -> bool
-    requires heap { root.old.table ≡ heap.now.table }
-    ensures root { root.new.table ≡ root.old.table }
-{
-    match root.register(alloc, heap) {
-        Err(fault) => fault == Fault::TooManyThreads,
-        Ok(mutator) => {
-            let _resting = mutator.rest();
-            panic!(rt; "a thread too many")
-        }
-    }
-}
-
-#[test]
-fn no_more_than_64_threads_are_registered(rt: HostRuntime) {
-    let (heap, mut root) = Heap::new(rt.alloc(), LEAST).expect(&rt, "no heap can be had");
-    for thread in 0..64u32 {
-        // At rest it can be dropped: none of them ever wakes.
-        let mutator = root.register(rt.alloc(), &heap);
-        let resting = mutator.expect(&rt, "a thread is refused").rest();
-        assert_eq!(rt; resting.thread(), thread + 1);
-    }
-    assert!(rt; is_full(&rt, rt.alloc(), &heap, &mut root));
-    ends(&rt, take_apart(heap, root));
 }
 
 /// A thread that holds a handle doesn't leave; once it is released, it does.

@@ -26,12 +26,13 @@ fn opens(rt: &impl Abort, memory: &LocalHeap) -> bool {
     }
 }
 
-/// The first thread is registered, and ends.
+/// Thread 1 is registered, after so many that bore its number, and ends. Where it is refused, the root is as it was.
 fn is_registered<R: Abort + Wait, A: Allocator + Copy>(
     rt: &R,
     memory: A,
     heap: &Heap<A>,
     root: &mut Root<A>,
+    before: u32,
 ) -> bool
     requires heap { root.old.table ≡ heap.now.table }
     ensures root { root.new.table ≡ root.old.table }
@@ -44,19 +45,34 @@ fn is_registered<R: Abort + Wait, A: Allocator + Copy>(
         }
         Err(fault) => {
             assert_eq!(rt; fault, Fault::OutOfMemory);
-            assert_eq!(rt; (root.next(), root.registered()), (1, 0));
+            assert_eq!(rt; (root.next(), root.registered(), root.gathered()), (1, before, before));
             false
         }
     }
 }
 
-/// Whether a thread is registered that has scarce memory. If it isn't, the root is as it was, and the next thread is
-/// the first.
-fn registers<R: Abort + Wait, A: Allocator + Copy>(rt: &R, memories: Memories<A>) -> bool {
+/// Whether a thread is registered that has scarce memory, after so many that bore its number. If it isn't, the next
+/// thread bears that number.
+fn registers<R: Abort + Wait, A: Allocator + Copy>(
+    rt: &R,
+    memories: Memories<A>,
+    before: u32,
+) -> bool {
     let (heap, mut root) = Heap::new(memories.ample, SMALL).expect(rt, "no heap can be had");
-    let registers = is_registered(rt, memories.scarce, &heap, &mut root);
-    assert!(rt; registers || is_registered(rt, memories.ample, &heap, &mut root));
+    for earlier in 0..before {
+        assert!(rt; is_registered(rt, memories.ample, &heap, &mut root, earlier));
+    }
+    let registers = is_registered(rt, memories.scarce, &heap, &mut root, before);
+    assert!(rt; registers || is_registered(rt, memories.ample, &heap, &mut root, before));
     give_back(take_apart(heap, root));
+    registers
+}
+
+/// The same on a heap of its own, and whether a thread is registered there with memory of this size.
+fn registers_with(rt: &(impl Abort + Wait), alloc: Global, size: usize, before: u32) -> bool {
+    let heaps = Heaps::new(alloc, 1 << 18, size).expect(rt, "memory");
+    let registers = registers(rt, heaps.memories(), before);
+    assert_eq!(rt; heaps.used(), (0, 0));
     registers
 }
 
@@ -76,18 +92,19 @@ fn a_heap_without_memory_is_not_opened(rt: HostRuntime) {
     assert!(rt; refused > 300 && opened > 10);
 }
 
-/// The same of a registration.
+/// The same of a registration, of a new number and of one that was used before: its thread opens its queue words, which
+/// takes no memory, so the two are refused at the same sizes.
 #[test]
 fn a_thread_without_memory_is_refused(rt: HostRuntime) {
     let (mut refused, mut registered) = (0u32, 0u32);
     for size in 1..400usize {
-        let heaps = Heaps::new(rt.alloc(), 1 << 18, size * 16).expect(&rt, "memory");
-        if registers(&rt, heaps.memories()) {
+        let is_registered = registers_with(&rt, rt.alloc(), size * 16, 0);
+        assert_eq!(rt; registers_with(&rt, rt.alloc(), size * 16, 1), is_registered);
+        if is_registered {
             registered = registered.wrapping_add(1);
         } else {
             refused = refused.wrapping_add(1);
         }
-        assert_eq!(rt; heaps.used(), (0, 0));
     }
     assert!(rt; refused > 100 && registered > 10);
 }

@@ -1,9 +1,10 @@
 //! What the worked runs share: a table that opens, a frame that is entered, a thread that leaves, and a heap's end.
 
-ghost use Rattle.std.specs.Prelude.{◌≡◌, ◌≤◌, []};
-ghost use Rattle.brc_words.specs.declared.limits.TheConstants.{MOST_THREADS};
-ghost use Rattle.law_steps.specs.Joining.{next_thread, registering};
+ghost use Rattle.std.specs.Prelude.{◌≡◌, ◌<◌, ◌≤◌};
+ghost use Rattle.brc_words.specs.declared.limits.TheConstants.{MOST_REGISTRATIONS, MOST_THREADS};
+ghost use Rattle.law_steps.specs.Joining.{next_thread, registering, registrations};
 ghost use Rattle.law_rule.specs.Opening.{first_view};
+ghost use Rattle.brc_count.specs.Closing.{BeginsBy};
 ghost use Rattle.brc_count.specs.Frames.{IsUnlocked};
 
 use brc_biased::Home;
@@ -49,9 +50,10 @@ pub(super) fn entered<H: Home<A> + Drop, A: Allocator + Copy>(
 ) -> Frame<H, A>
     requires table { root.old.table ≡ (H.seen heap).table }
     requires few { next_thread root.old.view ≤ MOST_THREADS }
+    requires more { registrations root.old.view < MOST_REGISTRATIONS }
     ensures heap { result.heap ≡ H.seen heap }
     ensures thread { result.seat.thread ≡ next_thread root.old.view }
-    ensures new { result.seat.log ≡ [] }
+    ensures begins { BeginsBy result.heap.cells root.old.view result.seat.log }
     ensures bare { result.len ≡ 0 }
     ensures unlocked { IsUnlocked result }
     ensures told { root.new.view ≡ registering root.old.view }

@@ -1,5 +1,5 @@
-//! Deaths and an asked owner while no memory is left: what a call gives back is taken at once, so that a release, a
-//! poll, turns of work and all that a thread does on its way out take none.
+//! Deaths, an asked owner and a hand-over while no memory is left: what a call gives back is taken at once, so that a
+//! release, a poll, turns of work and all that a thread does on its way out take none.
 
 ghost use Rattle.brc_count.specs.Frames.{IsUnlocked, Owns};
 ghost use Rattle.brc_count.specs.Owned.{GoesOn};
@@ -233,5 +233,52 @@ fn asks_on_a_heap<'h>(rt: &(impl Abort + Wait), alloc: Global, memory: &'h Local
 fn asked_owners_take_no_memory(rt: HostRuntime) {
     let memory = LocalHeap::new(rt.alloc(), 1 << 18).expect(&rt, "memory");
     asks_on_a_heap(&rt, rt.alloc(), &memory);
+    assert_eq!(rt; memory.used(), 0);
+}
+
+/// So many new lists of the maker's pass to the other thread, one in each cell from 266 on.
+fn passes_lists<R: Abort + Wait, H: Home<A>, A: Allocator + Copy>(
+    rt: &R,
+    alloc: A,
+    maker: &mut Frame<H, A>,
+    other: &mut Frame<H, A>,
+    kept: &mut Handles<A>,
+    lists: u32,
+)
+    requires maker { IsUnlocked maker.old }
+    requires other { OwnsAll other.old kept.old }
+    ensures maker { GoesOn maker.old maker.new }
+    ensures other { OwnsAll other.new kept.new }
+    ensures heap { other.new.heap ≡ other.old.heap }
+{
+    for list in 0..lists {
+        let cell = hands_over(rt, alloc, maker, other, kept, 1);
+        assert_eq!(rt; cell, list.wrapping_add(266));
+    }
+}
+
+/// A thread leaves, without memory, while another one holds its lists: they are nobody's then, and the other frees them.
+fn hands_over_on_a_heap<'h>(rt: &(impl Abort + Wait), alloc: Global, memory: &'h LocalHeap) {
+    let (table, mut root) = opened_with(rt, memory, 512);
+    let mut maker = entered(rt, memory, &table, &mut root);
+    let mut other = entered(rt, memory, &table, &mut root);
+    let mut kept = Handles::new(memory);
+    passes_lists(rt, memory, &mut maker, &mut other, &mut kept, 100);
+    let mut starving = Starving::new(alloc, memory);
+    starving.starve(rt);
+    let left = leaves_late(rt, &table, &mut root, maker, 0);
+    says(rt, left, (100, 0));
+    starving.starve(rt);
+    kept.release_all(&mut other);
+    takes_turns(rt, &mut starving, &mut other, 100);
+    says(rt, other.ledger(), (0, 100));
+    leaves(rt, &table, &mut root, other);
+    ends(rt, table.take_apart(root));
+}
+
+#[test]
+fn a_hand_over_takes_no_memory(rt: HostRuntime) {
+    let memory = LocalHeap::new(rt.alloc(), 1 << 18).expect(&rt, "memory");
+    hands_over_on_a_heap(&rt, rt.alloc(), &memory);
     assert_eq!(rt; memory.used(), 0);
 }
