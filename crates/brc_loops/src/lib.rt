@@ -3,7 +3,7 @@
 //! With a frame: a task is repeated (`repeat`), a handle goes from turn to turn (`pass_on`), many handles are had
 //! (`fill`), and something is waited for (`wait_for`). With threads: so many are registered and rest (`rest_more`), each
 //! lives on a thread of the machine (`run_all`), and the root gathers them (`gather_all`). These three can be called
-//! again and again, since the number of a gathered thread is given again. What is done at each turn is the client's, by
+//! over and over, since the number of a gathered thread is given again. What is done at each turn is the client's, by
 //! a trait, whose contract has what the loop needs; an `impl` repeats no clause of it.
 //!
 //! What a turn needs of the frame is the trait's `ready`, and each `impl` shows that it is so after a turn too: mostly

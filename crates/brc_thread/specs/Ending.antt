@@ -28,11 +28,11 @@ module _ {A : Type 0} where
   -- steps are its log, and those of each thread that was gathered are the log that the root took in: it has one for
   -- each registration that ended, and each item of a thread stands in one of them or in its seat's, once and in its
   -- order. What that world counts for a registered number is the ledger of its last registration, which `Retired`
-  -- answers; for the root it counts nothing. What earlier registrations of a number count is the world's past. How many
-  -- registrations there were, how many numbers were used, and which of these are gathered is told by the root's log: all
-  -- are, if it has gathered as often as it has registered. If all are gathered, what their logs count, added up, is what
-  -- that world counts, its past and its numbers together. The blocks that are left are then those of all live objects
-  -- and immortals, each with what was put home there last.
+  -- answers; for the root it counts nothing. What earlier registrations of a number count is the world's past. The
+  -- root's log tells how many registrations there were, how many numbers were used, and which of these are gathered:
+  -- all are, if it has gathered as often as it has registered. If all are gathered, what their logs count, added up, is
+  -- what that world counts, its past and its numbers together. The blocks that are left are then those of all live
+  -- objects and immortals, each with what was put home there last.
   pub record Ends (n limit id : ℕ) (root : View) (slots : List (Option (ℕ × Payload A))) : Type 0 where
     pub remains : Remains n limit id root slots
     pub reached : IsReached (world n limit remains.kept.run)

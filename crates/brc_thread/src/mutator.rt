@@ -144,9 +144,9 @@ impl<H: Home<A>, A: Allocator> Mutator<H, A> {
         self.frame.work(budget)
     }
 
-    /// Leaves. Each object that it owns is handed over, by rising cell: it has no owner any more, and its count is the
-    /// shared one. Then the queue words are closed, by rising number. It takes no memory. A mutator that isn't idle, with
-    /// a handle or a dead block, is answered as it was.
+    /// Leaves. Each object that it owns is handed over, by rising cell: the object has no owner any more, and its count
+    /// is the shared one. Then the queue words are closed, by rising number. It takes no memory. A mutator that isn't
+    /// idle, with a handle or a dead block, is answered as it was.
     pub fn leave(self) -> Result<Leaving<H, A>, Mutator<H, A>>
         requires unlocked { IsUnlocked self }
         ensures heap { IfOk result (λ leaving. leaving.heap ≡ self.heap) }

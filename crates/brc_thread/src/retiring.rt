@@ -38,7 +38,7 @@ impl<H: Home<A> + Drop, A: Allocator> Leaving<H, A> {
 }
 
 impl<H: Home<A> + Drop, A: Allocator> Mutator<H, A> {
-    /// The thread ends: it settles, leaves, by which it hands over what it owns, and deals with what is left. It needs no
+    /// The thread ends: it settles, leaves, which hands over what it owns, and deals with what is left. It needs no
     /// root, so any thread of the machine can end so; `Root::gather` takes in what comes out. It takes no memory.
     pub fn retire(self, rt: &impl Wait) -> Retired<A>
         requires bare { self.len ≡ 0 }

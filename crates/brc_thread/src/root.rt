@@ -105,7 +105,8 @@ impl<A: Allocator> Root<A> {
         self.ledger
     }
 
-    /// Takes a thread in that is done. What it did is the root's to know from now on, and its number can be given again.
+    /// Takes a thread in that is done. What it did is the root's to know from now on, and its number is free for
+    /// another.
     pub fn gather(&mut self, heap: &Heap<A>, retired: Retired<A>)
         requires heap { self.old.table ≡ heap.now.table }
         requires same_heap { retired.heap ≡ heap.now }
