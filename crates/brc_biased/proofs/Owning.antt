@@ -1,22 +1,68 @@
 -- What the owned bits say of the counts, and how they go on saying it.
-use Rattle.std.proofs.Common.{◌≡◌, ◌≢◌, ℕ, ◌+◌, ◌-◌, ◌*◌, ◌/◌, ◌%◌, ◌^◌, ◌<◌, ◌≤◌, Bool, if◌then◌else◌, List, length}
+use Rattle.std.proofs.Common.{◌≡◌, ◌≢◌, ℕ, ◌+◌, ◌-◌, ◌*◌, ◌/◌, ◌%◌, ◌^◌, ◌<◌, ◌≤◌, ◌==◌, Bool, true, if◌then◌else◌, List, length}
 use Rattle.std.proofs.Common.{set, replicate, slice_index, inl, inr, refl, sym, ◌∙◌, ap, arith}
 use Rattle.std.specs.Int.{bit_at}
-use Rattle.std.proofs.lemmas.Bool.{cases_eq, cases_lt, le-ltb}
-use Rattle.std.proofs.lemmas.List.{get_or-set_same, get_or-set_other, length-replicate}
+use Rattle.std.proofs.lemmas.Bool.{cases_eq, cases_lt, eq-eqb, ne_eqb, lt-ltb, le-ltb}
+use Rattle.std.proofs.lemmas.List.{get_or-set_same, get_or-set_other, length-set, length-replicate}
 use Rattle.std.proofs.lemmas.Nat.{shr-shr}
 use Rattle.std.proofs.lemmas.Nat.Bits.{bit_at-zero}
 use Rattle.brc_words.specs.declared.limits.TheConstants.{FIRST_MORTAL, IMMORTAL_LOCAL}
 use Rattle.law_world.specs.Heap.{words_for}
 use Rattle.law_world.specs.Lists.{bit_of, word_at, with_bit, without_bit}
 use Rattle.law_world.proofs.Bitwise.{with_bit_here, with_bit_else, length-with_bit, without_bit_else, length-without_bit}
-use Rattle.brc_biased.specs.Counter.{AreOwned, first_count}
+use Rattle.law_rule.specs.declared.told.Told.{Told}
+use Rattle.law_world.specs.Steps.{is_active}
+use Rattle.law_rule.specs.Seen.{part_seen, counts_seen}
+use Rattle.brc_biased.specs.Counter.{CountsFit, AreOwned, first_count}
 
 pub other_bits : (words : List ℕ) (cell c : ℕ) → c ≢ cell → bit_of (without_bit words cell) c ≡ bit_of words c
 other_bits words cell c other = without_bit_else words cell c other
 
 pub same_width : (words : List ℕ) (cell : ℕ) → length (without_bit words cell) ≡ length words
 same_width words cell = length-without_bit words cell
+
+-- a cell's count is gone, of a mortal one or of one that was never counted
+module _ (n : ℕ) (before log : List Told) (counts : List ℕ) (cell : ℕ) (fit : CountsFit n before counts)
+    (gone : (c : ℕ) → counts_seen n log c ≡ (if c == cell then 0 else counts_seen n before c))
+    (active : is_active (part_seen n log).row.stage ≡ true) where
+  counts_else : (c : ℕ) → c ≢ cell → counts_seen n log c ≡ counts_seen n before c
+  counts_else c other = gone c ∙ ap (λ (b : Bool). if b then 0 else counts_seen n before c) (ne_eqb c cell other)
+
+  pub counts_gone : FIRST_MORTAL ≤ cell → CountsFit n log (set counts cell 0)
+  counts_gone low = record {
+    wide = length-set counts cell 0 ∙ fit.wide;
+    immortal = λ c fixed inside. get_or-set_other counts cell c 0 0 (λ same. omega (arith, same, fixed, low))
+        ∙ fit.immortal c fixed inside;
+    mortal = λ c mortal inside. elim (cases_eq c cell) [
+      | inl same ↦ ap (λ i. slice_index (set counts cell 0) i) same
+          ∙ get_or-set_same counts cell 0 0 (omega (arith, inside, same, fit.wide))
+          ∙ sym (gone c ∙ ap (λ (b : Bool). if b then 0 else counts_seen n before c) (eq-eqb c cell same))
+      | inr other ↦ get_or-set_other counts cell c 0 0 other ∙ fit.mortal c mortal inside ∙ sym (counts_else c other)
+    ];
+    active = λ c mortal inside some. active;
+  }
+
+  pub counts_apart : cell < FIRST_MORTAL → CountsFit n log counts
+  counts_apart low = record {
+    wide = fit.wide;
+    immortal = fit.immortal;
+    mortal = λ c mortal inside. fit.mortal c mortal inside
+        ∙ sym (counts_else c (λ same. omega (arith, same, mortal, low)));
+    active = λ c mortal inside some. active;
+  }
+
+-- a thread that counts nothing is counted so
+pub counts_none : (n : ℕ) (log : List Told) (counts : List ℕ) → length counts ≡ n
+    → ((c : ℕ) → c < n → slice_index counts c ≡ first_count c)
+    → ((c : ℕ) → FIRST_MORTAL ≤ c → c < n → counts_seen n log c ≡ 0) → CountsFit n log counts
+counts_none n log counts wide first none = record {
+  wide = wide;
+  immortal = λ c fixed inside. first c inside
+      ∙ ap (λ (b : Bool). if b then IMMORTAL_LOCAL else 0) (lt-ltb c FIRST_MORTAL fixed);
+  mortal = λ c mortal inside. first c inside
+      ∙ ap (λ (b : Bool). if b then IMMORTAL_LOCAL else 0) (le-ltb c FIRST_MORTAL mortal) ∙ sym (none c mortal inside);
+  active = λ c mortal inside some. absurd (omega (arith, some, none c mortal inside));
+}
 
 pub owns_none : (n : ℕ) (counts owned : List ℕ) → owned ≡ replicate (words_for n) 0
     → ((c : ℕ) → c < n → slice_index counts c ≡ first_count c) → AreOwned n counts owned

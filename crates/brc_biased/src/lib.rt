@@ -23,5 +23,5 @@ mod up;
 
 pub use counter::{Counter, first_counts};
 pub use home::Home;
-pub use owned::no_bits;
+pub use owned::{no_bits, strike};
 pub use resting::RestingCounter;

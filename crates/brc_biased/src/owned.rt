@@ -1,11 +1,11 @@
 //! The owned bits, one for each cell of the heap: they are set at a birth, and cleared where the object is nobody's by
 //! now or its cell is given back. So the cells that a thread counts are found without a look at all counts.
 
-ghost use Rattle.std.specs.Prelude.{◌≡◌, ◌≢◌, ◌<◌, ◌≤◌, ◌/◌, ◌==◌, ℕ, length, replicate, slice_index, IfOk, IsTrue, IsFalse};
+ghost use Rattle.std.specs.Prelude.{◌≡◌, ◌≢◌, ◌<◌, ◌≤◌, ◌/◌, ◌%◌, ◌^◌, ◌==◌, ℕ, length, replicate, slice_index, IfOk, IsTrue, IsFalse};
 ghost use Rattle.std.specs.Prelude.{IfSome, IfNone};
 ghost use Rattle.brc_words.specs.declared.limits.TheConstants.{FIRST_MORTAL};
 ghost use Rattle.law_world.specs.Heap.{words_for};
-ghost use Rattle.law_world.specs.Lists.{bit_of, with_bit, without_bit};
+ghost use Rattle.law_world.specs.Lists.{bit_of, word_at, with_bit, without_bit};
 ghost use Rattle.law_rule.specs.Seen.{counts_seen};
 
 use crate::counter::Counter;
@@ -31,17 +31,36 @@ pub(crate) fn mark_owned<A: Allocator>(words: &mut Vec<u64, A>, cell: u32)
     words[at] = words[at] | (1 << (cell % 32));
 }
 
+/// The bits of a word from the cell's own one on.
+#[inline(always)]
+fn bits_from<A: Allocator>(words: &Vec<u64, A>, cell: u32) -> u64
+    requires inside { cell / 32 < length words.now.items }
+    ensures { result ≡ word_at words.now.items (cell / 32) / 2 ^ (cell % 32) }
+{
+    words[(cell / 32) as usize] >> (cell % 32)
+}
+
 /// Whether the cell's bit is set.
 #[inline(always)]
 fn is_marked<A: Allocator>(words: &Vec<u64, A>, cell: u32) -> bool
     requires inside { cell / 32 < length words.now.items }
     ensures { result ≡ (bit_of words.now.items cell == 1) }
 {
-    (words[(cell / 32) as usize] >> (cell % 32)) & 1 == 1
+    bits_from(words, cell) & 1 == 1
+}
+
+/// The cell's bit is cleared; it was set.
+#[inline(always)]
+pub fn strike<A: Allocator>(words: &mut Vec<u64, A>, cell: u32)
+    requires inside { cell / 32 < length words.old.items }
+    ensures { words.new.items ≡ without_bit words.old.items cell }
+{
+    let at = (cell / 32) as usize;
+    words[at] = words[at] ^ (1 << (cell % 32));
 }
 
 #[tactic(auto, using(crate::proofs::Owning::other_bits, crate::proofs::Owning::same_width))]
-/// The cell's bit is cleared.
+/// The cell's bit is cleared, if it was set.
 #[inline(always)]
 pub(crate) fn clear_owned<A: Allocator>(words: &mut Vec<u64, A>, cell: u32)
     requires inside { cell / 32 < length words.old.items }
@@ -49,8 +68,7 @@ pub(crate) fn clear_owned<A: Allocator>(words: &mut Vec<u64, A>, cell: u32)
     ensures others { (c : ℕ) → c ≢ cell → bit_of words.new.items c ≡ bit_of words.old.items c }
 {
     if is_marked(words, cell) {
-        let at = (cell / 32) as usize;
-        words[at] = words[at] ^ (1 << (cell % 32));
+        strike(words, cell);
     }
 }
 
@@ -69,7 +87,7 @@ impl<H: Home<A>, A: Allocator> Counter<H, A> {
         let cells = self.heap.table().cells();
         let mut cell = from;
         while cell < cells {
-            if self.owned[(cell / 32) as usize] >> (cell % 32) == 0 {
+            if bits_from(&self.owned, cell) == 0 {
                 cell = (cell / 32 + 1) * 32;
             } else if self.counts[cell as usize] > 0 {
                 return Some(cell);

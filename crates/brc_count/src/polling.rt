@@ -18,7 +18,7 @@ ghost use Rattle.brc_count.specs.Closing.{CountsDown};
 ghost use Rattle.brc_count.specs.Polling.{Deals, DealsBits, Drains, DrainsEach, DrainsNamed, Polled};
 
 use crate::holdings::Holdings;
-use brc_biased::Home;
+use brc_biased::{Home, strike};
 use std::alloc::Allocator;
 
 /// These bits of a word are popped besides.
@@ -27,15 +27,6 @@ pub(crate) fn join<A: Allocator>(words: &mut Vec<u64, A>, word: usize, bits: u64
     ensures { words.new.items ≡ slice_set words.old.items word (bit_or (word_at words.old.items word) bits) }
 {
     words[word] = words[word] | bits;
-}
-
-/// The entry of the cell isn't popped any more.
-fn strike<A: Allocator>(words: &mut Vec<u64, A>, cell: u32)
-    requires inside { cell / 32 < length words.old.items }
-    ensures { words.new.items ≡ without_bit words.old.items cell }
-{
-    let at = (cell / 32) as usize;
-    words[at] = words[at] ^ (1 << (cell % 32));
 }
 
 /// The place of a number's lowest bit.

@@ -1,5 +1,6 @@
 use Rattle.std.proofs.Common.{rules}
 use Rattle.brc_biased.proofs.Marking.{dead_settled}
+use Rattle.brc_biased.proofs.Owning.{owns_gone, counts_gone, counts_apart}
 use Rattle.brc_biased.specs.Released.{SettledMerged, SettledMerging}
 use Rattle.brc_biased.proofs.counter.Counter.settle.Goals as goal
 
@@ -34,3 +35,20 @@ returns-else-cell-ge-FIRST_MORTAL-clause-dead g c =
     let known = rw c.table-table.ensures at c.merge_popped-block.ensures.knows.part in
     rw (← c.self.view_is) (dead_settled _ c.load_shared-shared.new.seat.log c.merge_popped-block.new.seat.log
     c.args.cell c.merge_popped-block.result known (search rules))
+
+pub invariant_of-self-then-cell-ge-FIRST_MORTAL : goal.invariant_of-self-then-cell-ge-FIRST_MORTAL
+invariant_of-self-then-cell-ge-FIRST_MORTAL g c = record {
+  same_table = search rules;
+  fit = counts_gone _ c.self.inside.seat.log c.merge_popped-block.new.seat.log c.self.inside.counts.items c.args.cell
+      c.self.invariant.fit (search rules) (search rules) c.if-cell-ge-FIRST_MORTAL.true;
+  owns = owns_gone _ c.self.inside.counts.items c.self.inside.owned.items c.args.cell c.self.invariant.owns
+      c.self.invariant.fit.wide c.clear_owned.new.words.items c.clear_owned.ensures.wide c.clear_owned.ensures.others;
+}
+
+pub invariant_of-self-else-cell-ge-FIRST_MORTAL : goal.invariant_of-self-else-cell-ge-FIRST_MORTAL
+invariant_of-self-else-cell-ge-FIRST_MORTAL g c = record {
+  same_table = search rules;
+  fit = counts_apart _ c.self.inside.seat.log c.merge_popped-block.new.seat.log c.self.inside.counts.items c.args.cell
+      c.self.invariant.fit (search rules) (search rules) (search rules);
+  owns = c.self.invariant.owns;
+}
