@@ -1,10 +1,14 @@
--- What a thread's part is as it closes its queue words in turn, in a heap of 512 cells.
-use Rattle.std.specs.Prelude.{◌≡◌, ℕ, ◌==◌, nat_le, Bool, true, if◌then◌else◌, List, replicate, Option, None, slice_set}
+-- What a thread's part is as it closes its queue words in turn, in a heap of 512 cells, or opens them again.
+use Rattle.std.specs.Prelude.{◌≡◌, ◌<◌, ◌≤◌, ℕ, ◌==◌, nat_le, Bool, true, if◌then◌else◌, List, [], replicate, Option, None}
+use Rattle.std.specs.Prelude.{slice_set}
+use Rattle.brc_words.specs.declared.limits.TheConstants.{FIRST_MORTAL}
 use Rattle.law_world.specs.declared.row.Stage.{Stage}
 use Rattle.law_world.specs.declared.row.Stage.TheVariants as stages
 use Rattle.law_world.specs.Lists.{is_bare, is_unmarked}
 use Rattle.law_world.specs.Steps.{is_free_hand}
 use Rattle.law_known.specs.Items.{Part}
+use Rattle.law_rule.specs.declared.told.Told.{Told}
+use Rattle.law_rule.specs.Seen.{part_seen, counts_seen}
 
 -- an active thread with an empty frame and a free hand; it has nothing locked, popped or to be taken apart
 pub record HoldsNothing (part : Part) : Type 0 where
@@ -14,6 +18,10 @@ pub record HoldsNothing (part : Part) : Type 0 where
   pub bare : is_bare part.frame ≡ true
   pub unmarked : is_unmarked part.worklist ≡ true
   pub popped : part.popped ≡ replicate 16 0
+
+-- it counts no object on its own
+abbrev pub CountsNone : List Told → Type 0
+CountsNone log = (c : ℕ) → FIRST_MORTAL ≤ c → c < 512 → counts_seen 512 log c ≡ 0
 
 -- the stage with the words below this one closed
 abbrev pub closed_below : ℕ → Stage
@@ -32,3 +40,14 @@ closing_at bits word part = record part {
 -- all are closed
 abbrev pub left_with : ℕ → Part → Part
 left_with bits part = closing_at bits 16 part
+
+-- the stage with the words below this one open again
+abbrev pub opened_below : ℕ → Stage
+opened_below word = if word == 0 then stages.Opening 0 else (if word == 16 then stages.Active else stages.Opening word)
+
+abbrev pub opening_at : ℕ → Part → Part
+opening_at word part = record part { row = record part.row { stage = opened_below word } }
+
+-- a thread's part is that of one that has done nothing
+abbrev pub IsAsNew : List Told → Type 0
+IsAsNew log = part_seen 512 log ≡ part_seen 512 []

@@ -9,10 +9,10 @@ use Rattle.law_world.specs.declared.event.Dropped.TheVariants as dropped
 use Rattle.law_world.specs.declared.event.Source.TheVariants as sources
 use Rattle.law_world.specs.declared.event.Step.TheVariants.{Claim, InitLocal, InitShared, Birth, LocalUp, LocalDown}
 use Rattle.law_world.specs.declared.event.Step.TheVariants.{SeeZero, Untie, MergeZero, MergeAdd, SharedUp, Ask}
-use Rattle.law_world.specs.declared.event.Step.TheVariants.{Enqueue, Lock, Unlock, Free}
+use Rattle.law_world.specs.declared.event.Step.TheVariants.{Enqueue, Lock, Unlock, Free, Offer}
 use Rattle.law_world.specs.declared.row.Hand.TheVariants as hands
 use Rattle.law_world.specs.Lists.{bit_of}
-use Rattle.law_world.specs.Steps.{is_free_hand, stage_ok, lock_ok}
+use Rattle.law_world.specs.Steps.{is_active, is_free_hand, stage_ok, lock_ok}
 use Rattle.law_known.specs.declared.word.Field.TheVariants as fields
 use Rattle.law_known.specs.declared.word.Word.TheVariants as words
 use Rattle.law_known.specs.Items.{Part}
@@ -22,8 +22,9 @@ use Rattle.law_rule.specs.declared.contents.Contents.TheVariants as contents
 use Rattle.law_rule.specs.declared.told.Moved.TheVariants as moves
 use Rattle.law_rule.specs.declared.told.Told.{Told}
 use Rattle.law_rule.specs.declared.told.Told.TheVariants.{Did, Saw}
+use Rattle.law_rule.specs.Opening.{first_view}
 use Rattle.law_rule.specs.Seen.{part_seen}
-use Rattle.law_steps.specs.Joining.{next_thread}
+use Rattle.law_steps.specs.Joining.{registering}
 use Rattle.brc_table.specs.Seated.{TableSeen, SeatSeen, RootSeen, Continues}
 use Rattle.brc_biased.specs.Standing.{Stands}
 use Rattle.test_table.specs.declared.globals.Held.{Held}
@@ -44,9 +45,9 @@ globals_with held.Nothing = bare_globals
 globals_with (held.One key cell) = with_entry key cell
 globals_with (held.Two cell) = with_entries cell
 
--- so many threads have been registered, besides the root
-abbrev pub HasThreads : ℕ → RootSeen → Type 0
-HasThreads count root = next_thread root.view ≡ count + 1
+-- two threads have been registered, besides the root, and nothing else was done by it
+abbrev pub HasTwo : RootSeen → Type 0
+HasTwo root = root.view ≡ registering (registering first_view)
 
 module _ {A : Type 0} where
   -- a seat of this table of 512 cells, with this log and no block out
@@ -97,8 +98,9 @@ added_log shared local log =
     ∷ Did (Untie 266) 0 moves.Nothing
     ∷ seen_log shared log
 
--- the list is one of the cells that the thread has popped, and its hand is free for it
+-- the list is one of the cells that an active thread has popped, and its hand is free for it
 pub record HasPopped (n : ℕ) (log : List Told) : Type 0 where
+  pub active : is_active (part_seen n log).row.stage ≡ true
   pub stands : Stands n log hands.Free
   pub popped : bit_of (part_seen n log).popped 266 ≡ 1
 
@@ -139,6 +141,15 @@ shared_log thread =
 -- and has let the globals go, so that it has nothing any more
 abbrev pub given_log : ℕ → List Told
 given_log thread = Did (LocalDown (dropped.Frame 1)) 4294967295 moves.Nothing ∷ shared_log thread
+
+-- and has handed the list over, for which another one has asked
+abbrev pub handed_log : ℕ → List Told
+handed_log thread =
+    Did (MergeAdd 266) 4398046511111 moves.Nothing
+    ∷ Saw (words.Of fields.Local 266) 1
+    ∷ Did (Untie 266) 0 moves.Nothing
+    ∷ Did (Offer 266) 4398046511106 moves.Nothing
+    ∷ given_log thread
 
 -- it has taken the list out again
 abbrev pub taken_back_log : ℕ → List Told

@@ -15,7 +15,7 @@ ghost use Rattle.law_rule.specs.declared.told.Told.TheVariants as told;
 ghost use Rattle.law_steps.specs.Owing.{Carries, Claims};
 ghost use Rattle.brc_table.specs.Seated.{Continues};
 ghost use Rattle.brc_table.specs.Shown.{contents_of};
-ghost use Rattle.test_table.specs.Parts.{HasThreads, globals_with};
+ghost use Rattle.test_table.specs.Parts.{HasTwo, globals_with};
 
 use crate::comparing::is;
 use crate::ends::end_all;
@@ -49,7 +49,7 @@ type ForTwo<A> = ((HeapTable<A>, RootSeat<A>), (ThreadSeat<A>, ThreadSeat<A>));
 pub(crate) fn opened_for_two<A: Allocator + Copy>(rt: &impl Abort, alloc: A) -> ForTwo<A>
     ensures sizes { (result.0.0.cells ≡ 512) × (result.0.0.local_limit ≡ 4294967294) }
     ensures root { result.0.1.table ≡ result.0.0.table }
-    ensures threads { HasThreads 2 result.0.1 }
+    ensures threads { HasTwo result.0.1 }
     ensures tables { (result.1.0.table ≡ result.0.0.table) × (result.1.1.table ≡ result.0.0.table) }
     ensures first { (result.1.0.log ≡ []) × (result.1.0.slots ≡ []) }
     ensures second { (result.1.1.log ≡ []) × (result.1.1.slots ≡ []) }

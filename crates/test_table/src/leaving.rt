@@ -2,12 +2,12 @@
 //! asks for the list, or after; and its number is used again. These are calls on the seats of two threads that one test
 //! holds, of the queues where there is one, and each answers what the trace's step finds.
 
-ghost use Rattle.std.specs.Prelude.{◌≡◌, [], true, replicate};
-ghost use Rattle.law_world.specs.declared.row.Stage.TheVariants as stages;
+ghost use Rattle.std.specs.Prelude.{◌≡◌, [], pos};
 ghost use Rattle.law_rule.specs.Seen.{part_seen};
 ghost use Rattle.brc_table.specs.Seated.{Stays};
-ghost use Rattle.test_table.specs.Leaving.{HoldsNothing, left_with};
-ghost use Rattle.test_table.specs.Parts.{StandsAt, Went, given_log, handed_log};
+ghost use Rattle.test_table.specs.declared.globals.Held.TheVariants as held;
+ghost use Rattle.test_table.specs.Leaving.{HoldsNothing, CountsNone, IsAsNew, left_with, opening_at};
+ghost use Rattle.test_table.specs.Parts.{StandsAt, Went, asked_log, given_log, handed_log, taken_log};
 
 use crate::comparing::is;
 use crate::helpers::{ends, gone, opened, opened_for_two};
@@ -26,7 +26,8 @@ const WORD: u32 = 8;
 fn closes_all(rt: &impl Abort, table: &Table, seat: &mut Seat, bits: u64)
     requires table { seat.old.table ≡ table.now.table }
     requires cells { table.now.cells ≡ 512 }
-    requires nothing { HoldsNothing seat.old.log }
+    requires nothing { HoldsNothing (part_seen 512 seat.old.log) }
+    requires none { CountsNone seat.old.log }
     ensures seat { Stays seat.old seat.new }
     ensures left { part_seen 512 seat.new.log ≡ left_with bits (part_seen 512 seat.old.log) }
 {
@@ -41,9 +42,9 @@ fn closes_all(rt: &impl Abort, table: &Table, seat: &mut Seat, bits: u64)
 fn opens_all(table: &Table, seat: &mut Seat)
     requires table { seat.old.table ≡ table.now.table }
     requires cells { table.now.cells ≡ 512 }
-    requires opening { (part_seen 512 seat.old.log).row.stage ≡ stages.Opening 0 }
+    requires opening { part_seen 512 seat.old.log ≡ opening_at 0 (part_seen 512 []) }
     ensures seat { Stays seat.old seat.new }
-    ensures opened { part_seen 512 seat.new.log ≡ opened (part_seen 512 seat.old.log) }
+    ensures opened { IsAsNew seat.new.log }
 {
     for word in 0..16 {
         open_word(table, seat, word);
@@ -72,7 +73,13 @@ fn leaves_what_is_asked_for(
     table: &Table,
     one: &mut Seat,
     two: &mut Seat,
-) {
+)
+    requires first { StandsAt [] table.now one.old }
+    requires second { StandsAt [] table.now two.old }
+    ensures first { Stays one.old one.new }
+    ensures left { part_seen 512 one.new.log ≡ left_with 0 (part_seen 512 (handed_log one.old.thread)) }
+    ensures second { Went (asked_log 4398046511104 (taken_log (held.One (pos 1) 266) held.Nothing)) two.old two.new }
+{
     gives_a_list(rt, alloc, table, one);
     takes_what_is_shared(rt, alloc, table, two);
     asks(rt, table, two, 4_398_046_511_104);
@@ -159,7 +166,14 @@ fn a_thread_leaves_and_is_gathered(rt: HostRuntime) {
 
 /// The asker, which has looked at the owner before that left, puts its reference into the queue of the number's next
 /// bearer; who counts it down, and ends the list.
-fn queues_at_the_next(rt: &impl Abort, table: &Table, next: &mut Seat, two: &mut Seat) {
+fn queues_at_the_next(rt: &impl Abort, table: &Table, next: &mut Seat, two: &mut Seat)
+    requires tables { (next.old.table ≡ table.now.table) × (table.now.cells ≡ 512) }
+    requires next { IsAsNew next.old.log }
+    requires slots { next.old.slots ≡ [] }
+    requires second { StandsAt (asked_log 4398046511104 (taken_log (held.One (pos 1) 266) held.Nothing)) table.now two.old }
+    ensures first { next.new.table ≡ next.old.table }
+    ensures second { two.new.table ≡ two.old.table }
+{
     let Enqueued::Accepted = enqueue(table, two, 266, 1) else {
         panic!(rt; "the word is closed")
     };
