@@ -11,9 +11,6 @@ use Rattle.law_world.specs.Steps.{first_gathered}
 use Rattle.std.proofs.lemmas.Bool.{cases_lt, lt-ltb, le-ltb}
 use Rattle.std.proofs.lemmas.List.{length-set, length-append}
 use Rattle.law_world.specs.declared.event.Step.TheVariants.{Register, Gather}
-use Rattle.law_rule.specs.declared.told.Told.{Told}
-use Rattle.law_rule.specs.declared.told.Told.TheVariants.{Did, Saw, Lost}
-use Rattle.law_rule.specs.declared.told.Moved.TheVariants as moves
 use Rattle.law_rule.specs.declared.view.View.{View}
 use Rattle.law_rule.specs.Logs.{log_items}
 use Rattle.law_steps.specs.Joining.{next_thread, registering, gathering}
