@@ -1,5 +1,6 @@
 -- What the owned bits say of the counts, and how they go on saying it.
-use Rattle.std.proofs.Common.{◌≡◌, ◌≢◌, ℕ, ◌+◌, ◌-◌, ◌*◌, ◌/◌, ◌%◌, ◌^◌, ◌<◌, ◌≤◌, ◌==◌, Bool, true, if◌then◌else◌, List, length}
+use Rattle.std.proofs.Common.{◌≡◌, ◌≢◌, ℕ, ◌+◌, ◌-◌, ◌*◌, ◌/◌, ◌%◌}
+use Rattle.std.proofs.Common.{◌^◌, ◌<◌, ◌≤◌, ◌==◌, Bool, true, if◌then◌else◌, List, length}
 use Rattle.std.proofs.Common.{set, replicate, slice_index, inl, inr, refl, sym, ◌∙◌, ap, arith}
 use Rattle.std.specs.Int.{bit_at}
 use Rattle.std.proofs.lemmas.Bool.{cases_eq, cases_lt, eq-eqb, ne_eqb, lt-ltb, le-ltb}
@@ -9,7 +10,8 @@ use Rattle.std.proofs.lemmas.Nat.Bits.{bit_at-zero}
 use Rattle.brc_words.specs.declared.limits.TheConstants.{FIRST_MORTAL, IMMORTAL_LOCAL}
 use Rattle.law_world.specs.Heap.{words_for}
 use Rattle.law_world.specs.Lists.{bit_of, word_at, with_bit, without_bit}
-use Rattle.law_world.proofs.Bitwise.{with_bit_here, with_bit_else, length-with_bit, without_bit_else, length-without_bit}
+use Rattle.law_world.proofs.Bitwise.{with_bit_here, with_bit_else}
+use Rattle.law_world.proofs.Bitwise.{length-with_bit, without_bit_else, length-without_bit}
 use Rattle.law_rule.specs.declared.told.Told.{Told}
 use Rattle.law_world.specs.Steps.{is_active}
 use Rattle.law_rule.specs.Seen.{part_seen, counts_seen}
@@ -60,7 +62,8 @@ counts_none n log counts wide first none = record {
   immortal = λ c fixed inside. first c inside
       ∙ ap (λ (b : Bool). if b then IMMORTAL_LOCAL else 0) (lt-ltb c FIRST_MORTAL fixed);
   mortal = λ c mortal inside. first c inside
-      ∙ ap (λ (b : Bool). if b then IMMORTAL_LOCAL else 0) (le-ltb c FIRST_MORTAL mortal) ∙ sym (none c mortal inside);
+      ∙ ap (λ (b : Bool). if b then IMMORTAL_LOCAL else 0) (le-ltb c FIRST_MORTAL mortal) ∙ sym
+      (none c mortal inside);
   active = λ c mortal inside some. absurd (omega (arith, some, none c mortal inside));
 }
 

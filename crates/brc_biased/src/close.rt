@@ -82,6 +82,9 @@ impl<H: Home<A>, A: Allocator> Counter<H, A> {
         ensures stands { Stands self.old.heap.cells self.new.seat.log hands.Free }
         ensures keeps { KeepsPlaces self.old.heap.cells self.old.seat.log self.new.seat.log }
     {
+        // From the offer on the object is queued: others count down on its shared word alone, and end it only once it
+        // is merged. Whoever asked for it before may still put the reference into this thread's queue. Then the close
+        // of that word finds it, or the next thread with this number does.
         let table = self.heap.table();
         let _offered = table.offer(&mut self.seat, cell);
         table.untie_offered(&mut self.seat, cell);

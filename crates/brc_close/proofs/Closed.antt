@@ -1,10 +1,10 @@
 -- What the report of a heap says whose blocks were collected once all threads were gathered.
-use Rattle.std.proofs.Common.{◌≡◌, ◌≢◌, ℕ, ◌-◌, ◌<◌, ◌≤◌, ◌||◌, not, Bool, true, false, List, map, length, Option, Some}
-use Rattle.std.proofs.Common.{None, refl, sym, ◌∙◌, ap, inl, inr, arith, ◌⊎◌}
+use Rattle.std.proofs.Common.{◌≡◌, ◌≢◌, ℕ, ◌+◌, ◌-◌, ◌<◌, ◌≤◌, ◌||◌, not, Bool, true, false, List, map, length, Option}
+use Rattle.std.proofs.Common.{Some, None, refl, sym, ◌∙◌, ap, inl, inr, arith, ◌⊎◌}
 use Rattle.std.specs.Prelude.{sum_by}
 use Rattle.std.proofs.lemmas.List.{length-map}
 use Rattle.std.proofs.lemmas.Bool.{ltb-false, and_parts, lt-ltb, true≢false}
-use Rattle.brc_words.specs.declared.limits.TheConstants.{FIRST_MORTAL, GLOBALS}
+use Rattle.brc_words.specs.declared.limits.TheConstants.{FIRST_MORTAL, GLOBALS, MOST_REGISTRATIONS}
 use Rattle.brc_block.specs.declared.payload.Payload.{Payload}
 use Rattle.law_known.specs.Start.{start_of}
 use Rattle.law_world.specs.Heap.{Heap, is_immortal, AreOptions}
@@ -212,12 +212,14 @@ module _ {A : Type 0} (n limit id : ℕ) (root : View) (slots : List (Option (�
 
 -- ---- as many as were registered
 
-pub all_counted : (root : View) (registered gathered : ℕ) → registered ≡ registrations root → registered ≤ 64
+pub all_counted : (root : View) (registered gathered : ℕ) → registered ≡ registrations root
+    → registered ≤ MOST_REGISTRATIONS
     → gathered ≡ in_u32 (gatherings root)
     → registered ≡ gathered → registrations root ≡ gatherings root
 all_counted root registered gathered told few counted same = omega (arith, told, few, counted, same)
 
-pub some_missing : (root : View) (registered gathered : ℕ) → registered ≡ registrations root → registered ≤ 64
+pub some_missing : (root : View) (registered gathered : ℕ) → registered ≡ registrations root
+    → registered ≤ MOST_REGISTRATIONS
     → gathered ≡ in_u32 (gatherings root)
     → registered ≢ gathered → registrations root ≢ gatherings root
 some_missing root registered gathered told few counted other = λ same. other (omega (arith, told, few, counted, same))

@@ -22,9 +22,9 @@ use Rattle.brc_close.specs.declared.closing.CloseFault.TheVariants.{Missing, Mem
 module _ {A : Type 0} where
   -- What was done on the heap is one run, of which the root knows its own part and that of each thread. All threads are
   -- gathered in the world that it leads to, where counts are references. The report is of that world: its ledger is
-  -- what all threads did, those whose numbers were used again, too, of which births less frees are the live objects; the contents are those that were put home
-  -- last in the globals and in each live mortal cell; the remains are exactly these mortal cells; and all cycles of
-  -- theirs are named.
+  -- what all registrations did, also those whose numbers were used again, and births less frees are the live objects;
+  -- the contents are those that were put home last in the globals and in each live mortal cell; the remains are exactly
+  -- these mortal cells; and all cycles of theirs are named.
   pub record Closes (n limit : ℕ) (root : View) (report : Report A) : Type 0 where
     pub run : Run
     pub legal : IsLegal n limit run
@@ -65,8 +65,8 @@ module _ {A : Type 0} where
     pub live : report.live ≡ length report.remains.items
     pub cycles : AreCycles report.remains.items report.cycles.items
 
--- A heap stays open where the numbers of registered and of gathered threads differ, which are told; else memory was
--- missing.
+-- A heap stays open if it has another number of registrations than of gathered threads, and both are told; or memory
+-- was missing.
 abbrev pub StaysOpen : {A : Type 0} → TableSeen → RootSeen → CloseFault A → Type 0
 StaysOpen heap root (Missing registered gathered same_heap same_root) =
     (registrations root.view ≢ gatherings root.view)

@@ -14,7 +14,8 @@ use std::alloc::Allocator;
 
 /// Why a heap isn't closed, or has no report.
 pub enum CloseFault<A: Allocator> {
-    /// Not every thread that was registered is gathered: nothing was done, and heap and root are as they were.
+    /// Not every thread that was registered is gathered: nothing was done, and heap and root are as they were. Both
+    /// numbers count registrations, also those whose thread numbers were given again.
     Missing {
         registered: u32,
         gathered: u32,
@@ -55,8 +56,8 @@ fn report_of<A: Allocator + Copy>(
 }
 
 /// Closes a heap that no thread shares any more: its report, of the last state. Missing where not every thread that was
-/// registered is gathered, which is looked at first, and tells both numbers; Memory where memory for the report is
-/// missing.
+/// registered is gathered, which is looked at first: it tells how many registrations there were, and how many gathered
+/// threads. Memory where memory for the report is missing.
 pub fn close<A: Allocator + Copy>(
     alloc: A,
     heap: Heap<A>,

@@ -14,7 +14,8 @@ use Rattle.law_rule.specs.declared.told.Moved.{Moved}
 use Rattle.law_rule.specs.declared.told.Moved.TheVariants as moves
 use Rattle.law_rule.specs.declared.told.Told.{Told}
 use Rattle.law_rule.specs.declared.told.Told.TheVariants.{Did, Saw, Lost}
-use Rattle.law_rule.specs.Logs.{Run, item_of, items_of, own_of, all_of, begins, world, contents_at, puts, MovesWith, IsMoved, IsLegal}
+use Rattle.law_rule.specs.Logs.{Run, item_of, items_of, own_of, all_of, begins, world, contents_at, puts, MovesWith}
+use Rattle.law_rule.specs.Logs.{IsMoved, IsLegal}
 use Rattle.law_rule.specs.Seen.{contents_on, contents_locked}
 use Rattle.law_rule.proofs.Locked_Contents.{locked_contents}
 use Rattle.law_rule.proofs.Own_Logs.{own_more, own_same}
@@ -269,7 +270,8 @@ module _ (n limit : ℕ) where
         | inl mine ↦
             let alike : with_call c t x.1 (contents_locked (own_of t run)) (history_of c run)
             ≡ with_call c t x.1 (contents_locked (all_of t run)) (history_of c run) =
-            call_alike run c t x.1 (history_of c run) options (subst (λ u. IsLegal n limit ((u, x.1) ∷ run)) mine legal) in
+            call_alike run c t x.1 (history_of c run) options
+            (subst (λ u. IsLegal n limit ((u, x.1) ∷ run)) mine legal) in
             ap (λ u. calls_of t (with_call c u x.1 (contents_locked (own_of u run)) (history_of c run))) mine
             ∙ ap (calls_of t) alike
             ∙ mine_joins c t x.1 (contents_locked (all_of t run)) (history_of c run)

@@ -67,6 +67,12 @@ module _ {A : Type 0} {heap : TableSeen} {seat : SeatSeen A} {places : Slab Held
   holds_bare keeps none = bare_from (part_seen heap.cells seat.log).frame (λ k. keeps.placed k
       ∙ ap cell_held (none_filled places.slots none k))
 
+  -- no block is left
+  pub holds_unmarked : Holding A heap seat places [] popped ledger
+      → is_unmarked (part_seen heap.cells seat.log).worklist ≡ true
+  holds_unmarked keeps = unmarked_from (part_seen heap.cells seat.log).worklist
+      (λ c. keeps.buried.only c (ap (λ bs. listed_at bs c) keeps.listed))
+
   -- ---- the next word
 
   pub may_close : (k : ℕ) {works : List (ℕ × Payload A)} → Holding A heap seat places works popped ledger

@@ -17,8 +17,7 @@ use Rattle.law_world.specs.Lists.{names, place_at, bit_of, word_at, without_bit,
 use Rattle.law_world.proofs.Bitwise.{bit_inside}
 use Rattle.law_world.specs.declared.event.Dropped.TheVariants as drops
 use Rattle.law_known.specs.Items.{Part, popped_told}
-use Rattle.law_world.specs.declared.row.Hand.TheVariants as hands
-use Rattle.law_known.specs.Going_On.{popping, closing, reopening, settling, taking, handing}
+use Rattle.law_known.specs.Going_On.{popping, closing, reopening, settling, taking}
 use Rattle.law_known.specs.Taken.{taken_on}
 use Rattle.law_rule.specs.declared.told.Told.{Told}
 use Rattle.law_rule.specs.Seen.{part_seen, taken_seen}
@@ -264,14 +263,14 @@ module _ {A : Type 0} {heap : TableSeen} (before seat : SeatSeen A) {places : Sl
   pub after_handed : (c : ℕ) (block : Option (ℕ × Payload A)) → Holding A heap before places works popped ledger
       → Continues before seat
       → IsKnown heap.cells seat.log
-      (handing hands.Free (taking (is_there block) c (entries_answered block) (known_seen heap.cells before.log)))
+      (taking (is_there block) c (entries_answered block) (known_seen heap.cells before.log))
       → KeepsPlaces heap.cells before.log seat.log → Answers heap.cells c block before seat
       → c < heap.cells → locked_place heap.cells before.log ≡ None
       → Holding A heap seat places (pushed block works) popped ledger
   after_handed c block keeps continues knows goes_on answers low unlocked =
       let gone : locked_place heap.cells seat.log ≡ None = ap (λ (p : Part). p.row.locked) knows.part ∙ unlocked in
       record {
-        hand_is = ap (λ (p : Part). p.row.hand) knows.part;
+        hand_is = ap (λ (p : Part). p.row.hand) knows.part ∙ keeps.hand_is;
         placed = λ j. ap (λ (p : Part). place_at p.frame j) knows.part ∙ keeps.placed j;
         risen = λ j held is_there is. goes_on.risen j held.cell
             (ap (λ (p : Part). place_at p.frame j) knows.part ∙ keeps.placed j ∙ ap cell_held is_there)

@@ -50,8 +50,8 @@ pub data Closes (before : List Told) : ℕ → List Told → Type 0 where
       → Closes before (k + 1) (Did (Close k) bits Nothing ∷ log)
 
 module _ {A : Type 0} where
-  -- A popped entry of a thread that has left is counted down: its object is merged, since the thread handed over all that
-  -- it counted. If the object ends, its block is at the front of the worklist.
+  -- A popped entry of a thread that has left is counted down: its object is merged, since the thread handed over all
+  -- that it counted. If the object ends, its block is at the front of the worklist.
   pub record CountsDown (old new : FrameSeen A) (c : ℕ) : Type 0 where
     pub heap : new.heap ≡ old.heap
     pub block : Option (ℕ × Payload A)

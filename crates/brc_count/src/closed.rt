@@ -50,7 +50,8 @@ impl<H: Home<A>, A: Allocator> ClosedFrame<H, A> {
         self.holdings.counter.home()
     }
 
-    /// How many objects the thread made, and how many cells it has given back, its own objects' and others'.
+    /// How many objects the thread made since it was registered, and how many cells it freed, of its own objects and of
+    /// others.
     pub fn ledger(&self) -> Ledger
         ensures { result ≡ ledger_seen self.now }
     {

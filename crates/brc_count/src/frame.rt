@@ -53,9 +53,9 @@ impl<H: Home<A>, A: Allocator> Model for Frame<H, A> {
 
 impl<H: Home<A> + Drop, A: Allocator + Copy> Frame<H, A> {
     #[tactic(auto, using(crate::proofs::Beginning::started_first, crate::proofs::Beginning::first_none, crate::proofs::Beginning::again_opening, crate::proofs::Leaving::stage_active))]
-    /// The frame of the next thread, which is registered with it, and, where its number was used before, opens its queue
-    /// words. All memory that its counts, its owned bits and its popped entries want is had before: where it is missing
-    /// the answer is OutOfMemory, and nothing changed.
+    /// The frame of the next thread, which is registered with it. If its number was used before, it opens its queue
+    /// words. The memory for its counts, its owned bits and its popped words is had first: if it is missing, OutOfMemory
+    /// is returned and nothing has changed.
     pub fn enter(alloc: A, heap: H, root: &mut RootSeat<A>) -> Result<Frame<H, A>, Fault>
         requires table { root.old.table ≡ (H.seen heap).table }
         requires few { next_thread root.old.view ≤ MOST_THREADS }
@@ -144,7 +144,8 @@ impl<H: Home<A>, A: Allocator> Frame<H, A> {
         }
     }
 
-    /// How many objects the thread has made, and how many cells it has given back, its own objects' and others'.
+    /// How many objects the thread has made since it was registered, and how many cells it has freed, of its own
+    /// objects and of others.
     pub fn ledger(&self) -> Ledger
         ensures { result ≡ ledger_seen self.now }
     {
@@ -244,8 +245,8 @@ impl<H: Home<A>, A: Allocator> Frame<H, A> {
     /// A new object with this payload, and a handle to it: a cell is claimed, its words are set, and the block is put
     /// home (PEP 703, "Biased Reference Counting": the thread that makes an object owns it, with a local count of 1).
     /// The faults come in this order, and each hands the payload back: FrameFull where there are 65,536 handles and so
-    /// no place is left; LedgerFull where the thread has made 2^47 objects; OutOfMemory where the place or the block
-    /// can't be had; HeapFull where all mortal cells were found taken. A container's payload is empty.
+    /// no place is left; LedgerFull where the thread has made 2^47 objects since it was registered; OutOfMemory
+    /// where the place or the block can't be had; HeapFull where all mortal cells were found taken. A container's payload is empty.
     #[inline(always)]
     pub fn born(&mut self, alloc: A, payload: Payload<A>) -> Result<Handle<A>, Handed<Payload<A>>>
         requires unlocked { IsUnlocked self.old }

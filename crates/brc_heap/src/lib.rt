@@ -1,10 +1,11 @@
 //! The running heap as one library: what an interpreter's author names, and nothing else.
 //!
-//! A heap is opened (`Heap::new`) with its root, which registers threads. Each thread has a `Mutator`, and works over
-//! its frame: objects are made (`new_int`, `new_list`, ..), retained and released, and lists, dictionaries and
-//! mailboxes read and changed under their locks. A `Handle` is a reference; it must be given back, by `Frame::release`
-//! or by a call that takes it. `Handles` keeps many. A thread ends by `Mutator::retire`, `end` or `depart`, and a heap
-//! by `close`, with a report of what is left, or by `take_apart` and `give_back`.
+//! A heap is opened (`Heap::new`) with its root, which registers threads: up to 64 at a time, and up to 65,536 in all.
+//! Each thread has a `Mutator`, and works over its frame: objects are made (`new_int`, `new_list`, ..), retained and
+//! released, and lists, dictionaries and mailboxes read and changed under their locks. A `Handle` is a reference; it
+//! must be given back, by `Frame::release` or by a call that takes it. `Handles` keeps many. A thread ends by
+//! `Mutator::retire`, `end` or `depart`; what it owns is handed over, and once the root gathers it its number is given
+//! again. A heap ends by `close`, with a report of what is left, or by `take_apart` and `give_back`.
 //!
 //! What contracts of a client cite stands in `specs/Words.antt`: which handles a frame owns before and after a call.
 #![tactic(auto)]

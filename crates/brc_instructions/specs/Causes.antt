@@ -29,7 +29,8 @@ WantsNoRoom fault = wants_room fault ≡ false
 
 module _ {A : Type 0} where
   -- HeapFull comes after a search that found no mortal cell free; FrameFull where the frame has 65,536 handles;
-  -- LedgerFull where the thread has made 2^47 objects. The refused instruction leaves the frame so.
+  -- LedgerFull where the thread has made 2^47 objects since it was registered. The refused instruction leaves the
+  -- frame so.
   abbrev pub Caused : FrameSeen A → FrameSeen A → Fault → Type 0
   Caused old new faults.HeapFull = NoneWasFree old.heap.cells old.seat.log new.seat.log
   Caused old new faults.FrameFull = MOST_PLACES ≤ new.len

@@ -2,8 +2,9 @@
 //!
 //! With a frame: a task is repeated (`repeat`), a handle goes from turn to turn (`pass_on`), many handles are had
 //! (`fill`), and something is waited for (`wait_for`). With threads: so many are registered and rest (`rest_more`), each
-//! lives on a thread of the machine (`run_all`), and the root gathers them (`gather_all`). What is done at each turn is
-//! the client's, by a trait, whose contract has what the loop needs; an `impl` repeats no clause of it.
+//! lives on a thread of the machine (`run_all`), and the root gathers them (`gather_all`). These three can be called
+//! over and over, since the number of a gathered thread is given again. What is done at each turn is the client's, by
+//! a trait, whose contract has what the loop needs; an `impl` repeats no clause of it.
 //!
 //! What a turn needs of the frame is the trait's `ready`, and each `impl` shows that it is so after a turn too: mostly
 //! by a field of `Keeps` (`brc_count`), or by `specs/Held.antt` where it needs many handles. What a turn does an `impl`

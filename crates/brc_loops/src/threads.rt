@@ -33,8 +33,8 @@ pub struct Ended<X> {
 }
 
 /// So many threads more are registered, and rest beside the others; each does the task first, after so many threads
-/// before it. None where there is no thread more or no memory, or where the task failed: those that were registered up
-/// to then rest here.
+/// before it. None if no thread more can be registered (`Root::register`), if memory ran out, or if the task failed:
+/// those that were registered up to then rest here.
 pub fn rest_more<'h, T: Task<&'h Heap<A>, A>, A: Allocator + Copy>(
     rt: &impl Wait,
     alloc: A,

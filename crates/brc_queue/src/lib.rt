@@ -1,5 +1,6 @@
-//! The merge queues, as a thread works on them: it puts a reference into an owner's queue, takes what was put into its
-//! own, closes its own on its way out, and tells others to look.
+//! The merge queues, as a thread works on them. It puts a reference into an owner's queue, and tells others to look.
+//! It takes what was put into its own. On its way out it offers what it hands over, and closes its words; if its number
+//! was used before, it opens them first.
 //!
 //! Thin, above `brc_table`: each call is one event of its seat's log, and answers what the caller has to know of the
 //! number that was found. What goes into a queue, what is popped and what a closed word does is `specs/Queue.antt`.

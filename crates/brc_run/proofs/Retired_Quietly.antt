@@ -1,10 +1,13 @@
--- As a thread retires its log goes on, and nothing is born: until it hands over it only lets go, and after that, too.
-use Rattle.std.proofs.Common.{◌≡◌, ℕ, List, ◌∷◌, Option, refl, sym, ap, subst, ◌∙◌}
+-- As a thread retires its log goes on, and nothing is born. Before it hands over it only lets go, and after that, too;
+-- a hand-over begins with an Offer, by which an object is private no more.
+use Rattle.std.proofs.Common.{◌≡◌, ℕ, ◌&&◌, true, List, ◌∷◌, Option, Some, None, refl, sym, ap, subst, ◌∙◌}
 use Rattle.law_rule.specs.declared.told.Moved.TheVariants.{Nothing}
 use Rattle.law_rule.specs.declared.told.Told.{Told}
 use Rattle.law_rule.specs.declared.told.Told.TheVariants.{Did, Saw}
-use Rattle.law_world.specs.declared.event.Step.TheVariants.{Close, Offer, Untie, MergeAdd}
-use Rattle.law_living.specs.Quiet.{Quietly, NoItem, OneMore}
+use Rattle.law_world.specs.declared.event.LastDropped.TheVariants as lasts
+use Rattle.law_world.specs.declared.event.Step.{Step}
+use Rattle.law_world.specs.declared.event.Step.TheVariants.{Close, Offer, Untie, MergeAdd, LastDown}
+use Rattle.law_living.specs.Quiet.{only_lets_go, Quietly, NoItem, OneMore}
 use Rattle.law_living.specs.Later.{IsLater}
 use Rattle.law_living.proofs.Earlier.{later_same, later_one, later_both, quietly_later}
 use Rattle.law_living.proofs.Quiet_Items.{quietly_joined}
@@ -14,8 +17,8 @@ use Rattle.law_known.specs.declared.word.Word.TheVariants.{Of}
 use Rattle.law_rule.specs.Seen.{part_seen}
 use Rattle.brc_block.specs.declared.payload.Payload.{Payload}
 use Rattle.brc_table.specs.Seated.{SeatSeen}
-use Rattle.brc_biased.specs.Released.{HandsOver}
-use Rattle.brc_biased.proofs.Quiet.{ends_quietly, settled_quietly}
+use Rattle.brc_table.specs.Moving.{found_in}
+use Rattle.brc_biased.specs.Released.{Ends, HandsOver}
 use Rattle.brc_count.specs.Closing as closing
 use Rattle.brc_count.specs.Closing.{Closes, HandsEach, GoesOut, TurnedLeaving, TurnsLeaving}
 use Rattle.brc_count.specs.Frames.{FrameSeen}
@@ -25,6 +28,7 @@ use Rattle.brc_thread.specs.Settling as settling
 use Rattle.brc_thread.specs.Settling.{PollsAndWorks, Settles}
 use Rattle.brc_thread.specs.Threads.{RetiredSeen}
 
+-- the log goes on, and no object is born
 pub record BearsNothing (before log : List Told) : Type 0 where
   pub later : IsLater before log
   pub allocs : (n : ℕ) → (part_seen n log).row.allocs ≡ (part_seen n before).row.allocs
@@ -50,6 +54,14 @@ closes_quietly before _ _ (closing.Closed k bits log more) =
     OneMore (Did (Close k) bits Nothing) log (closes_quietly before k log more) refl
 
 module _ {A : Type 0} where
+  -- a step by which an object may end
+  ends_quietly : (s : Step) (c : ℕ) (block : Option (ℕ × Payload A)) (before log : List Told) → only_lets_go s ≡ true
+      → Ends s c block before log → Quietly before log
+  ends_quietly s c None before log quiet ends = subst (Quietly before) (sym ends.told)
+      (OneMore (Did s ends.number Nothing) before NoItem (ap (λ b. b && true) quiet))
+  ends_quietly s c (Some block) before log quiet ends = subst (Quietly before) (sym ends.told)
+      (OneMore (Did s ends.number (found_in c (Some block))) before NoItem (ap (λ b. b && true) quiet))
+
   goes_quietly : (old new : FrameSeen A) → PollsAndWorks old new → GoesQuietly old new
   goes_quietly old _ settling.Nothing = NoItem
   goes_quietly old new (settling.Worked n mid _ before turns) =
@@ -65,8 +77,8 @@ module _ {A : Type 0} where
       (polled_quietly settled.mid new 0 settled.last)
 
   turned_leaving : (old new : FrameSeen A) → TurnedLeaving old new → GoesQuietly old new
-  turned_leaving old new (closing.EntryDealt c popped deals) =
-      settled_quietly c deals.block old.seat.log new.seat.log deals.events
+  turned_leaving old new (closing.EntryDealt c popped down) =
+      ends_quietly (LastDown (lasts.Popped c)) c down.block old.seat.log new.seat.log refl down.events
   turned_leaving old new (closing.BlockTurned none turned) = turned_quietly old new turned
 
   turns_leaving : (old : FrameSeen A) (n : ℕ) (new : FrameSeen A) → TurnsLeaving old n new → GoesQuietly old new

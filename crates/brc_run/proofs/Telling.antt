@@ -60,7 +60,8 @@ module _ {A : Type 0} where
             counted ∙ bore private own ∙ omega (arith, none);
         heap_full = λ private line is.
             subst (λ (h : TableSeen). NoneWasFree h.cells [] retired.seat.log) ready.heap_is
-            (none_at_last old.heap.cells old.seat.log new.seat.log retired.seat.log bears.later (searched private line is));
+            (none_at_last old.heap.cells old.seat.log new.seat.log retired.seat.log bears.later
+            (searched private line is));
         ledger_full = λ private line is.
             subst (λ (births : ℕ). MOST_BIRTHS ≤ births) (sym counted) (many private line is);
       }

@@ -50,7 +50,7 @@ module _ {A : Type 0} where
   -- The life of a section's thread tells of the section's end, of one that shares nothing. Where neither a want nor a
   -- gate stopped it, its thread had made as many objects as the section means to. It ended by HeapFull only where its
   -- thread had searched once for a free cell, with a note of each mortal cell that it wasn't free; and by LedgerFull
-  -- only where its thread had made 2^47 objects.
+  -- only where its thread had made 2^47 objects since it was registered.
   pub record Tells (n : ℕ) (section : Section A) (end : SectionEnd A) (life : Life) : Type 0 where
     pub births : is_private section ≡ true → is_own_end end.fault ≡ true
         → (ledger_of n life.1).allocs ≡ (meaning section).made
@@ -71,7 +71,7 @@ module _ {A : Type 0} where
   life_of done = (done.retired.seat.thread, done.retired.seat.log)
 
 module _ {A : Type 0} where
-  -- a thread at rest, of this heap, that has done nothing yet
+  -- a thread at rest, of this heap, that has made nothing and freed nothing yet
   pub record IsReady (heap : TableSeen) (resting : FrameSeen A) : Type 0 where
     pub heap_is : resting.heap ≡ heap
     pub nothing : ledger_seen resting ≡ record { allocs = 0; frees = 0 }

@@ -2,8 +2,8 @@
 //!
 //! All sections are registered in order before the first starts, section `i` as thread `i`. Each runs on a thread of
 //! the machine (`run_section`), and hands back its seat and how it ended; then all are gathered in order, one more
-//! thread clears the globals, and the heap is closed (`run_sections`). The heap's allocator is `Global`, since a thread
-//! that is started takes no other along.
+//! thread, which has the number 1 again, clears the globals, and the heap is closed (`run_sections`). The heap's
+//! allocator is `Global`, since a thread that is started takes no other along.
 #![tactic(auto)]
 
 mod clearing;

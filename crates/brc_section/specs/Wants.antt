@@ -15,7 +15,8 @@ module _ {A : Type 0} where
     pub caused : IfErr result (λ halt. Caused old new halt.fault)
 
   -- What is told of it once the registers are released: HeapFull comes after a search that found no mortal cell
-  -- free, LedgerFull where the thread has made 2^47 objects. FrameFull doesn't come, with sixteen registers at most.
+  -- free, LedgerFull where the thread has made 2^47 objects since it was registered. FrameFull doesn't come, with
+  -- sixteen registers at most.
   abbrev pub CauseLeft : FrameSeen A → FrameSeen A → Fault → Type 0
   CauseLeft old new faults.HeapFull = NoneWasFree old.heap.cells old.seat.log new.seat.log
   CauseLeft old new faults.FrameFull = ⊥

@@ -167,7 +167,7 @@ pub fn run_section<R: Wait, G: Gate, H: Home<A>, A: Allocator + Copy>(
         (ledger_seen mutator.new).allocs ≡ (ledger_seen mutator.old).allocs + (meaning section.now).made }
 
     // It ends by HeapFull only after a search that found no mortal cell free, by LedgerFull only where its thread has
-    // made 2^47 objects, and never by FrameFull: it has no more handles than registers and two.
+    // made 2^47 objects since it was registered, and never by FrameFull: it has no more handles than registers and two.
     ensures heap_full { is_private section.now ≡ true → (line : ℕ)
         → result.fault ≡ Some (number_of faults.HeapFull, line)
         → NoneWasFree mutator.old.heap.cells mutator.old.seat.log mutator.new.seat.log }

@@ -1,5 +1,5 @@
 -- What is so where a heap ends.
-use Rattle.std.proofs.Common.{◌≡◌, ℕ, true, List, length, Option, refl, sym, subst, ap, ◌∙◌, arith}
+use Rattle.std.proofs.Common.{◌≡◌, ◌+◌, ℕ, true, List, length, Option, refl, sym, subst, ap, ◌∙◌, arith}
 use Rattle.std.specs.Prelude.{sum_by}
 use Rattle.brc_block.specs.declared.payload.Payload.{Payload}
 use Rattle.law_known.specs.Items.{AreItems, IsPart, part_of, events_of, own}

@@ -4,12 +4,12 @@ use Rattle.brc_words.specs.declared.limits.TheConstants.{MOST_REGISTRATIONS}
 use Rattle.law_world.specs.Lists.{one}
 use Rattle.law_world.specs.Holding.{is_birth}
 use Rattle.law_world.specs.Steps.{is_free_step}
-use Rattle.law_known.specs.Root.{registrations_of}
 use Rattle.law_rule.specs.declared.told.Told.{Told}
 use Rattle.law_rule.specs.declared.told.Told.TheVariants.{Did}
 use Rattle.law_rule.specs.declared.view.View.{View}
-use Rattle.law_rule.specs.Logs.{log_items}
 use Rattle.brc_count.specs.declared.ledger.Ledger.{Ledger}
+-- how many threads the root has registered
+pub use Rattle.law_steps.specs.Joining.{registrations}
 
 -- the step bears an object, gives a cell back
 abbrev pub bears : Told → ℕ
@@ -20,11 +20,7 @@ abbrev pub frees : Told → ℕ
 frees (Did s number moved) = one (is_free_step s)
 frees x = 0
 
--- how many threads the root has registered
-abbrev pub registrations : View → ℕ
-registrations v = registrations_of (log_items v.log)
-
--- and how many it has gathered: it has a log for each
+-- how many threads the root has gathered: it has a log for each
 abbrev pub gatherings : View → ℕ
 gatherings v = length v.gathered
 
@@ -43,7 +39,7 @@ in_u32 n = min n 4294967295
 abbrev pub in_u64 : ℕ → ℕ
 in_u64 n = min n 18446744073709551615
 
--- what a root counts is so of its view; it registers no more threads than a heap may have
+-- what a root counts is so of its view; it registers no more threads than a heap may register
 pub record Counts (view : View) (registered gathered : ℕ) (ledger : Ledger) : Type 0 where
   pub all_registered : registered ≡ registrations view
   pub few : registered ≤ MOST_REGISTRATIONS

@@ -27,11 +27,12 @@ module _ {A : Type 0} where
   -- are the live objects; each object that died had no holder, and died once for its birth. Of that run the root's own
   -- steps are its log, and those of each thread that was gathered are the log that the root took in: it has one for
   -- each registration that ended, and each item of a thread stands in one of them or in its seat's, once and in its
-  -- order. What that world counts for a registered thread, as the headline sums it up, is the ledger of all that the
-  -- thread did, which `Retired` answers; for the root it counts nothing. Which threads were registered and which are
-  -- gathered is told by the root's log: all are, where it has gathered as many as it has registered. Where all are
-  -- gathered, what their logs count, added up, is what that world counts with its past, and the blocks that are left are those of all
-  -- live objects and immortals, each with what was put home there last.
+  -- order. What that world counts for a registered number is the ledger of its last registration, which `Retired`
+  -- answers; for the root it counts nothing. What earlier registrations of a number count is the world's past. The
+  -- root's log tells how many registrations there were, how many numbers were used, and which of these are gathered:
+  -- all are, if it has gathered as often as it has registered. If all are gathered, what their logs count, added up, is
+  -- what that world counts, its past and its numbers together. The blocks that are left are then those of all live
+  -- objects and immortals, each with what was put home there last.
   pub record Ends (n limit id : ℕ) (root : View) (slots : List (Option (ℕ × Payload A))) : Type 0 where
     pub remains : Remains n limit id root slots
     pub reached : IsReached (world n limit remains.kept.run)

@@ -9,7 +9,7 @@ use Rattle.law_steps.specs.Joining.{next_thread, registrations, Leaves}
 use Rattle.brc_table.specs.Seated.{TableSeen, SeatSeen, RootSeen, view_of}
 use Rattle.brc_count.specs.declared.ledger.Ledger.{Ledger}
 
--- a thread is refused where 64 are there that aren't gathered, or 65,536 were registered; or memory was missing
+-- a thread is refused if 64 numbers are in use, or if 65,536 threads were registered; or memory was missing
 abbrev pub RefusesThread : RootSeen → Fault → Type 0
 RefusesThread root TooManyThreads =
     (MOST_THREADS < next_thread root.view) ⊎ (MOST_REGISTRATIONS ≤ registrations root.view)

@@ -12,9 +12,9 @@ use std::alloc::Allocator;
 /// Ends a heap that no thread shares any more. What is left is its blocks, to be given back one by one, by rising cell.
 /// The heap's last state is the world of one run of all that its threads did: there counts are references, and births
 /// less frees are the live objects (PEP 703, "Biased Reference Counting"; PACT 2018). The root's part of it is its log,
-/// with what each thread that it gathered did, and what it counts for a thread is the ledger that `Retired` answers.
-/// Where all threads were gathered, the blocks are those of the objects that live and of the immortals, each with what
-/// was put home there last.
+/// with what each thread that it gathered did, and what it counts for a number is the ledger that `Retired` answers of
+/// the number's last thread. Where all threads were gathered, the blocks are those of the objects that live and of the
+/// immortals, each with what was put home there last.
 pub fn take_apart<A: Allocator>(heap: Heap<A>, root: Root<A>) -> Rest<A>
     requires heap { root.table ≡ heap.table }
     ensures ended { Ends heap.cells heap.local_limit root.id root.view result }

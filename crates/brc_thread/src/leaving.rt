@@ -13,7 +13,7 @@ use brc_table::ThreadSeat;
 use std::alloc::{Allocator, Global};
 use std::marker::Model;
 
-/// A thread that has left: it has popped entries to deal with, and dead blocks.
+/// A thread that has left: it owns nothing, and has popped entries to deal with, and dead blocks.
 pub struct Leaving<H: Home<A>, A: Allocator> {
     pub(crate) frame: ClosedFrame<H, A>,
 }
@@ -54,7 +54,8 @@ impl<H: Home<A>, A: Allocator> Leaving<H, A> {
         self.frame.thread()
     }
 
-    /// How many objects the thread made, and how many cells it has given back, its own objects' and others'.
+    /// How many objects the thread made, and how many cells it has given back, its own objects' and others', since it
+    /// was registered.
     pub fn ledger(&self) -> Ledger
         ensures { result ≡ ledger_seen self.now }
     {
@@ -107,7 +108,7 @@ impl<H: Home<A>, A: Allocator> Leaving<H, A> {
 }
 
 impl<A: Allocator> Retired<A> {
-    /// How many objects the thread made, and how many cells it gave back.
+    /// How many objects the thread made, and how many cells it gave back, since it was registered.
     pub fn ledger(&self) -> Ledger
         ensures { result ≡ ledger_of self.now.heap.cells self.now.seat.log }
     {

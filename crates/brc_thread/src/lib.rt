@@ -2,7 +2,9 @@
 //!
 //! `Heap` and `Root` are made together. A `Mutator` is what a thread of the runtime works with: a frame (`brc_count`)
 //! and nothing else. `Resting` is a mutator on its way to another thread of the machine; `Leaving` a thread that has
-//! closed its merge queue, and `Retired` one that is done, for the root to gather. At the end the heap is taken apart.
+//! handed over what it owned and closed its merge queue, and `Retired` one that is done, for the root to gather. The
+//! number of a gathered thread is given again: 64 threads at a time, 65,536 in a heap's life. At the end the heap is
+//! taken apart.
 #![tactic(auto)]
 
 mod clearing;

@@ -51,7 +51,8 @@ impl<H: Home<A>, A: Allocator> Mutator<H, A> {
         &mut self.frame
     }
 
-    /// How many objects the thread has made, and how many cells it has given back, its own objects' and others'.
+    /// How many objects the thread has made, and how many cells it has given back, its own objects' and others', since
+    /// it was registered. What an earlier thread with its number did is not counted.
     pub fn ledger(&self) -> Ledger
         ensures { result ≡ ledger_seen self.now }
     {
@@ -143,8 +144,9 @@ impl<H: Home<A>, A: Allocator> Mutator<H, A> {
         self.frame.work(budget)
     }
 
-    /// Leaves: what it owns is handed over, by rising cell, and its queue words are closed, by rising number. It takes no
-    /// memory. A mutator that isn't idle, with a handle or a dead block, is answered as it was.
+    /// Leaves. Each object that it owns is handed over, by rising cell: the object has no owner any more, and its count
+    /// is the shared one. Then the queue words are closed, by rising number. It takes no memory. A mutator that isn't
+    /// idle, with a handle or a dead block, is answered as it was.
     pub fn leave(self) -> Result<Leaving<H, A>, Mutator<H, A>>
         requires unlocked { IsUnlocked self }
         ensures heap { IfOk result (λ leaving. leaving.heap ≡ self.heap) }

@@ -10,7 +10,7 @@ use std::alloc::{Allocator, Global};
 use std::marker::Model;
 
 /// A mutator without handles, away from its heap. It names no lifetime, and nothing in it must be spent: a closure can
-/// own it. One that is dropped is a thread that can't be gathered any more.
+/// own it. One that is dropped is a thread that can't be gathered any more, and its number isn't given again.
 #[derive(Drop)]
 pub struct Resting<A: Allocator = Global> {
     frame: RestingFrame<A>,

@@ -38,8 +38,8 @@ impl<H: Home<A> + Drop, A: Allocator> Leaving<H, A> {
 }
 
 impl<H: Home<A> + Drop, A: Allocator> Mutator<H, A> {
-    /// The thread ends: it settles, leaves, and deals with what is left. It needs no root, so any thread of the machine
-    /// can end so; `Root::gather` takes in what comes out. It takes no memory.
+    /// The thread ends: it settles, leaves, which hands over what it owns, and deals with what is left. It needs no
+    /// root, so any thread of the machine can end so; `Root::gather` takes in what comes out. It takes no memory.
     pub fn retire(self, rt: &impl Wait) -> Retired<A>
         requires bare { self.len ≡ 0 }
         requires unlocked { IsUnlocked self }
@@ -68,9 +68,9 @@ impl<H: Home<A> + Drop, A: Allocator> Mutator<H, A> {
         ledger
     }
 
-    /// Leaves without waiting: after at most so many turns of work on dead blocks, and without a poll. What others ask
-    /// of it later they do themselves (adoption); `Leaving::work` and `finish` do the rest. Where a dead block is left
-    /// after that many turns, the mutator is answered. It takes no memory.
+    /// Leaves without waiting: after at most so many turns of work on dead blocks, and without a poll. What it owns is
+    /// handed over, so nothing is asked of it later; `Leaving::work` and `finish` do the rest. If a dead block is left
+    /// after that many turns, the mutator is returned. It takes no memory.
     pub fn depart(self, budget: usize) -> Result<Leaving<H, A>, Mutator<H, A>>
         requires bare { self.len ≡ 0 }
         requires unlocked { IsUnlocked self }

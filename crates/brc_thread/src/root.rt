@@ -42,9 +42,10 @@ impl<A: Allocator> Model for Root<A> {
 }
 
 impl<A: Allocator + Copy> Root<A> {
-    /// The mutator of the next thread, which is registered with it: threads are numbered from 1. TooManyThreads, looked
-    /// at first, where 64 are there that aren't gathered, or 65,536 were registered in all; OutOfMemory where its counts or popped bits can't be had. A refusal
-    /// changes nothing.
+    /// The mutator of the next thread, which is registered with it. Its number, from 1 to 64, is the lowest that nobody
+    /// has: once a thread is gathered, its number is given again. TooManyThreads, looked at first, if 64 registered
+    /// threads aren't gathered yet, or if 65,536 were registered in all. OutOfMemory if its counts, its owned bits or
+    /// its popped bits can't be had. A refusal changes nothing: the number is the next thread's.
     pub fn register<H: Home<A> + Drop>(&mut self, alloc: A, heap: H) -> Result<Mutator<H, A>, Fault>
         requires heap { self.old.table ≡ (H.seen heap).table }
         ensures heap { IfOk result (λ mutator. mutator.heap ≡ H.seen heap) }
@@ -73,14 +74,14 @@ impl<A: Allocator + Copy> Root<A> {
 }
 
 impl<A: Allocator> Root<A> {
-    /// The number that the next thread gets: the lowest that nobody has.
+    /// The number that the next thread gets: the lowest that nobody has. It is 65 if all 64 are in use.
     pub fn next(&self) -> u32
         ensures { result ≡ next_thread self.now.view }
     {
         self.seat.next()
     }
 
-    /// How many threads have been registered: 65,536 at most.
+    /// How many threads have been registered, each of those that had the same number, too: 65,536 at most.
     pub fn registered(&self) -> u32
         ensures told { result ≡ registrations self.now.view }
         ensures few { result ≤ MOST_REGISTRATIONS }
@@ -96,7 +97,7 @@ impl<A: Allocator> Root<A> {
         self.gathered
     }
 
-    /// What the threads did that were gathered, added up, as far as 64 bits count.
+    /// What the threads did that were gathered, added up over all registrations, as far as 64 bits count.
     pub fn ledger(&self) -> Ledger
         ensures allocs { result.allocs ≡ in_u64 (births_of_all self.now.view.gathered) }
         ensures frees { result.frees ≡ in_u64 (frees_of_all self.now.view.gathered) }
@@ -104,7 +105,8 @@ impl<A: Allocator> Root<A> {
         self.ledger
     }
 
-    /// Takes a thread in that is done. What it did is the root's to know from now on.
+    /// Takes a thread in that is done. What it did is the root's to know from now on, and its number is free for
+    /// another.
     pub fn gather(&mut self, heap: &Heap<A>, retired: Retired<A>)
         requires heap { self.old.table ≡ heap.now.table }
         requires same_heap { retired.heap ≡ heap.now }

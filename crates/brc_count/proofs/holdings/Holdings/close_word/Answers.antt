@@ -3,7 +3,7 @@ use Rattle.law_world.specs.Heap.{words_for}
 use Rattle.law_world.specs.Lists.{word_at, is_blank}
 use Rattle.law_rule.specs.Seen.{part_seen}
 use Rattle.brc_count.specs.Closing.{Closed, stage_with}
-use Rattle.brc_count.specs.Frames.{FrameSeen, Holding, IsUnlocked, popped_seen}
+use Rattle.brc_count.specs.Frames.{FrameSeen, IsUnlocked, popped_seen}
 use Rattle.brc_count.proofs.Leaving.{may_close}
 use Rattle.brc_count.proofs.Popping.{after_pops, closed_pops}
 use Rattle.brc_count.proofs.holdings.Holdings.close_word.Goals as goal

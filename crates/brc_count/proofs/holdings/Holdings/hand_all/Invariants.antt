@@ -1,8 +1,4 @@
-use Rattle.std.proofs.Common.{◌≡◌, ◌-◌, ◌≤◌, ◌<◌, ℕ}
-use Rattle.brc_words.specs.declared.limits.TheConstants.{FIRST_MORTAL}
-use Rattle.law_rule.specs.Seen.{counts_seen}
-use Rattle.brc_count.specs.Frames.{IsActive, IsUnlocked, popped_seen}
-use Rattle.brc_count.specs.Closing.{HandsEach}
+use Rattle.std.proofs.Common.{◌≡◌, ◌-◌}
 use Rattle.brc_count.proofs.Handing.{HandsUpTo}
 use Rattle.brc_count.proofs.holdings.Holdings.hand_all.Given as goal
 

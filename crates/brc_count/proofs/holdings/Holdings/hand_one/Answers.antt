@@ -1,4 +1,4 @@
-use Rattle.std.proofs.Common.{◌≡◌, subst, sym, refl, ◌∙◌, ap}
+use Rattle.std.proofs.Common.{subst, sym, ◌∙◌, ap}
 use Rattle.brc_count.specs.Frames.{IsUnlocked, pushed}
 use Rattle.brc_count.proofs.Popping.{after_handed}
 use Rattle.brc_count.proofs.holdings.Holdings.hand_one.Goals as goal

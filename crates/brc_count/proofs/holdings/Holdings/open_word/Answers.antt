@@ -1,4 +1,4 @@
-use Rattle.std.proofs.Common.{◌≡◌, refl, sym, subst}
+use Rattle.std.proofs.Common.{◌≡◌, sym, subst}
 use Rattle.law_world.specs.Heap.{words_for}
 use Rattle.law_rule.specs.Seen.{part_seen}
 use Rattle.brc_count.specs.Closing.{Opened, stage_opened}

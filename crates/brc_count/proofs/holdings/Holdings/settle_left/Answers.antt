@@ -9,7 +9,8 @@ invariant_of-self g c =
     let up = c.settle_left-answered.ensures in
     let all = after_settle c.self.inside.counter.seat c.settle_left-answered.new.self.seat
     {popped = c.self.inside.popped.items} c.args.cell
-    (word_at c.self.inside.popped.items (c.args.cell / 32)) c.settle_left-answered.result c.self.invariant up.seat up.knows
+    (word_at c.self.inside.popped.items (c.args.cell / 32)) c.settle_left-answered.result
+    c.self.invariant up.seat up.knows
     up.keeps up.block
     (ap (λ ws. bit_of ws c.args.cell) c.self.invariant.popped_is ∙ subst (λ f. bit_of (popped_seen f) c.args.cell ≡ 1)
     (sym c.self.view_is) c.requires.popped) refl
@@ -21,7 +22,8 @@ invariant_of-self-in_default g c =
     let up = c.settle_left-answered.ensures in
     let all = after_settle c.self.inside.counter.seat c.settle_left-answered.new.self.seat
     {popped = c.self.inside.popped.items} c.args.cell
-    (word_at c.self.inside.popped.items (c.args.cell / 32)) c.settle_left-answered.result c.self.invariant up.seat up.knows
+    (word_at c.self.inside.popped.items (c.args.cell / 32)) c.settle_left-answered.result
+    c.self.invariant up.seat up.knows
     up.keeps up.block
     (ap (λ ws. bit_of ws c.args.cell) c.self.invariant.popped_is ∙ subst (λ f. bit_of (popped_seen f) c.args.cell ≡ 1)
     (sym c.self.view_is) c.requires.popped) refl

@@ -1,18 +1,11 @@
 use Rattle.std.proofs.Common.{◌+◌, arith, ap, sym, subst, ◌∙◌}
 use Rattle.law_rule.specs.declared.view.View.{View}
 use Rattle.brc_thread.specs.Counting.{Counts}
-use Rattle.brc_thread.proofs.Counted.{next_counted, counts_registered}
+use Rattle.brc_thread.proofs.Counted.{counts_registered}
 use Rattle.brc_thread.proofs.root.Root.register.Goals as goal
 
 pub overflow_add-self : goal.overflow_add-self
-overflow_add-self g c =
-    omega (
-      arith,
-      c.self.invariant.2.all_registered,
-      next_counted c.self.inside.seat.view,
-      c.next.ensures,
-      c.if-next-gt-MOST_THREADS.false,
-    )
+overflow_add-self g c = omega (arith, c.self.invariant.2.few)
 
 pub invariant_of-self : goal.invariant_of-self
 invariant_of-self g c =
@@ -22,5 +15,5 @@ invariant_of-self g c =
       ap (λ (v : View). v.thread) told ∙ c.self.invariant.1,
       subst (λ (v : View). Counts v (old.registered + 1) old.gathered old.ledger) (sym told)
           (counts_registered old.seat.view old.registered old.gathered old.ledger c.self.invariant.2
-          (omega (arith, c.next.ensures, c.if-next-gt-MOST_THREADS.false))),
+          (omega (arith, c.self.invariant.2.all_registered))),
     )
