@@ -3,7 +3,7 @@
 use rand::RngExt;
 use rand_core::Rng;
 
-/// A heap registers 64 threads: the players, the last section, and the program's own, which clears the globals.
+/// A heap has 64 threads at a time: the players, the last section, and the program's own, which clears the globals.
 const MOST_PLAYERS: u32 = 62;
 
 /// How many sections play; one more shares what they play with, and adds up what they got.

@@ -1,5 +1,6 @@
 //! Worked runs of the heap as calls on the seats of its table, run by the gate: one object's whole life, merges, asks
-//! and drains, counts below zero, an adoption, a lost exchange, threads that leave.
+//! and drains, counts below zero, a lost exchange, threads that leave and hand their objects over, and a number that is
+//! used again.
 //!
 //! Tests, and what they look at. Each call's conditions are shown from the contracts of `brc_table` alone, so this is
 //! also how a caller uses them; and each answer is compared with what the trace's step finds.

@@ -1,5 +1,7 @@
 //! A thread that has too little memory to enter, with a bit more each time until it enters.
 
+ghost use Rattle.std.specs.Prelude.{◌<◌};
+
 use crate::tests::phases::{ends, entered, leaves, opened};
 use brc_biased::{first_counts, no_bits};
 use brc_count::Frame;
@@ -56,7 +58,9 @@ fn enters_with(rt: &impl Abort, alloc: Global, bytes: usize) -> bool {
 
 /// How many of a thread's growths are had from so much memory, before that of its popped words: those of its counts,
 /// and that of its owned bits.
-fn had_with(rt: &impl Abort, alloc: Global, bytes: usize) -> usize {
+fn had_with(rt: &impl Abort, alloc: Global, bytes: usize) -> usize
+    ensures { result < 3 }
+{
     let scarce = an_arena(rt, alloc, bytes);
     let Ok(_counts) = first_counts(&scarce, 512) else {
         return 0;

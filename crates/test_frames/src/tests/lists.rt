@@ -201,7 +201,7 @@ fn a_list_is_freed_by_whom_it_should(rt: HostRuntime) {
     let cases = [
         // An asked owner merges at its poll.
         (1, Before::Freed, 0, By::Maker),
-        // An asked owner merges after it has left.
+        // An asked owner merges as it leaves, and finds the request in its queue then.
         (1, Before::Asked, 2, By::Maker),
         // An owner that left isn't asked.
         (1, Before::Nothing, 0, By::Other),

@@ -177,7 +177,10 @@ fn lists_outlive_the_threads_that_made_them(rt: HostRuntime) {
         leaves_a_list(&rt, rt.alloc(), &heap, &mut root, key);
     }
     clears(&rt, rt.alloc(), &heap, &mut root, 200);
-    assert_eq!(rt; (root.registered(), root.gathered(), root.next()), (201, 201, 1));
+    assert_eq!(rt;
+        (root.registered(), root.gathered(), root.next()),
+        (201, 201, 1)
+    );
     says(&rt, root.ledger(), (200, 200));
     let Ok(report) = closed(rt.alloc(), heap, root) else {
         panic!(rt; "no report can be had")

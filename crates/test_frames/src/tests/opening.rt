@@ -45,7 +45,10 @@ fn is_registered<R: Abort + Wait, A: Allocator + Copy>(
         }
         Err(fault) => {
             assert_eq!(rt; fault, Fault::OutOfMemory);
-            assert_eq!(rt; (root.next(), root.registered(), root.gathered()), (1, before, before));
+            assert_eq!(rt;
+                (root.next(), root.registered(), root.gathered()),
+                (1, before, before)
+            );
             false
         }
     }
@@ -99,7 +102,10 @@ fn a_thread_without_memory_is_refused(rt: HostRuntime) {
     let (mut refused, mut registered) = (0u32, 0u32);
     for size in 1..400usize {
         let is_registered = registers_with(&rt, rt.alloc(), size * 16, 0);
-        assert_eq!(rt; registers_with(&rt, rt.alloc(), size * 16, 1), is_registered);
+        assert_eq!(rt;
+            registers_with(&rt, rt.alloc(), size * 16, 1),
+            is_registered
+        );
         if is_registered {
             registered = registered.wrapping_add(1);
         } else {
