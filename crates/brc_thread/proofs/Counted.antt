@@ -1,5 +1,5 @@
 -- What a thread's part of the world counts is what its log counts, and what a root counts when it gathers it.
-use Rattle.std.proofs.Common.{◌≡◌, ◌<◌, ◌≤◌, ℕ, ◌+◌, false, List, [], ◌∷◌, Option, Some, None, refl, sym, ◌∙◌, ap}
+use Rattle.std.proofs.Common.{◌≡◌, ◌<◌, ℕ, ◌+◌, false, List, [], ◌∷◌, Option, Some, None, refl, sym, ◌∙◌, ap}
 use Rattle.std.proofs.Common.{arith}
 use Rattle.std.specs.Prelude.{min, sum_by}
 use Rattle.std.proofs.lemmas.List.Sums.{sum_by-cons}
@@ -8,15 +8,14 @@ use Rattle.law_world.specs.Lists.{one}
 use Rattle.law_world.specs.Holding.{is_birth}
 use Rattle.law_world.specs.Steps.{is_free_step, allocs_after, frees_after}
 use Rattle.law_world.specs.declared.event.Step.{Step}
-use Rattle.law_world.specs.declared.event.Step.TheVariants.{Birth, Free, Register, Gather}
+use Rattle.law_world.specs.declared.event.Step.TheVariants.{Birth, Free}
 use Rattle.law_known.specs.Items.{Part, part_by, meant}
 use Rattle.law_rule.specs.declared.told.Told.{Told}
 use Rattle.law_rule.specs.declared.told.Told.TheVariants.{Did, Saw, Lost}
-use Rattle.law_rule.specs.Logs.{log_items, entries_found}
+use Rattle.law_rule.specs.Logs.{entries_found}
 use Rattle.law_rule.specs.Seen.{part_seen}
 use Rattle.law_rule.specs.declared.view.View.{View}
 use Rattle.law_steps.specs.Joining.{registering, gathering}
-use Rattle.law_rule.specs.declared.told.Moved.TheVariants.{Nothing}
 use Rattle.brc_count.specs.declared.ledger.Ledger.{Ledger}
 use Rattle.brc_thread.specs.Threads.{ledger_of}
 use Rattle.brc_thread.specs.Counting.{bears, frees, registrations, gatherings, births_of_all, frees_of_all}
