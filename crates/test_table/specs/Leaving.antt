@@ -1,5 +1,5 @@
 -- What a thread's part is as it closes its queue words in turn, in a heap of 512 cells, or opens them again.
-use Rattle.std.specs.Prelude.{◌≡◌, ◌<◌, ◌≤◌, ℕ, ◌==◌, nat_le, Bool, true, if◌then◌else◌, List, [], replicate, Option, None}
+use Rattle.std.specs.Prelude.{◌≡◌, ◌<◌, ◌≤◌, ℕ, ◌==◌, nat_le, true, if◌then◌else◌, List, [], replicate, None}
 use Rattle.std.specs.Prelude.{slice_set}
 use Rattle.brc_words.specs.declared.limits.TheConstants.{FIRST_MORTAL}
 use Rattle.law_world.specs.declared.row.Stage.{Stage}
