@@ -9,19 +9,25 @@ use Rattle.std.proofs.lemmas.Nat.{shr-shr}
 use Rattle.std.proofs.lemmas.Nat.Bits.{bit_at-zero}
 use Rattle.brc_words.specs.declared.limits.TheConstants.{FIRST_MORTAL, IMMORTAL_LOCAL}
 use Rattle.law_world.specs.Heap.{words_for}
-use Rattle.law_world.specs.Lists.{bit_of, word_at, with_bit, without_bit}
+use Rattle.law_world.specs.Lists.{bit_of, word_at, with_bit}
 use Rattle.law_world.proofs.Bitwise.{with_bit_here, with_bit_else}
-use Rattle.law_world.proofs.Bitwise.{length-with_bit, without_bit_else, length-without_bit}
+use Rattle.law_world.proofs.Bitwise.{length-with_bit}
 use Rattle.law_rule.specs.declared.told.Told.{Told}
 use Rattle.law_world.specs.Steps.{is_active}
 use Rattle.law_rule.specs.Seen.{part_seen, counts_seen}
 use Rattle.brc_biased.specs.Counter.{CountsFit, AreOwned, first_count}
 
-pub other_bits : (words : List ℕ) (cell c : ℕ) → c ≢ cell → bit_of (without_bit words cell) c ≡ bit_of words c
-other_bits words cell c other = without_bit_else words cell c other
-
-pub same_width : (words : List ℕ) (cell : ℕ) → length (without_bit words cell) ≡ length words
-same_width words cell = length-without_bit words cell
+-- a word of 32 bits is written, and changes at most in the bit of one cell
+pub other_bits : (words : List ℕ) (cell word : ℕ) → cell / 32 < length words
+    → ((i : ℕ) → i < 32 → i ≢ cell % 32 → bit_at word i ≡ bit_at (word_at words (cell / 32)) i)
+    → (c : ℕ) → c ≢ cell → bit_of (set words (cell / 32) word) c ≡ bit_of words c
+other_bits words cell word inside rest c other = elim (cases_eq (c / 32) (cell / 32)) [
+  | inl same ↦ ap (λ k. bit_at (word_at (set words (cell / 32) word) k) (c % 32)) same
+      ∙ ap (λ w. bit_at w (c % 32)) (get_or-set_same words (cell / 32) word 0 inside)
+      ∙ rest (c % 32) (omega arith) (λ is. other (omega (arith, is, same)))
+      ∙ ap (λ k. bit_at (word_at words k) (c % 32)) (sym same)
+  | inr apart ↦ ap (λ w. bit_at w (c % 32)) (get_or-set_other words (cell / 32) (c / 32) word 0 apart)
+]
 
 -- a cell's count is gone, of a mortal one or of one that was never counted
 module _ (n : ℕ) (before log : List Told) (counts : List ℕ) (cell : ℕ) (fit : CountsFit n before counts)

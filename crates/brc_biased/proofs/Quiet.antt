@@ -30,7 +30,7 @@ and_more : (x : Told) (before log : List Told) → is_quiet x ≡ true → Quiet
 and_more x before log quiet more = quietly_joined before (x ∷ before) log (OneMore x before NoItem quiet) more
 
 module _ {A : Type 0} where
-  ends_quietly : (s : Step) (c : ℕ) (block : Option (ℕ × Payload A)) (before log : List Told) → only_lets_go s ≡ true
+  pub ends_quietly : (s : Step) (c : ℕ) (block : Option (ℕ × Payload A)) (before log : List Told) → only_lets_go s ≡ true
       → Ends s c block before log → Quietly before log
   ends_quietly s c None before log quiet ends = one (Did s ends.number Nothing) before log
       (ap (λ b. b && true) quiet) ends.told

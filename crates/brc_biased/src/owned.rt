@@ -3,6 +3,7 @@
 
 ghost use Rattle.std.specs.Prelude.{◌≡◌, ◌≢◌, ◌<◌, ◌≤◌, ◌/◌, ◌%◌, ◌^◌, ◌==◌, ℕ, length, replicate, slice_index, IfOk, IsTrue, IsFalse};
 ghost use Rattle.std.specs.Prelude.{IfSome, IfNone};
+ghost use Rattle.std.specs.Int.{bit_at};
 ghost use Rattle.brc_words.specs.declared.limits.TheConstants.{FIRST_MORTAL};
 ghost use Rattle.law_world.specs.Heap.{words_for};
 ghost use Rattle.law_world.specs.Lists.{bit_of, word_at, with_bit, without_bit};
@@ -31,22 +32,22 @@ pub(crate) fn mark_owned<A: Allocator>(words: &mut Vec<u64, A>, cell: u32)
     words[at] = words[at] | (1 << (cell % 32));
 }
 
-/// The bits of a word from the cell's own one on.
+/// The word that has the cell's bit.
+#[inline(always)]
+fn word_of<A: Allocator>(words: &Vec<u64, A>, cell: u32) -> u64
+    requires inside { cell / 32 < length words.now.items }
+    ensures { result ≡ word_at words.now.items (cell / 32) }
+{
+    words[(cell / 32) as usize]
+}
+
+/// The bits of that word from the cell's own one on.
 #[inline(always)]
 fn bits_from<A: Allocator>(words: &Vec<u64, A>, cell: u32) -> u64
     requires inside { cell / 32 < length words.now.items }
     ensures { result ≡ word_at words.now.items (cell / 32) / 2 ^ (cell % 32) }
 {
-    words[(cell / 32) as usize] >> (cell % 32)
-}
-
-/// Whether the cell's bit is set.
-#[inline(always)]
-fn is_marked<A: Allocator>(words: &Vec<u64, A>, cell: u32) -> bool
-    requires inside { cell / 32 < length words.now.items }
-    ensures { result ≡ (bit_of words.now.items cell == 1) }
-{
-    bits_from(words, cell) & 1 == 1
+    word_of(words, cell) >> (cell % 32)
 }
 
 /// The cell's bit is cleared; it was set.
@@ -59,17 +60,24 @@ pub fn strike<A: Allocator>(words: &mut Vec<u64, A>, cell: u32)
     words[at] = words[at] ^ (1 << (cell % 32));
 }
 
-#[tactic(auto, using(crate::proofs::Owning::other_bits, crate::proofs::Owning::same_width))]
-/// The cell's bit is cleared, if it was set.
+/// The bits of a word without one of the lower 32. A mask costs less than a look at the bit.
+#[inline(always)]
+fn without(bits: u64, at: u32) -> u64
+    requires low { at < 32 }
+    ensures others { (i : ℕ) → i < 32 → i ≢ at → bit_at result i ≡ bit_at bits i }
+{
+    bits & !(1 << at)
+}
+
+/// The cell's bit is cleared, whether it was set or not.
 #[inline(always)]
 pub(crate) fn clear_owned<A: Allocator>(words: &mut Vec<u64, A>, cell: u32)
     requires inside { cell / 32 < length words.old.items }
     ensures wide { length words.new.items ≡ length words.old.items }
     ensures others { (c : ℕ) → c ≢ cell → bit_of words.new.items c ≡ bit_of words.old.items c }
 {
-    if is_marked(words, cell) {
-        strike(words, cell);
-    }
+    let rest = without(word_of(words, cell), cell % 32);
+    words[(cell / 32) as usize] = rest;
 }
 
 impl<H: Home<A>, A: Allocator> Counter<H, A> {

@@ -18,7 +18,8 @@ use Rattle.law_rule.specs.Seen.{part_seen}
 use Rattle.brc_block.specs.declared.payload.Payload.{Payload}
 use Rattle.brc_table.specs.Seated.{SeatSeen}
 use Rattle.brc_table.specs.Moving.{found_in}
-use Rattle.brc_biased.specs.Released.{Ends, HandsOver}
+use Rattle.brc_biased.specs.Released.{HandsOver}
+use Rattle.brc_biased.proofs.Quiet.{ends_quietly}
 use Rattle.brc_count.specs.Closing as closing
 use Rattle.brc_count.specs.Closing.{Closes, HandsEach, GoesOut, TurnedLeaving, TurnsLeaving}
 use Rattle.brc_count.specs.Frames.{FrameSeen}
@@ -54,14 +55,6 @@ closes_quietly before _ _ (closing.Closed k bits log more) =
     OneMore (Did (Close k) bits Nothing) log (closes_quietly before k log more) refl
 
 module _ {A : Type 0} where
-  -- a step by which an object may end
-  ends_quietly : (s : Step) (c : ℕ) (block : Option (ℕ × Payload A)) (before log : List Told) → only_lets_go s ≡ true
-      → Ends s c block before log → Quietly before log
-  ends_quietly s c None before log quiet ends = subst (Quietly before) (sym ends.told)
-      (OneMore (Did s ends.number Nothing) before NoItem (ap (λ b. b && true) quiet))
-  ends_quietly s c (Some block) before log quiet ends = subst (Quietly before) (sym ends.told)
-      (OneMore (Did s ends.number (found_in c (Some block))) before NoItem (ap (λ b. b && true) quiet))
-
   goes_quietly : (old new : FrameSeen A) → PollsAndWorks old new → GoesQuietly old new
   goes_quietly old _ settling.Nothing = NoItem
   goes_quietly old new (settling.Worked n mid _ before turns) =
