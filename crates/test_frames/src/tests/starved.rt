@@ -1,6 +1,7 @@
 //! Deaths, an asked owner and a hand-over while no memory is left: what a call gives back is taken at once, so that a
 //! release, a poll, turns of work and all that a thread does on its way out take none.
 
+ghost use Rattle.std.specs.Prelude.{◌≡◌};
 ghost use Rattle.brc_count.specs.Frames.{IsUnlocked, Owns};
 ghost use Rattle.brc_count.specs.Owned.{GoesOn};
 ghost use Rattle.test_tools.specs.Calls.{IsBare, OwnsAll, OwnsBoth, OwnsOne, Parts};
