@@ -1,8 +1,8 @@
 //! Sessions in the globals, one for each number of a worker: a list of what was asked there. A session lives on when
 //! the thread that opened it has left, until another one opens the next in its place.
 
-ghost use Rattle.std.specs.Prelude.{◌≡◌};
-ghost use Rattle.brc_heap.specs.Words.{IsUnlocked, Keeps, Owns};
+ghost use Rattle.std.specs.Prelude.{◌≡◌, IfSome, IfNone};
+ghost use Rattle.brc_heap.specs.Words.{Gains, IsUnlocked, Keeps, Owns};
 
 use crate::worker::WORKERS;
 use brc_heap::{Frame, Handle, Heap, Key, Root, dict_find, dict_put, list_push, new_int, new_list};
@@ -22,11 +22,33 @@ fn writes(
     ensures keeps { Keeps frame.old frame.new }
     ensures unlocked { IsUnlocked frame.new }
 {
-    let number = new_int(alloc, frame, request).ok()?;
+    let Ok(number) = new_int(alloc, frame, request) else {
+        return None;
+    };
     match list_push(rt, frame, session, number) {
         Ok(()) => Some(()),
         Err(handed) => {
             frame.release(handed.back); // a refused call hands back what it took
+            None
+        }
+    }
+}
+
+#[tactic(auto, using(crate::proofs::Written::written_gains, crate::proofs::Written::dropped_keeps))]
+/// A new session with its first request. None where one of the two can't be had.
+fn new_session(rt: &impl Wait, alloc: Global, frame: &mut Frame) -> Option<Handle>
+    requires unlocked { IsUnlocked frame.old }
+    ensures gains { IfSome result (Gains frame.old frame.new) }
+    ensures keeps { IfNone result (Keeps frame.old frame.new) }
+    ensures unlocked { IsUnlocked frame.new }
+{
+    let Ok(session) = new_list(alloc, frame) else {
+        return None;
+    };
+    match writes(rt, alloc, frame, &session, 1_000) {
+        Some(()) => Some(session),
+        None => {
+            frame.release(session);
             None
         }
     }
@@ -46,13 +68,14 @@ pub(crate) fn opens(
     ensures keeps { Keeps frame.old frame.new }
     ensures unlocked { IsUnlocked frame.new }
 {
-    let session = new_list(alloc, frame).ok()?;
-    let written = writes(rt, alloc, frame, &session, 1_000);
+    let Some(session) = new_session(rt, alloc, frame) else {
+        return None;
+    };
     match dict_put(rt, frame, globals, Key::Int(number), session) {
-        Ok(None) => written,
+        Ok(None) => Some(()),
         Ok(Some(old)) => {
             frame.release(old);
-            written
+            Some(())
         }
         Err(handed) => {
             frame.release(handed.back.1);
@@ -75,7 +98,9 @@ pub(crate) fn asks(
     ensures keeps { Keeps frame.old frame.new }
     ensures unlocked { IsUnlocked frame.new }
 {
-    let session = dict_find(rt, frame, globals, &Key::Int(number)).ok()?;
+    let Ok(session) = dict_find(rt, frame, globals, &Key::Int(number)) else {
+        return None;
+    };
     let written = writes(rt, alloc, frame, &session, request);
     frame.release(session);
     written
