@@ -1,67 +1,78 @@
 //! Sessions in the globals, one for each number of a worker: a list of what was asked there. A session lives on when
 //! the thread that opened it has left, until another one opens the next in its place.
 
-ghost use Rattle.std.specs.Prelude.{◌≡◌};
-ghost use Rattle.brc_heap.specs.Words.{IsUnlocked, Keeps, Owns};
+ghost use Rattle.std.specs.Prelude.{◌≡◌, IfSome, IfNone};
+ghost use Rattle.brc_heap.specs.Words.{Gains, IsUnlocked, Keeps, Owns};
 
 use crate::worker::WORKERS;
 use brc_heap::{Frame, Handle, Heap, Key, Root, dict_find, dict_put, list_push, new_int, new_list};
 use std::alloc::Global;
 use std::sync::Wait;
 
-/// A request becomes the last entry of a session. None where it can't be had, or has no room there.
-fn writes(
-    rt: &impl Wait,
-    alloc: Global,
-    frame: &mut Frame,
-    session: &Handle,
-    request: i64,
-) -> Option<()>
+/// A request becomes the last entry of a session: whether it is there.
+fn writes(rt: &impl Wait, alloc: Global, frame: &mut Frame, session: &Handle, request: i64) -> bool
     requires owned { Owns frame.old session.now }
     requires unlocked { IsUnlocked frame.old }
     ensures keeps { Keeps frame.old frame.new }
     ensures unlocked { IsUnlocked frame.new }
 {
-    let number = new_int(alloc, frame, request).ok()?;
-    match list_push(rt, frame, session, number) {
-        Ok(()) => Some(()),
-        Err(handed) => {
-            frame.release(handed.back); // a refused call hands back what it took
-            None
-        }
+    let Ok(number) = new_int(alloc, frame, request) else {
+        return false;
+    };
+    if let Err(handed) = list_push(rt, frame, session, number) {
+        frame.release(handed.back); // a refused call hands back what it took
+        return false;
     }
+    true
 }
 
-/// A new session takes the place of the one that is there under this number, which is let go. None where it isn't put
-/// there.
+/// A new session, with a first request in it; None where it can't be had.
+fn a_session(rt: &impl Wait, alloc: Global, frame: &mut Frame) -> Option<Handle>
+    requires unlocked { IsUnlocked frame.old }
+    ensures gains { IfSome result (Gains frame.old frame.new) }
+    ensures keeps { IfNone result (Keeps frame.old frame.new) }
+    ensures unlocked { IsUnlocked frame.new }
+{
+    let Ok(session) = new_list(alloc, frame) else {
+        return None;
+    };
+    if writes(rt, alloc, frame, &session, 1_000) {
+        return Some(session);
+    }
+    frame.release(session);
+    None
+}
+
+/// A new session takes the place of the one that is there under this number, which is let go: whether it is there now.
 pub(crate) fn opens(
     rt: &impl Wait,
     alloc: Global,
     frame: &mut Frame,
     globals: &Handle,
     number: i64,
-) -> Option<()>
+) -> bool
     requires owned { Owns frame.old globals.now }
     requires unlocked { IsUnlocked frame.old }
     ensures keeps { Keeps frame.old frame.new }
     ensures unlocked { IsUnlocked frame.new }
 {
-    let session = new_list(alloc, frame).ok()?;
-    let written = writes(rt, alloc, frame, &session, 1_000);
+    let Some(session) = a_session(rt, alloc, frame) else {
+        return false;
+    };
     match dict_put(rt, frame, globals, Key::Int(number), session) {
-        Ok(None) => written,
+        Ok(None) => true,
         Ok(Some(old)) => {
             frame.release(old);
-            written
+            true
         }
         Err(handed) => {
             frame.release(handed.back.1);
-            None
+            false
         }
     }
 }
 
-/// A request is written to the session that is there under this number, whoever opened it. None where it isn't written.
+/// A request is written to the session that is there under this number, whoever opened it: whether it is there.
 pub(crate) fn asks(
     rt: &impl Wait,
     alloc: Global,
@@ -69,13 +80,15 @@ pub(crate) fn asks(
     globals: &Handle,
     number: i64,
     request: i64,
-) -> Option<()>
+) -> bool
     requires owned { Owns frame.old globals.now }
     requires unlocked { IsUnlocked frame.old }
     ensures keeps { Keeps frame.old frame.new }
     ensures unlocked { IsUnlocked frame.new }
 {
-    let session = dict_find(rt, frame, globals, &Key::Int(number)).ok()?;
+    let Ok(session) = dict_find(rt, frame, globals, &Key::Int(number)) else {
+        return false;
+    };
     let written = writes(rt, alloc, frame, &session, request);
     frame.release(session);
     written
@@ -89,7 +102,7 @@ fn opens_each(rt: &impl Wait, alloc: Global, frame: &mut Frame, globals: &Handle
     ensures unlocked { IsUnlocked frame.new }
 {
     for number in 1..WORKERS + 1 {
-        if opens(rt, alloc, frame, globals, number as i64).is_none() {
+        if !opens(rt, alloc, frame, globals, number as i64) {
             return false;
         }
     }

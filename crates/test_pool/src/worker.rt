@@ -29,6 +29,6 @@ impl<R: Wait> Life<R> for Serving {
         let opened = opens(rt, self.alloc, frame, &globals, number);
         let asked = asks(rt, self.alloc, frame, &globals, neighbour, 2_000 + number);
         frame.release(globals);
-        opened.is_some() && asked.is_some()
+        opened && asked
     }
 }
