@@ -145,7 +145,7 @@ where
     let (retired, whole) = join_mut(
         rt,
         &mut || -> Option<Retired>
-            requires { IfSome second.now (λ resting. resting.heap ≡ heap.now) }
+            requires { IfSome second (λ resting. resting.heap ≡ heap.now) }
             ensures { IfSome result (λ retired. retired.heap ≡ heap.entry.now) }
         {
             let resting = second.take()?;
