@@ -1,7 +1,7 @@
 //! While one thread has the globals locked.
 
 ghost use Rattle.std.specs.Prelude.{◌≡◌};
-ghost use Rattle.brc_count.specs.Frames.{Owns};
+ghost use Rattle.brc_count.specs.Frames.{IsUnlocked, Owns};
 ghost use Rattle.test_tools.specs.Calls.{OwnsBoth, OwnsOne, Parts, Stays};
 
 use crate::tests::calls::{Getting, Giving, gets, gets_none, gives};
@@ -72,24 +72,33 @@ fn puts_then<R: Abort + Wait, H: Home<A>, A: Allocator + Copy>(
     frame.release(list);
 }
 
+/// The second thread makes a list, finds the globals Busy while the first has them locked, and uses them after that.
+fn takes_turns<R: Abort + Wait, H: Home<A>, A: Allocator + Copy>(
+    rt: &R,
+    alloc: A,
+    first: &mut Frame<H, A>,
+    second: &mut Frame<H, A>,
+)
+    requires first { IsUnlocked first.old }
+    requires second { IsUnlocked second.old }
+    ensures first { Stays first.old first.new }
+    ensures second { Stays second.old second.new }
+{
+    let globals = first.immortal(GLOBALS).expect(rt, "no place is left");
+    let others = second.immortal(GLOBALS).expect(rt, "no place is left");
+    let list = made(alloc, second, Thing::List).expect(rt, "no list is made");
+    let list = locks_meanwhile(rt, first, &globals, second, &others, list);
+    puts_then(rt, second, &others, list);
+    first.release(globals);
+    second.release(others);
+}
+
 #[test]
 fn what_another_thread_has_locked_is_busy(rt: HostRuntime) {
     let (heap, mut root) = a_heap(&rt, rt.alloc(), 512);
     let mut first = a_thread(&rt, rt.alloc(), &heap, &mut root);
     let mut second = a_thread(&rt, rt.alloc(), &heap, &mut root);
-    let globals = first
-        .frame()
-        .immortal(GLOBALS)
-        .expect(&rt, "no place is left");
-    let others = second
-        .frame()
-        .immortal(GLOBALS)
-        .expect(&rt, "no place is left");
-    let list = made(rt.alloc(), second.frame(), Thing::List).expect(&rt, "no list is made");
-    let list = locks_meanwhile(&rt, first.frame(), &globals, second.frame(), &others, list);
-    puts_then(&rt, second.frame(), &others, list);
-    first.frame().release(globals);
-    second.frame().release(others);
+    takes_turns(&rt, rt.alloc(), first.frame(), second.frame());
     let _first = first.end(&rt, &mut root, &heap);
     let ledger = second.end(&rt, &mut root, &heap);
     assert_eq!(rt; (ledger.allocs, ledger.frees), (1, 1));
