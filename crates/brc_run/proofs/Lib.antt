@@ -2,6 +2,8 @@ mod Sent
 mod Ordered
 mod Taken
 mod One_Heap
+mod Left_Alone
+mod Cleared
 mod Retired_Quietly
 mod Telling
 mod Reported

@@ -1,6 +1,7 @@
--- As a thread retires its log goes on, and nothing is born. Before it hands over it only lets go, and after that, too;
--- a hand-over begins with an Offer, by which an object is private no more.
+-- As a thread retires its log goes on, nothing is born, and nothing is put home. Before it hands over it only lets go,
+-- and after that, too; a hand-over begins with an Offer, by which an object is private no more.
 use Rattle.std.proofs.Common.{◌≡◌, ℕ, ◌&&◌, true, List, ◌∷◌, Option, Some, None, refl, sym, ap, subst, ◌∙◌}
+use Rattle.law_rule.specs.declared.contents.Contents.{Contents}
 use Rattle.law_rule.specs.declared.told.Moved.TheVariants.{Nothing}
 use Rattle.law_rule.specs.declared.told.Told.{Told}
 use Rattle.law_rule.specs.declared.told.Told.TheVariants.{Did, Saw}
@@ -28,26 +29,31 @@ use Rattle.brc_thread.specs.Retiring.{RetiresAs}
 use Rattle.brc_thread.specs.Settling as settling
 use Rattle.brc_thread.specs.Settling.{PollsAndWorks, Settles}
 use Rattle.brc_thread.specs.Threads.{RetiredSeen}
+use Rattle.brc_run.specs.Runs.{left_in}
+use Rattle.brc_run.proofs.Cleared.{quietly_left}
 
--- the log goes on, and no object is born
+-- the log goes on, no object is born, and nothing is put home
 pub record BearsNothing (before log : List Told) : Type 0 where
   pub later : IsLater before log
   pub allocs : (n : ℕ) → (part_seen n log).row.allocs ≡ (part_seen n before).row.allocs
+  pub puts : (c : ℕ) (there : Contents) → left_in log c there ≡ left_in before c there
 
 quietly_bears : (before log : List Told) → Quietly before log → BearsNothing before log
 quietly_bears before log quiet = record {
   later = quietly_later before log quiet;
   allocs = λ n. allocs_quietly n before log quiet;
+  puts = λ c there. quietly_left before log c there quiet;
 }
 
 bears_both : (before mid log : List Told) → BearsNothing before mid → BearsNothing mid log → BearsNothing before log
 bears_both before mid log first second = record {
   later = later_both before mid log first.later second.later;
   allocs = λ n. second.allocs n ∙ first.allocs n;
+  puts = λ c there. second.puts c there ∙ first.puts c there;
 }
 
 bears_same : (log : List Told) → BearsNothing log log
-bears_same log = record { later = later_same log; allocs = λ n. refl }
+bears_same log = record { later = later_same log; allocs = λ n. refl; puts = λ c there. refl }
 
 closes_quietly : (before : List Told) (n : ℕ) (log : List Told) → Closes before n log → Quietly before log
 closes_quietly before _ _ closing.NoWord = NoItem
@@ -90,6 +96,7 @@ module _ {A : Type 0} where
       bears_both before offered log (record {
         later = later_one (Did (Offer c) hands.offered Nothing) before before (later_same before);
         allocs = λ n. refl;
+        puts = λ c there. refl;
       })
       (quietly_bears offered log
       (quietly_joined offered untied log (OneMore (Did (Untie c) 0 Nothing) offered NoItem refl)

@@ -4,6 +4,7 @@ use Rattle.std.proofs.Common.{◌∙◌, ap, arith}
 use Rattle.std.proofs.lemmas.List.{append_assoc}
 use Rattle.brc_words.specs.declared.fault.Fault.{Fault}
 use Rattle.brc_words.specs.declared.fault.Fault.TheVariants as faults
+use Rattle.brc_words.specs.declared.limits.TheConstants.{GLOBALS}
 use Rattle.law_known.specs.Items.{Item}
 use Rattle.law_known.specs.Items as logged
 use Rattle.law_known.specs.Root.{marks_of, marks_on, registrations_of, registrations_on}
@@ -12,7 +13,7 @@ use Rattle.std.proofs.lemmas.Bool.{cases_lt, lt-ltb, le-ltb}
 use Rattle.std.proofs.lemmas.List.{length-set, length-append}
 use Rattle.law_world.specs.declared.event.Step.TheVariants.{Register, Gather}
 use Rattle.law_rule.specs.declared.view.View.{View}
-use Rattle.law_rule.specs.Logs.{log_items}
+use Rattle.law_rule.specs.Logs.{log_items, entries_in}
 use Rattle.law_steps.specs.Joining.{next_thread, registering, gathering}
 use Rattle.brc_table.specs.Seated.{RootSeen, view_of}
 use Rattle.brc_count.specs.declared.ledger.Ledger.{Ledger}
@@ -20,7 +21,8 @@ use Rattle.brc_count.specs.Frames.{FrameSeen}
 use Rattle.brc_thread.specs.Counting.{registrations}
 use Rattle.brc_thread.specs.Retiring.{EndsThread}
 use Rattle.brc_thread.specs.Threads.{RefusesThread}
-use Rattle.brc_run.specs.Runs.{Life, TakesIn, TakesInOne}
+use Rattle.brc_run.specs.Runs.{Life, TakesIn, LeavesNone, ClearsUp}
+use Rattle.brc_run.proofs.Retired_Quietly.{retired_bears}
 
 first_low : (xs : List Bool) → first_gathered xs ≤ length xs
 first_low [] = omega arith
@@ -106,12 +108,14 @@ pub one_registered : (old mid new : RootSeen) (n : ℕ) → TakesIn old mid n []
     → TakesIn old new (n + 1) []
 one_registered old mid new n first second = takes_both old mid new n [] 1 [] (n + 1) [] first second refl refl
 
-pub takes_one : {A : Type 0} (old mid new : RootSeen) (mutator : FrameSeen A) (ledger : Ledger)
+-- a thread is registered, leaves no entry in the globals, and is gathered
+pub clears_up : {A : Type 0} (old mid new : RootSeen) (mutator : FrameSeen A) (ledger : Ledger)
     → mid.view ≡ registering old.view
-    → mid.table ≡ old.table → EndsThread mutator mid new ledger → new.table ≡ mid.table → TakesInOne old new
-takes_one old mid new mutator ledger view table ends same =
-    let w = view_of ends.retired.seat in record {
-      life = (w.thread, w.log);
-      took = takes_gathered old mid new w 1 [] ((w.thread, w.log) ∷ [])
-          (takes_registered old old mid 0 [] 1 (takes_none old) view table refl) ends.gathers same refl;
-    }
+    → mid.table ≡ old.table → LeavesNone mutator.seat.log → EndsThread mutator mid new ledger
+    → new.table ≡ mid.table → ClearsUp old new
+clears_up old mid new mutator ledger view table none ends same = record {
+  thread = view_of ends.retired.seat;
+  did = ends.gathers ∙ ap (λ (v : View). gathering v (view_of ends.retired.seat)) view;
+  same_table = same ∙ table;
+  none = λ before. ap entries_in ((retired_bears mutator ends.retired ends.retires).puts GLOBALS before) ∙ none before;
+}

@@ -2,7 +2,7 @@
 use Rattle.std.specs.Prelude.{◌≡◌, ◌≢◌, ◌≤◌, ◌+◌, ◌++◌, ℕ, suc, true, List, [], ◌∷◌, length, reverse, Some, IfSome}
 use Rattle.std.specs.declared.alloc.Global.{Global}
 use Rattle.brc_words.specs.declared.fault.Fault.TheVariants as faults
-use Rattle.brc_words.specs.declared.limits.TheConstants.{MOST_BIRTHS}
+use Rattle.brc_words.specs.declared.limits.TheConstants.{GLOBALS, MOST_BIRTHS}
 use Rattle.brc_words.specs.Faults.{number_of}
 use Rattle.brc_script.specs.declared.script.Section.{Section}
 use Rattle.brc_script.specs.Scripts.{is_private}
@@ -12,9 +12,13 @@ use Rattle.brc_section.specs.Ends.{IsLineOf}
 use Rattle.brc_section.specs.Isolation.{is_own_end, Prints}
 use Rattle.brc_section.specs.declared.section.SectionEnd.{SectionEnd}
 use Rattle.brc_report.specs.declared.report.Report.{Report}
+use Rattle.brc_report.specs.Cycles.{holder_in}
+use Rattle.brc_report.specs.Running.{entries_of_first, RunsInto}
+use Rattle.law_rule.specs.declared.contents.Contents.{Contents}
 use Rattle.law_rule.specs.declared.told.Told.{Told}
 use Rattle.law_rule.specs.declared.view.View.{View}
-use Rattle.law_rule.specs.Logs.{lives_of}
+use Rattle.law_rule.specs.Logs.{lives_of, put_in, entries_in}
+use Rattle.law_steps.specs.Joining.{registering, gathering}
 use Rattle.brc_table.specs.Seated.{TableSeen, RootSeen}
 use Rattle.brc_count.specs.Frames.{FrameSeen, ledger_seen}
 use Rattle.brc_thread.specs.Counting.{registrations, gatherings}
@@ -97,19 +101,31 @@ pub record TakesIn (old new : RootSeen) (registered : ℕ) (lives : List Life) :
   pub more_registered : registrations new.view ≡ registrations old.view + registered
   pub gathered : new.view.gathered ≡ lives ++ old.view.gathered
 
--- it registered one thread more, and gathered it
-pub record TakesInOne (old new : RootSeen) : Type 0 where
-  pub life : Life
-  pub took : TakesIn old new 1 (life ∷ [])
+-- What a log leaves in a cell in which this was: what its last Birth or Unlock of the cell put home, if it has one.
+abbrev pub left_in : List Told → ℕ → Contents → Contents
+left_in [] c before = before
+left_in (x ∷ log) c before = put_in x c (left_in log c before)
+
+-- whatever the globals held before, the log leaves no entry in them
+abbrev pub LeavesNone : List Told → Type 0
+LeavesNone log = (before : Contents) → entries_in (left_in log GLOBALS before) ≡ []
+
+-- It registered one thread more, which left no entry in the globals, gathered it, and did nothing else.
+pub record ClearsUp (old new : RootSeen) : Type 0 where
+  pub thread : View
+  pub did : new.view ≡ gathering (registering old.view) thread
+  pub same_table : new.table ≡ old.table
+  pub none : LeavesNone thread.log
 
 module _ {A : Type 0} where
-  -- It registered a thread for each section and one more. It gathered the sections' threads in the script's order, and
-  -- then the other.
+  -- It registered a thread for each section, and gathered them in the script's order; and then one more, which cleared
+  -- the globals.
   pub record TakesInAll (n : ℕ) (sections : List (Section A)) (ends : List (SectionEnd A)) (old new : RootSeen)
       : Type 0 where
     pub lives : List Life
-    pub last : Life
-    pub took : TakesIn old new (length sections + 1) (last ∷ reverse lives)
+    pub mid : RootSeen
+    pub took : TakesIn old mid (length sections) (reverse lives)
+    pub clears : ClearsUp mid new
     pub many : length lives ≡ length sections
     pub told : EachTells n sections ends lives
 
@@ -117,7 +133,8 @@ module _ {A : Type 0} where
   -- The report is that of a heap that was closed, on which as many threads were registered as the script has sections,
   -- and one more that cleared the globals, and all were gathered. As many objects live as were made and not freed, and
   -- as many remain. In the run of all that was done on that heap the registrations that ended are, in their order,
-  -- those of the sections' threads and the other; what a section's thread did there tells of the section's end.
+  -- those of the sections' threads and the other; what a section's thread did there tells of the section's end. The
+  -- globals have no entry. So what is left are cycles and what hangs on them: each walk along the holders runs into one.
   pub record IsReportOf (options : RunOptions) (script : List (Section A)) (ends : List (SectionEnd A))
       (report : Report A) : Type 0 where
     pub root : View
@@ -127,3 +144,6 @@ module _ {A : Type 0} where
     pub balance : report.ledger.allocs ≡ report.ledger.frees + report.live
     pub remain : report.live ≡ length report.remains.items
     pub told : EachTells options.cells script ends (reverse (lives_of closes.run))
+    pub cleared : entries_of_first report.contents.items ≡ []
+    pub hangs : (from holder : ℕ) → holder_in report.remains.items from ≡ Some holder
+        → RunsInto report.remains.items report.cycles.items from

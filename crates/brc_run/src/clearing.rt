@@ -4,7 +4,7 @@ ghost use Rattle.std.specs.Prelude.{◌≡◌, ◌<◌, IfErr, OnOk};
 ghost use Rattle.brc_words.specs.declared.fault.Fault.TheVariants as faults;
 ghost use Rattle.brc_count.specs.Frames.{IsUnlocked};
 ghost use Rattle.brc_thread.specs.Counting.{registrations};
-ghost use Rattle.brc_run.specs.Runs.{TakesInOne};
+ghost use Rattle.brc_run.specs.Runs.{ClearsUp, LeavesNone};
 
 use brc_biased::Home;
 use brc_heap::{Heap, Root};
@@ -23,6 +23,7 @@ fn clear_rounds<R: Wait, H: Home<A>, A: Allocator>(
     ensures bare { mutator.new.len ≡ 0 }
     ensures unlocked { IsUnlocked mutator.new }
     ensures heap { mutator.new.heap ≡ mutator.old.heap }
+    ensures none { OnOk result (LeavesNone mutator.new.seat.log) }
 {
     for _ in rt.forever() {
         match mutator.clear_globals() {
@@ -34,9 +35,9 @@ fn clear_rounds<R: Wait, H: Home<A>, A: Allocator>(
     unreachable!()
 }
 
-/// One more thread is registered, clears the globals, and is gathered. What a full frame leaves in them stays there,
-/// for the report to tell. OutOfMemory where the thread can't be had, or memory for a handle; the thread that was there
-/// is gathered then, too.
+/// One more thread is registered, clears the globals, and is gathered. OutOfMemory where the thread can't be had, or
+/// memory for a handle; the thread that was there is gathered then, too. A full frame would be told so as well, but it
+/// never has more than two handles.
 #[tactic(auto, using(crate::proofs::Taken::only_memory))]
 pub(crate) fn clear<R: Wait, A: Allocator + Copy>(
     rt: &R,
@@ -47,14 +48,14 @@ pub(crate) fn clear<R: Wait, A: Allocator + Copy>(
     requires heap { root.old.table ≡ heap.now.table }
     requires few { registrations root.old.view < 64 }
     ensures heap { root.new.table ≡ root.old.table }
-    ensures gathered { OnOk result (TakesInOne root.old root.new) }
+    ensures clears { OnOk result (ClearsUp root.old root.new) }
     ensures refused { IfErr result (λ fault. fault ≡ faults.OutOfMemory) }
 {
     let mut mutator = root.register(alloc, heap)?;
     let cleared = clear_rounds(rt, &mut mutator);
     let _ledger = mutator.end(rt, root, heap);
     match cleared {
-        Err(Fault::OutOfMemory) => Err(Fault::OutOfMemory),
-        _ => Ok(()),
+        Ok(()) => Ok(()),
+        Err(_) => Err(Fault::OutOfMemory),
     }
 }

@@ -14,5 +14,5 @@ pub returns-clause-gathered : goal.returns-clause-gathered
 returns-clause-gathered g c =
     takes_all c.args.heap.now (g.G.Gate.may_refuse c.args.gate.now) c.args.sections.now c.run_all-done.result.items
     c.in-Some.ends.items c.args.root.now c.register_all.new.root c.gather_all.new.root c.clear.new.root
-    c.in_default.ensures.registered c.in-Some.ensures.gathered c.in_ok-clear.ensures.gathered
+    c.in_default.ensures.registered c.in-Some.ensures.gathered c.in_ok-clear.ensures.clears
     c.run_all-done.ensures.done c.in-Some.ensures.ends

@@ -1,0 +1,92 @@
+-- A thread that cleared the globals left no entry in them, and puts nothing there until it is gathered.
+use Rattle.std.proofs.Common.{◌≡◌, ◌≢◌, ℕ, ◌==◌, ◌&&◌, Bool, true, false, if◌then◌else◌, List, [], ◌∷◌, Option, Some, None}
+use Rattle.std.proofs.Common.{refl, sym, ◌∙◌, ap, subst}
+use Rattle.std.specs.Prelude.{Ok}
+use Rattle.std.proofs.lemmas.Bool.{and_parts, eq-eqb, true≢false}
+use Rattle.brc_words.specs.declared.limits.TheConstants.{GLOBALS}
+use Rattle.law_world.specs.declared.event.Change.TheVariants.{Keep}
+use Rattle.law_world.specs.declared.event.Dropped.TheVariants as drops
+use Rattle.law_world.specs.declared.event.Step.{Step}
+use Rattle.law_world.specs.declared.event.Step.TheVariants.{Lock, Unlock}
+use Rattle.law_world.specs.Lists.{place_at}
+use Rattle.law_known.proofs.Kept_Law.{places_kept}
+use Rattle.law_rule.specs.declared.contents.Contents.{Contents}
+use Rattle.law_rule.specs.declared.told.Moved.{Moved}
+use Rattle.law_rule.specs.declared.told.Moved.TheVariants as moves
+use Rattle.law_rule.specs.declared.told.Told.{Told}
+use Rattle.law_rule.specs.declared.told.Told.TheVariants.{Did, Saw, Lost}
+use Rattle.law_rule.specs.Logs.{log_items, put_in, entries_in}
+use Rattle.law_living.specs.Quiet.{is_quiet, only_lets_go, puts_nothing, Quietly, NoItem, OneMore}
+use Rattle.law_living.proofs.Quiet_Items.{lock_names}
+use Rattle.brc_table.specs.Seated.{TableSeen}
+use Rattle.brc_count.specs.Frames.{FrameSeen, place_seen}
+use Rattle.brc_count.specs.Locking.{cell_in}
+use Rattle.brc_count.proofs.Quiet.{release_quietly}
+use Rattle.brc_thread.specs.Clearing.{FindsNone, ClearsGlobals}
+use Rattle.brc_run.specs.Runs.{left_in, LeavesNone}
+
+-- ---- what quiet items leave
+
+quiet_puts : (x : Told) (c : ℕ) (before : Contents) → is_quiet x ≡ true → put_in x c before ≡ before
+quiet_puts (Did s m moves.Nothing) c before quiet = refl
+quiet_puts (Did s m (moves.Found d contents)) c before quiet = refl
+quiet_puts (Did s m (moves.Put d contents)) c before quiet =
+    absurd (true≢false (sym (and_parts (only_lets_go s) false quiet).1))
+quiet_puts (Saw word m) c before quiet = refl
+quiet_puts (Lost word m) c before quiet = refl
+
+pub quietly_left : (old log : List Told) (c : ℕ) (before : Contents) → Quietly old log
+    → left_in log c before ≡ left_in old c before
+quietly_left old _ c before NoItem = refl
+quietly_left old _ c before (OneMore x log more quiet) =
+    quiet_puts x c (left_in log c before) quiet ∙ quietly_left old log c before more
+
+-- ---- the last look
+
+some_same : {X : Type 0} {x y : X} → Some x ≡ Some y → x ≡ y
+some_same e = cc
+
+no_place : (j : ℕ) → None ≡ Some j → ⊥
+no_place j bad = cc
+
+-- a look leaves the place that it is at as it was
+look_keeps : (n : ℕ) (log : List Told) (k c : ℕ) (found put : Contents) → place_seen n log k ≡ Some c
+    → place_seen n (Did (Unlock Keep) 0 (moves.Put c put) ∷ Did (Lock k) 0 (moves.Found c found) ∷ log) k ≡ Some c
+look_keeps n log k c found put at =
+    let locked : List Told = Did (Lock k) 0 (moves.Found c found) ∷ log in
+    places_kept n (log_items locked) (Unlock Keep) c 0 [] k
+    (lock_names n log k 0 c (moves.Found c found) at) (no_place k)
+    ∙ places_kept n (log_items log) (Lock k) c 0 (entries_in found) k at (no_place k)
+    ∙ at
+
+-- it found no entry in the globals, and put that home
+looked : (log : List Told) (cell : ℕ) (found : Contents) (before : Contents) → cell ≡ GLOBALS → entries_in found ≡ []
+    → entries_in (put_in (Did (Unlock Keep) 0 (moves.Put cell found)) GLOBALS before) ≡ []
+looked log cell found before globals none =
+    ap (λ b. entries_in (if b then found else before)) (eq-eqb cell GLOBALS globals) ∙ none
+
+module _ {A : Type 0} where
+  -- as a frame of this heap ends that cleared the globals, its thread left none in them
+  pub cleared : (old new : FrameSeen A) (done : Unit {0}) → ClearsGlobals old new (Ok done)
+      → LeavesNone new.seat.log
+  cleared old new done clears =
+      let k : ℕ = clears.globals.place in
+      let taken : FrameSeen A = clears.takes.taken in
+      let looks = clears.takes.last.looks in
+      let cell : ℕ = looks.cell in
+      let found : Contents = clears.takes.last.found in
+      let globals : cell ≡ GLOBALS = some_same (sym looks.of_place ∙ clears.takes.same_cell ∙ clears.given.has) in
+      let at : cell_in taken k ≡ Some GLOBALS = looks.of_place ∙ ap Some globals in
+      let left_log : clears.left.seat.log ≡ Did (Unlock Keep) 0 (moves.Put cell found) ∷ Did (Lock k) 0
+      (moves.Found cell found) ∷ taken.seat.log = looks.events in
+      let place : cell_in clears.left k ≡ Some GLOBALS =
+      ap (λ (h : TableSeen). place_seen h.cells clears.left.seat.log k) looks.keeps.heap
+      ∙ ap (λ log. place_seen taken.heap.cells log k) left_log
+      ∙ look_keeps taken.heap.cells taken.seat.log k cell found found looks.of_place ∙ ap Some globals in
+      λ before.
+          ap entries_in (quietly_left clears.left.seat.log new.seat.log GLOBALS before
+          (release_quietly clears.left new k GLOBALS (clears.gives_back GLOBALS place)))
+          ∙ ap (λ log. entries_in (left_in log GLOBALS before)) left_log
+          ∙ looked taken.seat.log cell found
+          (left_in (Did (Lock k) 0 (moves.Found cell found) ∷ taken.seat.log) GLOBALS before) globals
+          clears.takes.last.none
