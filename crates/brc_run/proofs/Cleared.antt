@@ -1,28 +1,24 @@
 -- A thread that cleared the globals left no entry in them, and puts nothing there until it is gathered.
-use Rattle.std.proofs.Common.{◌≡◌, ◌≢◌, ℕ, ◌==◌, ◌&&◌, Bool, true, false, if◌then◌else◌, List, [], ◌∷◌, Option, Some, None}
-use Rattle.std.proofs.Common.{refl, sym, ◌∙◌, ap, subst}
+use Rattle.std.proofs.Common.{◌≡◌, ℕ, true, false, if◌then◌else◌, List, [], ◌∷◌, Some, None}
+use Rattle.std.proofs.Common.{refl, sym, ◌∙◌, ap}
 use Rattle.std.specs.Prelude.{Ok}
 use Rattle.std.proofs.lemmas.Bool.{and_parts, eq-eqb, true≢false}
 use Rattle.brc_words.specs.declared.limits.TheConstants.{GLOBALS}
 use Rattle.law_world.specs.declared.event.Change.TheVariants.{Keep}
-use Rattle.law_world.specs.declared.event.Dropped.TheVariants as drops
-use Rattle.law_world.specs.declared.event.Step.{Step}
 use Rattle.law_world.specs.declared.event.Step.TheVariants.{Lock, Unlock}
-use Rattle.law_world.specs.Lists.{place_at}
 use Rattle.law_known.proofs.Kept_Law.{places_kept}
 use Rattle.law_rule.specs.declared.contents.Contents.{Contents}
-use Rattle.law_rule.specs.declared.told.Moved.{Moved}
 use Rattle.law_rule.specs.declared.told.Moved.TheVariants as moves
 use Rattle.law_rule.specs.declared.told.Told.{Told}
 use Rattle.law_rule.specs.declared.told.Told.TheVariants.{Did, Saw, Lost}
 use Rattle.law_rule.specs.Logs.{log_items, put_in, entries_in}
-use Rattle.law_living.specs.Quiet.{is_quiet, only_lets_go, puts_nothing, Quietly, NoItem, OneMore}
+use Rattle.law_living.specs.Quiet.{is_quiet, only_lets_go, Quietly, NoItem, OneMore}
 use Rattle.law_living.proofs.Quiet_Items.{lock_names}
 use Rattle.brc_table.specs.Seated.{TableSeen}
 use Rattle.brc_count.specs.Frames.{FrameSeen, place_seen}
 use Rattle.brc_count.specs.Locking.{cell_in}
 use Rattle.brc_count.proofs.Quiet.{release_quietly}
-use Rattle.brc_thread.specs.Clearing.{FindsNone, ClearsGlobals}
+use Rattle.brc_thread.specs.Clearing.{ClearsGlobals}
 use Rattle.brc_run.specs.Runs.{left_in, LeavesNone}
 
 -- ---- what quiet items leave
@@ -84,9 +80,9 @@ module _ {A : Type 0} where
       ∙ ap (λ log. place_seen taken.heap.cells log k) left_log
       ∙ look_keeps taken.heap.cells taken.seat.log k cell found found looks.of_place ∙ ap Some globals in
       λ before.
-          ap entries_in (quietly_left clears.left.seat.log new.seat.log GLOBALS before
-          (release_quietly clears.left new k GLOBALS (clears.gives_back GLOBALS place)))
-          ∙ ap (λ log. entries_in (left_in log GLOBALS before)) left_log
-          ∙ looked taken.seat.log cell found
-          (left_in (Did (Lock k) 0 (moves.Found cell found) ∷ taken.seat.log) GLOBALS before) globals
-          clears.takes.last.none
+      ap entries_in (quietly_left clears.left.seat.log new.seat.log GLOBALS before
+      (release_quietly clears.left new k GLOBALS (clears.gives_back GLOBALS place)))
+      ∙ ap (λ log. entries_in (left_in log GLOBALS before)) left_log
+      ∙ looked taken.seat.log cell found
+      (left_in (Did (Lock k) 0 (moves.Found cell found) ∷ taken.seat.log) GLOBALS before) globals
+      clears.takes.last.none

@@ -1,5 +1,5 @@
 -- What the ends of a script's threads, and the report of its heap, say of its sections.
-use Rattle.std.proofs.Common.{◌≡◌, ◌∙◌, ◌+◌, ◌-◌, ◌≤◌, ℕ, suc, List, [], ◌∷◌, ◌++◌, map, length, reverse, Some, refl}
+use Rattle.std.proofs.Common.{◌≡◌, ◌∙◌, ◌+◌, ◌-◌, ◌≤◌, ℕ, suc, List, [], ◌∷◌, ◌++◌, map, length, reverse, Some}
 use Rattle.std.proofs.Common.{sym}
 use Rattle.std.proofs.Common.{ap, subst, arith}
 use Rattle.std.proofs.lemmas.List.{append-nil, length-append, length-map, length-reverse}
@@ -54,15 +54,14 @@ module _ {A : Type 0} where
 first_is : {X : Type 0} {x y : X} {xs ys : List X} → x ∷ xs ≡ y ∷ ys → x ≡ y
 first_is e = cc
 
-module _ {A : Type 0} where
-  -- the first of a heap's contents are the globals'
-  globals_first : (h : Heap) (run : Run) (n : ℕ) → FIRST_MORTAL ≤ n
-      → entries_of_first (contents_of_heap {A = A} h run n) ≡ entries_in (contents_at run GLOBALS)
-  globals_first h run n enough =
-      ap (λ m. entries_of_first (map (content_at {A = A} run) (used_from h GLOBALS m))) (n_is n enough)
-    where
-      n_is : (n : ℕ) → FIRST_MORTAL ≤ n → n - GLOBALS ≡ suc (n - FIRST_MORTAL)
-      n_is n enough = omega (arith, enough)
+-- the first of a heap's contents are the globals'
+globals_first : (A : Type 0) (h : Heap) (run : Run) (n : ℕ) → FIRST_MORTAL ≤ n
+    → entries_of_first (contents_of_heap {A = A} h run n) ≡ entries_in (contents_at run GLOBALS)
+globals_first A h run n enough =
+    ap (λ m. entries_of_first (map (content_at {A = A} run) (used_from h GLOBALS m))) (n_is n enough)
+  where
+    n_is : (n : ℕ) → FIRST_MORTAL ≤ n → n - GLOBALS ≡ suc (n - FIRST_MORTAL)
+    n_is n enough = omega (arith, enough)
 
 module _ {A : Type 0} where
   -- the root took in all lives, and no others; so these are the lives of the run that it knows
@@ -127,10 +126,9 @@ module _ {A : Type 0} where
   -- what stands in the globals in the end is what the last thread left there
   none_left : (n limit : ℕ) (script : List (Section A)) (ends : List (SectionEnd A)) (report : Report A)
       (old new : RootSeen) → AreOptions n limit
-      → (closes : Closes n limit new.view report) → old.view ≡ first_view → TakesInAll n script ends old new
+      → (closes : Closes n limit new.view report) → TakesInAll n script ends old new
       → entries_in (contents_at closes.run GLOBALS) ≡ []
-  none_left n limit script ends report old new options closes first took =
-      let many = as_many_then n script ends old new first took in
+  none_left n limit script ends report old new options closes took =
       let thread : View = took.clears.thread in
       let mid : View = took.mid.view in
       let log : own_of 0 closes.run ≡ Did (Gather thread.thread) 0 Nothing ∷ Did (Register (next_thread mid)) 0 Nothing
@@ -138,7 +136,7 @@ module _ {A : Type 0} where
       let lives : lives_of closes.run ≡ (thread.thread, thread.log) ∷ mid.gathered =
       sym closes.lives_did ∙ ap (λ (v : View). v.gathered) took.clears.did in
       let left = left_alone n limit options closes.run thread.thread 0 Nothing (next_thread mid) 0 Nothing mid.log GLOBALS
-      closes.legal log (omega (arith, many.0, many.1, ap length lives)) in
+      closes.legal closes.everyone log in
       ap entries_in (left.stands ∙ ap (λ (life : Life). left_in life.1 GLOBALS left.before)
       (first_is (sym left.lives ∙ lives)))
       ∙ took.clears.none left.before
@@ -156,9 +154,9 @@ module _ {A : Type 0} where
         below_immortal = within.below_immortal;
       } in
       let none : entries_of_first report.contents.items ≡ [] = ap entries_of_first closes.contents
-      ∙ globals_first {A = A} (world options.cells options.local_limit closes.run) closes.run options.cells
+      ∙ globals_first A (world options.cells options.local_limit closes.run) closes.run options.cells
       (omega (arith, within.enough_cells))
-      ∙ none_left options.cells options.local_limit script ends report old new sizes closes first took in record {
+      ∙ none_left options.cells options.local_limit script ends report old new sizes closes took in record {
         root = new.view;
         closes = closes;
         registered = many.0;

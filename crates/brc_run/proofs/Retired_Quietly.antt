@@ -1,14 +1,13 @@
 -- As a thread retires its log goes on, nothing is born, and nothing is put home. Before it hands over it only lets go,
 -- and after that, too; a hand-over begins with an Offer, by which an object is private no more.
-use Rattle.std.proofs.Common.{◌≡◌, ℕ, ◌&&◌, true, List, ◌∷◌, Option, Some, None, refl, sym, ap, subst, ◌∙◌}
+use Rattle.std.proofs.Common.{◌≡◌, ℕ, List, ◌∷◌, Option, refl, sym, ap, subst, ◌∙◌}
 use Rattle.law_rule.specs.declared.contents.Contents.{Contents}
 use Rattle.law_rule.specs.declared.told.Moved.TheVariants.{Nothing}
 use Rattle.law_rule.specs.declared.told.Told.{Told}
 use Rattle.law_rule.specs.declared.told.Told.TheVariants.{Did, Saw}
 use Rattle.law_world.specs.declared.event.LastDropped.TheVariants as lasts
-use Rattle.law_world.specs.declared.event.Step.{Step}
 use Rattle.law_world.specs.declared.event.Step.TheVariants.{Close, Offer, Untie, MergeAdd, LastDown}
-use Rattle.law_living.specs.Quiet.{only_lets_go, Quietly, NoItem, OneMore}
+use Rattle.law_living.specs.Quiet.{Quietly, NoItem, OneMore}
 use Rattle.law_living.specs.Later.{IsLater}
 use Rattle.law_living.proofs.Earlier.{later_same, later_one, later_both, quietly_later}
 use Rattle.law_living.proofs.Quiet_Items.{quietly_joined}
@@ -18,7 +17,6 @@ use Rattle.law_known.specs.declared.word.Word.TheVariants.{Of}
 use Rattle.law_rule.specs.Seen.{part_seen}
 use Rattle.brc_block.specs.declared.payload.Payload.{Payload}
 use Rattle.brc_table.specs.Seated.{SeatSeen}
-use Rattle.brc_table.specs.Moving.{found_in}
 use Rattle.brc_biased.specs.Released.{HandsOver}
 use Rattle.brc_biased.proofs.Quiet.{ends_quietly}
 use Rattle.brc_count.specs.Closing as closing

@@ -1,5 +1,5 @@
 -- How a script may be run.
-use Rattle.std.specs.Prelude.{ℕ, ◌≤◌}
+use Rattle.std.specs.Prelude.{◌≤◌}
 use Rattle.brc_words.specs.declared.limits.TheConstants.{FEWEST_CELLS, MOST_CELLS, MOST_LOCAL}
 use Rattle.brc_run.specs.declared.options.RunOptions.{RunOptions}
 use Rattle.brc_run.specs.declared.options.TheConstants.{MOST_TURNS}

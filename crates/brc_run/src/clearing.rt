@@ -14,6 +14,7 @@ use std::alloc::Allocator;
 use std::sync::Wait;
 
 /// Clears the globals, in as many rounds as they need. FrameFull and OutOfMemory as a round answers them.
+#[tactic(auto, using(crate::proofs::Cleared::cleared))]
 fn clear_rounds<R: Wait, H: Home<A>, A: Allocator>(
     rt: &R,
     mutator: &mut Mutator<H, A>,
@@ -27,9 +28,10 @@ fn clear_rounds<R: Wait, H: Home<A>, A: Allocator>(
 {
     for _ in rt.forever() {
         match mutator.clear_globals() {
+            Ok(()) => return Ok(()),
             // They have an entry yet, or another thread has them locked.
             Err(Fault::NotIdle | Fault::Busy) => {}
-            ended => return ended,
+            Err(fault) => return Err(fault),
         }
     }
     unreachable!()

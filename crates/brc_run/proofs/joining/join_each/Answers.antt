@@ -1,5 +1,5 @@
 use Rattle.std.proofs.Common.{length, ap, arith}
-use Rattle.brc_run.proofs.Ordered.{begins, goes_on, all_done}
+use Rattle.brc_run.proofs.Ordered.{goes_on, all_done}
 use Rattle.brc_run.proofs.joining.join_each.Goals as goal
 
 pub loop-one-preserved : goal.loop-one-preserved
