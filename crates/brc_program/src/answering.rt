@@ -50,11 +50,13 @@ pub fn program<T: Threads + Wait + Sync, R: Read + Drop, W: Write, E: Write>(
         (E.contents errors.old) (E.contents errors.new) result }
 
     // The two command lines without an option.
-    ensures replay { AreWords words.now (codes "replay") → Ends
-        (IsDone (Invocation.Replay false) (R.remaining reader) (W.contents writer.old) (W.contents writer.new))
+    ensures replay { AreWords words.now (codes "replay") →
+        Ends (IsDone (Invocation.Replay false) (R.remaining reader)
+        (W.contents writer.old) (W.contents writer.new))
         (E.contents errors.old) (E.contents errors.new) result }
-    ensures run { AreWords words.now (codes "run") → Ends
-        (IsDone (Invocation.Run RunOptions.USUAL) (R.remaining reader) (W.contents writer.old) (W.contents writer.new))
+    ensures run { AreWords words.now (codes "run") →
+        Ends (IsDone (Invocation.Run RunOptions.USUAL) (R.remaining reader)
+        (W.contents writer.old) (W.contents writer.new))
         (E.contents errors.old) (E.contents errors.new) result }
 {
     match answer(rt, alloc, words, reader, writer) {
@@ -163,10 +165,12 @@ fn answer<T: Threads + Wait + Sync, R: Read + Drop, W: Write>(
 ) -> Result<u8, Unreplayed>
     ensures within { IfOk result (λ status. status ≤ 4) }
     ensures answers { Answers (R.remaining reader) (W.contents writer.old) (W.contents writer.new) result }
-    ensures replay { AreWords words.now (codes "replay") → IsDone (Invocation.Replay false)
-        (R.remaining reader) (W.contents writer.old) (W.contents writer.new) result }
-    ensures run { AreWords words.now (codes "run") → IsDone (Invocation.Run RunOptions.USUAL)
-        (R.remaining reader) (W.contents writer.old) (W.contents writer.new) result }
+    ensures replay { AreWords words.now (codes "replay") →
+        IsDone (Invocation.Replay false) (R.remaining reader)
+        (W.contents writer.old) (W.contents writer.new) result }
+    ensures run { AreWords words.now (codes "run") →
+        IsDone (Invocation.Run RunOptions.USUAL) (R.remaining reader)
+        (W.contents writer.old) (W.contents writer.new) result }
 {
     match read_words(alloc, words) {
         Ok(asked) => carry_out(rt, alloc, asked, reader, writer),

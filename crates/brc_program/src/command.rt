@@ -152,8 +152,10 @@ pub fn read_words(alloc: Global, words: &[String]) -> Result<Invocation, Fault>
     ensures refused { IfErr result (λ fault. (fault ≡ Fault.BadOptions) ⊎ (fault ≡ Fault.OutOfMemory)) }
 
     // The two command lines without an option.
-    ensures replay { AreWords words.now (codes "replay") → result ≡ Ok (Invocation.Replay false) }
-    ensures run { AreWords words.now (codes "run") → result ≡ Ok (Invocation.Run RunOptions.USUAL) }
+    ensures replay { AreWords words.now (codes "replay") →
+        result ≡ Ok (Invocation.Replay false) }
+    ensures run { AreWords words.now (codes "run") →
+        result ≡ Ok (Invocation.Run RunOptions.USUAL) }
 {
     if are_words(words, "replay") {
         return Ok(Invocation::Replay { explain: false });
