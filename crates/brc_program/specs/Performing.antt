@@ -45,21 +45,25 @@ by_status status (Err failed) = Err failed
 abbrev pub nowhere : ℕ → ℕ → Type 0
 nowhere section line = ⊥
 
--- a reason is told only where it is asked for; it is the fault's, and it is so of the input
-abbrev pub IsReason : Bool → Option (List ℕ) → Fault → Why → Type 0
-IsReason explain input fault why = (explain ≡ true) × (fault ≡ fault_of_why why)
+-- a reason is the fault's, and it is so of the input
+abbrev pub IsReason : Option (List ℕ) → Fault → Why → Type 0
+IsReason input fault why = (fault ≡ fault_of_why why)
     × IfSome input (λ bytes. Explains (take (MOST_INPUT + 1) bytes) (Some why))
 
 -- By the input's bytes, and those of the output before and after, where they are known: help is written as it stands,
--- status 0; a trace is replayed, or a script is run, as the contract of each says, and its answer is the status.
+-- status 0; a trace is replayed, or a script is run, as the contract of each says, and its answer is the status. A reason
+-- is told of a replay alone, and only where it is asked for.
 abbrev pub Performs :
     Invocation → Option (List ℕ) → Option (List ℕ) → Option (List ℕ) → Result ℕ Unreplayed → Type 0
 Performs (Help text) input old new answer =
     (told : Result (Unit {0}) Fault) × Puts old new told (string_bytes text)
     × (answer ≡ by_status (λ _. 0) (without_reason told))
-Performs (Replay explain) input old new answer =
+Performs (Replay false) input old new answer =
+    (found : Result Bool Fault) × Replays input old new found
+    × (answer ≡ by_status status_of_world (without_reason found))
+Performs (Replay true) input old new answer =
     (found : Result Bool Unreplayed) × Replays input old new (without_why found)
-    × IfErr found (λ failed. IfSome failed.why (IsReason explain input failed.fault))
+    × IfErr found (λ failed. IfSome failed.why (IsReason input failed.fault))
     × (answer ≡ by_status status_of_world found)
 Performs (Run options) input old new answer =
     (found : Result Ended Fault) × Runs options nowhere input old new found
@@ -72,9 +76,8 @@ abbrev pub Flushed : Result ℕ Unreplayed → Result ℕ Unreplayed → Type 0
 Flushed (Ok status) answer = (answer ≡ Ok status) ⊎ (answer ≡ Err (unexplained faults.Io))
 Flushed (Err failed) answer = answer ≡ Err failed
 
--- the words ask for this, which is done; what is written is flushed, and no byte of it changes by that
-pub record IsDone (input old new : Option (List ℕ)) (answer : Result ℕ Unreplayed) : Type 0 where
-  pub asked : Invocation
+-- this is done; what is written is flushed, and no byte of it changes by that
+pub record IsDone (asked : Invocation) (input old new : Option (List ℕ)) (answer : Result ℕ Unreplayed) : Type 0 where
   pub done : Result ℕ Unreplayed
   pub written : Option (List ℕ)
   pub performed : Performs asked input old written done
@@ -86,16 +89,18 @@ pub record IsRefused (old new : Option (List ℕ)) (answer : Result ℕ Unreplay
   pub kept : Keeps old new
   pub fault : (answer ≡ Err (unexplained faults.BadOptions)) ⊎ (answer ≡ Err (unexplained faults.OutOfMemory))
 
+-- some invocation is done, whichever it is, or none
 abbrev pub Answers : Option (List ℕ) → Option (List ℕ) → Option (List ℕ) → Result ℕ Unreplayed → Type 0
-Answers input old new answer = IsDone input old new answer ⊎ IsRefused old new answer
+Answers input old new answer = ((asked : Invocation) × IsDone asked input old new answer) ⊎ IsRefused old new answer
 
 -- an answer's status, and nothing stands on standard error for it; or the fault is told there
 abbrev pub EndsBy : Option (List ℕ) → Option (List ℕ) → Result ℕ Unreplayed → ℕ → Type 0
 EndsBy old new (Ok status) ended = (new ≡ old) × (ended ≡ status)
 EndsBy old new (Err failed) ended = Tells old new failed ended
 
--- some answer that the words have, by the input and the output; what standard error had and has; and the status
-pub record Ends (input old new errors_old errors_new : Option (List ℕ)) (status : ℕ) : Type 0 where
+-- there is an answer of which this is so, and by it what standard error had and has, and the status
+pub record Ends (IsSo : Result ℕ Unreplayed → Type 0) (errors_old errors_new : Option (List ℕ))
+    (status : ℕ) : Type 0 where
   pub answer : Result ℕ Unreplayed
-  pub answers : Answers input old new answer
+  pub is : IsSo answer
   pub by : EndsBy errors_old errors_new answer status

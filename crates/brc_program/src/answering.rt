@@ -1,15 +1,15 @@
 //! The program over any streams: what it does for each invocation, its statuses and its error lines.
 
-ghost use Rattle.std.specs.Prelude.{◌≡◌, ◌≤◌, IfOk, IfErr, IfSome};
-ghost use Rattle.brc_trace.specs.Explaining.{without_why};
-ghost use Rattle.brc_trace.specs.Replaying.{Replays};
+ghost use Rattle.std.specs.Prelude.{◌≡◌, ◌≤◌, false, codes, IfOk};
+ghost use Rattle.brc_program.specs.Command.{AreWords};
 ghost use Rattle.brc_program.specs.Errors.{Tells};
-ghost use Rattle.brc_program.specs.Performing.{unexplained, IsReason, Performs, Answers, Ends};
+ghost use Rattle.brc_program.specs.Performing.{status_of_world, unexplained, Performs, IsDone, Answers, Ends};
 ghost use Rattle.brc_program.specs.Statuses.{status_of};
 
 use crate::command::{Invocation, read_words};
 use crate::gate::Open;
 use crate::telling::put_told;
+use brc_run::RunOptions;
 use brc_run_text::run_script;
 use brc_text::put_bytes;
 use brc_trace::{Unreplayed, run_replay, run_replay_explained};
@@ -32,9 +32,11 @@ const FAULTED: u8 = 4;
 /// A stream failed.
 const STREAM: u8 = 5;
 
-/// Does what the words ask for, and answers the status. Of several statuses the highest counts. What is written to the
-/// writer and among the errors, and the status, are those of some invocation (`Ends`): which words ask for which isn't
-/// promised. A fault's status is 5 where it can't be told; the first write that fails is the last.
+/// Does what the words ask for, and returns the status. Of several statuses the highest counts.
+///
+/// For `brc replay` the output, the error line and the status come of `run_replay`; for `brc run`, of `run_script` with
+/// the usual options. For other words they come of some invocation: which options or which help they ask for isn't
+/// promised. A fault's status is 5 if it can't be told; the first write that fails is the last.
 pub fn program<T: Threads + Wait + Sync, R: Read + Drop, W: Write, E: Write>(
     rt: &T,
     alloc: Global,
@@ -44,7 +46,17 @@ pub fn program<T: Threads + Wait + Sync, R: Read + Drop, W: Write, E: Write>(
     errors: &mut E,
 ) -> u8
     ensures within { result ≤ 5 }
-    ensures came { Ends (R.remaining reader) (W.contents writer.old) (W.contents writer.new)
+    ensures came { Ends (Answers (R.remaining reader) (W.contents writer.old) (W.contents writer.new))
+        (E.contents errors.old) (E.contents errors.new) result }
+
+    // The two command lines without an option.
+    ensures replay { AreWords words.now (codes "replay") →
+        Ends (IsDone (Invocation.Replay false) (R.remaining reader)
+        (W.contents writer.old) (W.contents writer.new))
+        (E.contents errors.old) (E.contents errors.new) result }
+    ensures run { AreWords words.now (codes "run") →
+        Ends (IsDone (Invocation.Run RunOptions.USUAL) (R.remaining reader)
+        (W.contents writer.old) (W.contents writer.new))
         (E.contents errors.old) (E.contents errors.new) result }
 {
     match answer(rt, alloc, words, reader, writer) {
@@ -79,23 +91,13 @@ fn unexplained(fault: Fault) -> Unreplayed
     Unreplayed { fault, why: None }
 }
 
-/// A replay, which may say why it refuses a trace; whether something lives in its world.
-fn replayed<R: Read + Drop, W: Write>(
-    alloc: Global,
-    explain: bool,
-    reader: R,
-    writer: &mut W,
-) -> Result<bool, Unreplayed>
-    ensures replays { Replays (R.remaining reader) (W.contents writer.old) (W.contents writer.new)
-        (without_why result) }
-    ensures why { IfErr result (λ failed. IfSome failed.why (IsReason explain (R.remaining reader) failed.fault)) }
+/// The status of a world, by whether something lives in it.
+fn status_of_world(lives: bool) -> u8
+    ensures { result ≡ status_of_world lives }
 {
-    if explain {
-        return run_replay_explained(alloc, reader, writer);
-    }
-    match run_replay(alloc, reader, writer) {
-        Ok(live) => Ok(live),
-        Err(fault) => Err(unexplained(fault)),
+    match lives {
+        true => SOMETHING_LIVE,
+        false => NOTHING_LIVE,
     }
 }
 
@@ -116,21 +118,44 @@ fn perform<T: Threads + Wait + Sync, R: Read + Drop, W: Write>(
             Ok(()) => Ok(NOTHING_LIVE),
             Err(fault) => Err(unexplained(fault)),
         },
-        Invocation::Replay { explain } => match replayed(alloc, explain, reader, writer) {
-            Ok(true) => Ok(SOMETHING_LIVE),
-            Ok(false) => Ok(NOTHING_LIVE),
+        Invocation::Replay { explain: false } => match run_replay(alloc, reader, writer) {
+            Ok(lives) => Ok(status_of_world(lives)),
+            Err(fault) => Err(unexplained(fault)),
+        },
+        Invocation::Replay { explain: true } => match run_replay_explained(alloc, reader, writer) {
+            Ok(lives) => Ok(status_of_world(lives)),
             Err(failed) => Err(failed),
         },
         Invocation::Run(options) => match run_script(rt, alloc, options, reader, writer, &Open) {
             Ok(ended) if ended.faulted => Ok(FAULTED),
-            Ok(ended) if ended.lives => Ok(SOMETHING_LIVE),
-            Ok(_ended) => Ok(NOTHING_LIVE),
+            Ok(ended) => Ok(status_of_world(ended.lives)),
             Err(fault) => Err(unexplained(fault)),
         },
     }
 }
 
-/// The status, once the whole answer is written and flushed.
+/// Does what is asked for; its status, once the whole answer is written and flushed.
+fn carry_out<T: Threads + Wait + Sync, R: Read + Drop, W: Write>(
+    rt: &T,
+    alloc: Global,
+    asked: Invocation,
+    reader: R,
+    writer: &mut W,
+) -> Result<u8, Unreplayed>
+    ensures within { IfOk result (λ status. status ≤ 4) }
+    ensures done { IsDone asked (R.remaining reader) (W.contents writer.old) (W.contents writer.new) result }
+{
+    let status = match perform(rt, alloc, asked, reader, writer) {
+        Ok(status) => status,
+        Err(failed) => return Err(failed),
+    };
+    match writer.flush() {
+        Ok(()) => Ok(status),
+        Err(_) => Err(unexplained(Fault::Io)),
+    }
+}
+
+/// The same, by the words that ask for it.
 fn answer<T: Threads + Wait + Sync, R: Read + Drop, W: Write>(
     rt: &T,
     alloc: Global,
@@ -140,18 +165,16 @@ fn answer<T: Threads + Wait + Sync, R: Read + Drop, W: Write>(
 ) -> Result<u8, Unreplayed>
     ensures within { IfOk result (λ status. status ≤ 4) }
     ensures answers { Answers (R.remaining reader) (W.contents writer.old) (W.contents writer.new) result }
+    ensures replay { AreWords words.now (codes "replay") →
+        IsDone (Invocation.Replay false) (R.remaining reader)
+        (W.contents writer.old) (W.contents writer.new) result }
+    ensures run { AreWords words.now (codes "run") →
+        IsDone (Invocation.Run RunOptions.USUAL) (R.remaining reader)
+        (W.contents writer.old) (W.contents writer.new) result }
 {
-    let asked = match read_words(alloc, words) {
-        Ok(asked) => asked,
-        Err(fault) => return Err(unexplained(fault)),
-    };
-    let status = match perform(rt, alloc, asked, reader, writer) {
-        Ok(status) => status,
-        Err(failed) => return Err(failed),
-    };
-    match writer.flush() {
-        Ok(()) => Ok(status),
-        Err(_) => Err(unexplained(Fault::Io)),
+    match read_words(alloc, words) {
+        Ok(asked) => carry_out(rt, alloc, asked, reader, writer),
+        Err(fault) => Err(unexplained(fault)),
     }
 }
 

@@ -1,9 +1,10 @@
 //! The words of the command line.
 
-ghost use Rattle.std.specs.Prelude.{◌≡◌, ◌≤◌, ◌⊎◌, ℕ, Ok, Some, None, IfErr, IfOk, IfSome};
+ghost use Rattle.std.specs.Prelude.{◌≡◌, ◌≤◌, ◌⊎◌, ◌↔◌, ℕ, false, Ok, Some, None, codes};
+ghost use Rattle.std.specs.Prelude.{IfErr, IfOk, IfSome, IsTrue};
 ghost use Rattle.std.specs.Option.{option_and_then};
 ghost use Rattle.brc_text.specs.Numbers.{number_at};
-ghost use Rattle.brc_program.specs.Command.{IfRun};
+ghost use Rattle.brc_program.specs.Command.{AreWords, IfRun};
 ghost use Rattle.brc_run.specs.Options.{AreRunOptions};
 
 use crate::help::{ABOUT, MORE, OF_REPLAY, OF_RUN};
@@ -100,8 +101,18 @@ fn run_command<'a>(alloc: Global) -> Result<Command<'a>, AllocError> {
         .arg(local_limit)
 }
 
-/// Reads the words; the first is the program's name.
-pub fn read_words(alloc: Global, words: &[String]) -> Result<Invocation, Fault>
+/// Whether the words are the program's name, whatever that is, and this one.
+fn are_words(words: &[String], said: &str) -> bool
+    ensures { IsTrue result ↔ AreWords words.now said.now }
+{
+    match words {
+        [_name, word] => word.as_str() == said,
+        _ => false,
+    }
+}
+
+/// Reads words of which nothing is known. What stands in them only `clap` says.
+fn read_any(alloc: Global, words: &[String]) -> Result<Invocation, Fault>
     ensures within { IfOk result (λ asked. IfRun asked AreRunOptions) }
     ensures refused { IfErr result (λ fault. (fault ≡ Fault.BadOptions) ⊎ (fault ≡ Fault.OutOfMemory)) }
 {
@@ -132,4 +143,25 @@ pub fn read_words(alloc: Global, words: &[String]) -> Result<Invocation, Fault>
             _ => Err(Fault::BadOptions),
         },
     }
+}
+
+/// Reads the words; the first is the program's name. If `replay` or `run` is the only other one, that command without an
+/// option is returned, whatever memory there is. Which options or which help other words ask for isn't promised.
+pub fn read_words(alloc: Global, words: &[String]) -> Result<Invocation, Fault>
+    ensures within { IfOk result (λ asked. IfRun asked AreRunOptions) }
+    ensures refused { IfErr result (λ fault. (fault ≡ Fault.BadOptions) ⊎ (fault ≡ Fault.OutOfMemory)) }
+
+    // The two command lines without an option.
+    ensures replay { AreWords words.now (codes "replay") →
+        result ≡ Ok (Invocation.Replay false) }
+    ensures run { AreWords words.now (codes "run") →
+        result ≡ Ok (Invocation.Run RunOptions.USUAL) }
+{
+    if are_words(words, "replay") {
+        return Ok(Invocation::Replay { explain: false });
+    }
+    if are_words(words, "run") {
+        return Ok(Invocation::Run(RunOptions::USUAL));
+    }
+    read_any(alloc, words)
 }

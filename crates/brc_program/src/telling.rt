@@ -1,9 +1,7 @@
 //! Error lines: what a fault is, and where it is known why it came.
 
-ghost use Rattle.std.specs.Prelude.{[], ◌∷◌};
 ghost use Rattle.brc_text.specs.Puts.{Puts};
 ghost use Rattle.brc_program.specs.Errors.{bad_line, numbered_line, fault_line, told_text};
-ghost use Rattle.brc_program.specs.Explanations.{together};
 
 use crate::explanations::put_why;
 use brc_output::put_parts;
@@ -13,30 +11,19 @@ use brc_words::{Fault, Reason};
 use itoa::Buffer;
 use std::io::Write;
 
-/// Writes the line of these words.
-fn put_words<E: Write>(
-    errors: &mut E,
-    before: &[u8],
-    number: &[u8],
-    between: &[u8],
-    text: &[u8],
-) -> Result<(), Fault>
-    ensures { Puts (E.contents errors.old) (E.contents errors.new) result
-        (together (before.now ∷ number.now ∷ between.now ∷ text.now ∷ (10 ∷ []) ∷ [])) }
-{
-    put_parts(errors, &[before, number, between, text, b"\n"])
-}
-
 /// Writes that a line is not what it should be.
 fn put_bad_line<E: Write>(errors: &mut E, line: u32, what: &[u8]) -> Result<(), Fault>
     ensures { Puts (E.contents errors.old) (E.contents errors.new) result (bad_line line what.now) }
 {
-    put_words(
+    put_parts(
         errors,
-        b"brc: line ",
-        Buffer::new().format(line).as_bytes(),
-        b": not ",
-        what,
+        &[
+            b"brc: line ",
+            Buffer::new().format(line).as_bytes(),
+            b": not ",
+            what,
+            b"\n",
+        ],
     )
 }
 
@@ -44,12 +31,15 @@ fn put_bad_line<E: Write>(errors: &mut E, line: u32, what: &[u8]) -> Result<(), 
 fn put_numbered<E: Write>(errors: &mut E, number: u8, name: &str) -> Result<(), Fault>
     ensures { Puts (E.contents errors.old) (E.contents errors.new) result (numbered_line number name.now) }
 {
-    put_words(
+    put_parts(
         errors,
-        b"brc: fault ",
-        Buffer::new().format(number).as_bytes(),
-        b" ",
-        name.as_bytes(),
+        &[
+            b"brc: fault ",
+            Buffer::new().format(number).as_bytes(),
+            b" ",
+            name.as_bytes(),
+            b"\n",
+        ],
     )
 }
 
