@@ -1,10 +1,12 @@
 //! Heaps that are closed, and their reports: a list that holds itself, a text that the globals hold, globals that are
-//! cleared, threads that nobody gathered, and a report for which memory is wanting.
+//! cleared, threads that nobody gathered or that are gathered late, and a report for which memory is wanting.
 #![tactic(auto)]
 
+mod late;
 mod lives;
 
 use brc_heap::{Heap, Options, Report, write_report};
+use late::closed_late;
 use lives::{Life, lives};
 use std::alloc::{Allocator, Global};
 use std::io;
@@ -12,7 +14,7 @@ use std::sync::Wait;
 use test_tools::{Heaps, Memories, closed};
 
 /// The least heap.
-const SIZES: Options = Options {
+pub(crate) const SIZES: Options = Options {
     cells: 512,
     local_limit: 10,
 };
@@ -93,6 +95,11 @@ fn main(rt: HostRuntime) -> io::Result<()> {
     for ends in 1..3 {
         let missing = missing(&rt, rt.alloc(), ends);
         println!(rt; "registered and gathered: {missing:?}")?;
+    }
+    if let Some(late) = closed_late(&rt, rt.alloc()) {
+        let (registered, gathered) = late.missing;
+        println!(rt; "of three at once: {registered} registered, {gathered} gathered")?;
+        shows(&rt, "once the third is gathered", Some(late.report))?;
     }
     let refused = is_refused_first(&rt, rt.alloc());
     println!(rt; "refused for want of memory, and had with more: {refused}")

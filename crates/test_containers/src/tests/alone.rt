@@ -1,10 +1,12 @@
 //! Lives of one thread on a heap of its own, each of which leaves nothing: calls that never wait where no other thread
-//! has the object locked, and objects edited by guards.
+//! has the object locked, the order of a dictionary's pairs, and objects edited by guards.
 
 ghost use Rattle.brc_count.specs.Frames.{IsUnlocked};
 ghost use Rattle.test_tools.specs.Calls.{OwnsOne, Stays};
 
-use crate::tests::calls::{Exchanging, Getting, Giving, exchanges, gets_none, gets_number, gives};
+use crate::tests::calls::{
+    Exchanging, Getting, Giving, exchanges, gets_none, gets_number, gives, has_pair,
+};
 use crate::tests::guards::{ToLock, Way, puts_a_pair};
 use crate::tests::objects::{entries, number_of};
 use crate::tests::threads::{a_heap, a_thread, is_empty};
@@ -29,6 +31,8 @@ enum Step {
     Exchanges(Exchanging, i64, i64),
     /// So many entries are there.
     Has(usize),
+    /// At this place stands the pair of this key and an integer with this number.
+    HasPair(u32, i64, i64),
 }
 
 /// Two integers go in; the first is found and exchanged for a third, which is taken out; the other is popped.
@@ -52,6 +56,21 @@ const TRIES_ON_A_MAILBOX: &[Step] = &[
     Step::Gets(Getting::TryRecv, 1_000),
     Step::Gets(Getting::TryRecv, 1_001),
     Step::GetsNone(Getting::TryRecv),
+];
+
+/// Three keys come, the second goes and comes again, and the first gets another integer: it keeps its place, and the
+/// second one is the last now.
+const KEYS_IN_A_DICT: &[Step] = &[
+    Step::Gives(Giving::Put(1), 1_001),
+    Step::Gives(Giving::Put(2), 1_002),
+    Step::Gives(Giving::Put(3), 1_003),
+    Step::Gets(Getting::Del(2), 1_002),
+    Step::Gives(Giving::Put(2), 1_004),
+    Step::Exchanges(Exchanging::Replace(1), 1_001, 1_005),
+    Step::Has(3),
+    Step::HasPair(0, 1, 1_005),
+    Step::HasPair(1, 3, 1_003),
+    Step::HasPair(2, 2, 1_004),
 ];
 
 /// Two integers go in, one is found there, one exchanged for a third, and the first one taken out.
@@ -110,6 +129,9 @@ fn takes<R: Abort + Wait, H: Home<A>, A: Allocator + Copy>(
             assert_eq!(rt; number_of(rt, frame, value), old);
         }
         Step::Has(count) => assert_eq!(rt; entries(rt, frame, object), count),
+        Step::HasPair(place, key, number) => {
+            has_pair(rt, alloc, frame, object, place, key, number);
+        }
     }
 }
 
@@ -159,6 +181,15 @@ fn calls_that_never_wait_find_what_is_there(rt: HostRuntime) {
         steps: TRIES_ON_A_MAILBOX,
     };
     lives(&rt, rt.alloc(), list, mailbox, 7);
+}
+
+#[test]
+fn pairs_stand_in_the_order_in_which_their_keys_came(rt: HostRuntime) {
+    let dict = Use {
+        thing: Thing::Dict,
+        steps: KEYS_IN_A_DICT,
+    };
+    lives(&rt, rt.alloc(), dict, dict, 12);
 }
 
 #[test]

@@ -8,7 +8,9 @@ use crate::tests::guards::{Entry, ToLock, Way, had_by_guard, put_by_guard, swap_
 use crate::tests::objects::number_of;
 use brc_biased::Home;
 use brc_count::{Frame, Handed, Handle};
-use brc_dicts::{dict_del, dict_find, dict_put, try_dict_del, try_dict_find, try_dict_put};
+use brc_dicts::{
+    dict_del, dict_find, dict_pair, dict_put, try_dict_del, try_dict_find, try_dict_put,
+};
 use brc_lists::{
     list_get, list_pop, list_push, list_set, list_take, recv, send, try_list_get, try_list_pop,
     try_list_push, try_list_set, try_list_take, try_recv, try_send,
@@ -58,6 +60,8 @@ pub(super) enum Getting {
 pub(super) enum Exchanging {
     Set(u32),
     TrySet(u32),
+    /// Beside a key that is there.
+    Replace(i64),
     /// In a list, by a guard.
     Swap(u32, Way),
 }
@@ -197,6 +201,44 @@ pub(super) fn gets_number<H: Home<A>, A: Allocator>(
     assert_eq!(rt; number_of(rt, frame, handle), number);
 }
 
+/// A handle to the value at the place, which stands beside this key.
+fn gets_value<H: Home<A>, A: Allocator>(
+    rt: &(impl Abort + Wait),
+    alloc: A,
+    frame: &mut Frame<H, A>,
+    dict: &Handle<A>,
+    place: u32,
+    key: i64,
+) -> Handle<A>
+    requires { OwnsOne frame.old dict.now }
+    ensures { Adds frame.old frame.new result }
+{
+    match dict_pair(rt, alloc, frame, dict, place) {
+        Err(_fault) => panic!(rt; "no pair is there"),
+        Ok((found, value)) => {
+            assert!(rt; found == Key::Int(key));
+            value
+        }
+    }
+}
+
+/// The pair at the place has this key, and its value is an integer with this number.
+pub(super) fn has_pair<H: Home<A>, A: Allocator>(
+    rt: &(impl Abort + Wait),
+    alloc: A,
+    frame: &mut Frame<H, A>,
+    dict: &Handle<A>,
+    place: u32,
+    key: i64,
+    number: i64,
+)
+    requires { OwnsOne frame.old dict.now }
+    ensures { Stays frame.old frame.new }
+{
+    let value = gets_value(rt, alloc, frame, dict, place, key);
+    assert_eq!(rt; number_of(rt, frame, value), number);
+}
+
 /// There is no such entry.
 pub(super) fn gets_none<H: Home<A>, A: Allocator>(
     rt: &(impl Abort + Wait),
@@ -214,7 +256,7 @@ pub(super) fn gets_none<H: Home<A>, A: Allocator>(
 }
 
 /// The value and an entry change places.
-pub(super) fn exchanges<H: Home<A>, A: Allocator>(
+pub(super) fn exchanges<H: Home<A>, A: Allocator + Copy>(
     rt: &(impl Abort + Wait),
     frame: &mut Frame<H, A>,
     container: &Handle<A>,
@@ -233,6 +275,11 @@ pub(super) fn exchanges<H: Home<A>, A: Allocator>(
         Exchanging::TrySet(index) => match try_list_set(frame, container, index, value) {
             Ok(old) => old,
             Err(_handed) => panic!(rt; "an exchange that doesn't wait is refused"),
+        },
+        Exchanging::Replace(key) => match dict_put(rt, frame, container, Key::Int(key), value) {
+            Ok(Some(old)) => old,
+            Ok(None) => panic!(rt; "the key wasn't there"),
+            Err(_handed) => panic!(rt; "a replacement is refused"),
         },
         Exchanging::Swap(index, way) => {
             swap_by_guard(rt, frame, ToLock { container, way }, index, value)
