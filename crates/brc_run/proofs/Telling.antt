@@ -16,7 +16,7 @@ use Rattle.brc_table.specs.Seated.{TableSeen}
 use Rattle.brc_count.specs.declared.ledger.Ledger.{Ledger}
 use Rattle.brc_count.specs.Frames.{FrameSeen, ledger_seen}
 use Rattle.brc_meaning.specs.Sections.{meaning}
-use Rattle.brc_instructions.specs.Causes.{NoneWasFree}
+use Rattle.brc_section.specs.Wants.{NoneWasFree}
 use Rattle.brc_section.specs.declared.section.SectionEnd.{SectionEnd}
 use Rattle.brc_section.specs.Isolation.{is_own_end}
 use Rattle.brc_thread.specs.Retiring.{RetiresAs}

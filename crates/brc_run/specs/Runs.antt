@@ -7,7 +7,7 @@ use Rattle.brc_words.specs.Faults.{number_of}
 use Rattle.brc_script.specs.declared.script.Section.{Section}
 use Rattle.brc_script.specs.Scripts.{is_private}
 use Rattle.brc_meaning.specs.Sections.{meaning}
-use Rattle.brc_instructions.specs.Causes.{NoneWasFree}
+use Rattle.brc_section.specs.Wants.{NoneWasFree}
 use Rattle.brc_section.specs.Ends.{IsLineOf}
 use Rattle.brc_section.specs.Isolation.{is_own_end, Prints}
 use Rattle.brc_section.specs.declared.section.SectionEnd.{SectionEnd}

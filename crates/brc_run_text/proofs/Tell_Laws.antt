@@ -3,7 +3,7 @@ use Rattle.std.proofs.Common.{◌≡◌, ◌∙◌, ◌≤◌, ◌<◌, ◌+◌,
 use Rattle.std.proofs.Common.{add-one, refl, ap, sym}
 use Rattle.std.proofs.lemmas.List.{drop_all}
 use Rattle.brc_script.specs.declared.script.Section.{Section}
-use Rattle.brc_section.specs.declared.section.SectionEnd.{SectionEnd}
+use Rattle.brc_run.specs.Words.{SectionEnd}
 use Rattle.brc_report.specs.declared.report.Report.{Report}
 use Rattle.brc_report.specs.Texts.{report_text}
 use Rattle.brc_output.specs.Sections.{section_text}

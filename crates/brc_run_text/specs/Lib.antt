@@ -1,2 +1,3 @@
 pub mod Tellings
 pub mod Scripts_Run
+pub mod Words

@@ -7,7 +7,7 @@ use Rattle.brc_words.specs.declared.fault.Fault.{Fault}
 use Rattle.brc_words.specs.declared.fault.Fault.TheVariants as faults
 use Rattle.brc_script.specs.declared.script.Section.{Section}
 use Rattle.brc_script.specs.Walks.{script_at}
-use Rattle.brc_section.specs.declared.section.SectionEnd.{SectionEnd}
+use Rattle.brc_run.specs.Words.{SectionEnd}
 use Rattle.brc_report.specs.declared.report.Report.{Report}
 use Rattle.brc_run.specs.declared.options.RunOptions.{RunOptions}
 use Rattle.brc_run.specs.Options.{AreRunOptions}

@@ -1,7 +1,7 @@
 -- What a run is told as.
 use Rattle.std.specs.Prelude.{ℕ, Bool, List, [], ◌∷◌, ◌++◌, is_some}
 use Rattle.brc_script.specs.declared.script.Section.{Section}
-use Rattle.brc_section.specs.declared.section.SectionEnd.{SectionEnd}
+use Rattle.brc_run.specs.Words.{SectionEnd}
 use Rattle.brc_report.specs.declared.report.Report.{Report}
 use Rattle.brc_report.specs.Texts.{report_text}
 use Rattle.brc_output.specs.Sections.{section_text}

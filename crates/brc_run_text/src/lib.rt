@@ -8,6 +8,7 @@ mod ended;
 mod telling;
 mod whole;
 
+pub use brc_run::{Gate, MOST_TURNS, RunOptions};
 pub use ended::Ended;
 pub use telling::write_run;
 pub use whole::run_script;

@@ -7,9 +7,8 @@ ghost use Rattle.brc_run_text.specs.Tellings.{sections_text, run_text, ends_by_f
 
 use brc_output::write_section;
 use brc_report::write_report;
-use brc_run::RunReport;
+use brc_run::{RunReport, SectionEnd};
 use brc_script::{Script, Section};
-use brc_section::SectionEnd;
 use brc_words::Fault;
 use std::alloc::Allocator;
 use std::io::Write;

@@ -5,7 +5,8 @@ use Rattle.brc_words.specs.declared.fault.Fault.TheVariants as faults
 use Rattle.brc_words.specs.declared.limits.TheConstants.{MOST_BIRTHS}
 use Rattle.brc_count.specs.Frames.{FrameSeen, ledger_seen}
 use Rattle.law_living.specs.Later.{IsLater}
-use Rattle.brc_instructions.specs.Causes.{NoneWasFree, Caused}
+use Rattle.brc_instructions.specs.Causes.{Caused}
+pub use Rattle.brc_instructions.specs.Causes.{NoneWasFree}
 use Rattle.brc_section.specs.declared.running.Halt.{Halt}
 
 module _ {A : Type 0} where

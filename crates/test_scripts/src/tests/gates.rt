@@ -3,8 +3,7 @@
 ghost use Rattle.std.specs.Prelude.{◌≡◌, ⊤};
 
 use crate::tests::harness::outcome;
-use brc_run::RunOptions;
-use brc_section::Gate;
+use brc_run::{Gate, RunOptions};
 use std::process::Abort;
 use std::sync::Wait;
 use std::sync::atomic::{AtomicU32, AtomicU64, Ordering};

@@ -1,9 +1,8 @@
 //! A script's output, in its words.
 
 use brc_report::{check_report, write_report};
-use brc_run::{RunOptions, RunReport, run_sections};
+use brc_run::{Gate, RunOptions, RunReport, SectionEnd, run_sections};
 use brc_script::{Script, Section, parse};
-use brc_section::{Gate, SectionEnd};
 use brc_words::Fault;
 use std::alloc::Global;
 use std::process::Abort;
