@@ -1,6 +1,7 @@
 //! Whether a run came to what it should.
 
 use crate::plan::Plan;
+use brc_run_text::Ended;
 use std::alloc::{AllocError, Global};
 
 /// What the sections print, and the ledger of the report.
@@ -38,20 +39,20 @@ fn are_left(lines: &str, remains: u64) -> bool {
     held == remains && cycles == remains
 }
 
-/// The status and the output are those of the plan.
+/// No fault ended a section, something lives if that is planned, and the output is that of the plan.
 pub fn is_as_planned(
     alloc: Global,
     plan: &Plan,
-    status: u8,
+    ended: Ended,
     output: &[u8],
 ) -> Result<bool, AllocError> {
     let told = told(alloc, plan)?;
-    let wanted = if plan.remains() > 0 { 1 } else { 0 };
+    let ends_so = !ended.faulted && ended.lives == (plan.remains() > 0);
     let Ok(output) = str::from_utf8(output) else {
         return Ok(false);
     };
     Ok(match output.strip_prefix(told.as_str()) {
-        Some(lines) => status == wanted && are_left(lines, plan.remains()),
+        Some(lines) => ends_so && are_left(lines, plan.remains()),
         None => false,
     })
 }

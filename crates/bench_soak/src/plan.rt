@@ -1,5 +1,6 @@
 //! What a run is to do, drawn at random, and what it comes to.
 
+use brc_run_text::RunOptions;
 use rand::RngExt;
 use rand_core::Rng;
 
@@ -14,9 +15,9 @@ pub struct Plan {
     pub turns: u32,
     /// How many lists that hold themselves each leaves behind.
     pub left: u32,
-    pub cells: u32,
-    pub budget: u32,
-    pub local_limit: u32,
+    cells: u32,
+    budget: usize,
+    local_limit: u32,
 }
 
 impl Plan {
@@ -33,8 +34,17 @@ impl Plan {
             turns: rng.random_range(1u32..2_000) / players.max(1) + 1,
             left: rng.random_range(0u32..4),
             cells: rng.random_range(4_096u32..65_537),
-            budget: rng.random_range(1u32..65),
+            budget: rng.random_range(1u32..65) as usize,
             local_limit,
+        }
+    }
+
+    /// How its script is run.
+    pub fn options(&self) -> RunOptions {
+        RunOptions {
+            cells: self.cells,
+            budget: self.budget,
+            local_limit: self.local_limit,
         }
     }
 

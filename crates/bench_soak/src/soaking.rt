@@ -3,10 +3,10 @@
 use crate::checking::is_as_planned;
 use crate::plan::Plan;
 use crate::script::script_of;
-use brc_program::program;
+use brc_run_text::{Gate, run_script};
 use rand_core::SeedableRng;
 use rand_pcg::Pcg32;
-use std::alloc::{AllocError, Global};
+use std::alloc::Global;
 use std::io;
 use std::io::Write;
 use std::rt::Clock;
@@ -43,28 +43,27 @@ impl Done {
     }
 }
 
-/// The words of the command line.
-fn words_of(alloc: Global, plan: &Plan) -> Result<Vec<String>, AllocError> {
-    let (cells, budget, limit) = (plan.cells, plan.budget, plan.local_limit);
-    let line = format!(in alloc;
-        "brc run --cells {cells} --budget {budget} --local-limit {limit}"
-    )?;
-    let mut words = Vec::new(alloc);
-    for word in line.as_str().split_whitespace() {
-        words.push(String::from_str(alloc, word)?)?;
+/// Lets each instruction start at once.
+#[derive(Drop)]
+struct Open;
+
+impl Gate for Open {
+    ghost may_refuse = { λ _ _ _. ⊥ };
+
+    fn at<R: Wait>(&self, _rt: &R, _section: u32, _line: u32) -> bool {
+        true
     }
-    Ok(words)
 }
 
 /// Runs the plan's script, and answers whether it came to what it should.
 fn holds<R: Threads + Wait + Sync>(rt: &R, alloc: Global, plan: &Plan) -> io::Result<bool> {
-    let words = words_of(alloc, plan)?;
     let script = script_of(alloc, plan)?;
     let mut output = Vec::new(alloc);
-    let mut errors = Vec::new(alloc);
     let input = script.as_str().as_bytes();
-    let status = program(rt, alloc, words.as_slice(), input, &mut output, &mut errors);
-    Ok(errors.is_empty() && is_as_planned(alloc, plan, status, output.as_slice())?)
+    match run_script(rt, alloc, plan.options(), input, &mut output, &Open) {
+        Ok(ended) => Ok(is_as_planned(alloc, plan, ended, output.as_slice())?),
+        Err(_fault) => Ok(false),
+    }
 }
 
 /// Tells what was done so far.

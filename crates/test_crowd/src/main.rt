@@ -1,5 +1,6 @@
 //! 64 threads find one list in the globals and let it go, a hundred times each, all at the same time; then all but its
 //! maker leave, the maker clears the globals and leaves too, and the heap is closed: the list was made and freed once.
+//! Then two threads let one list go as they leave, on heap after heap.
 #![tactic(auto)]
 
 mod counted;
@@ -9,10 +10,13 @@ mod finding;
 mod first;
 mod gate;
 mod lives;
+mod pair;
+mod pairs;
 
 use brc_heap::{Heap, Options, Report};
 use counted::Counted;
 use crowd::all_live;
+use pairs::{HEAPS, count_heaps};
 use std::alloc::Global;
 use std::io;
 use test_tools::closed;
@@ -45,5 +49,7 @@ fn main(rt: HostRuntime) -> io::Result<()> {
     let report = closed(rt.alloc(), heap, root).ok();
     shows_counted(&rt, counted)?;
     println!(rt; "gathered {gathered}")?;
-    shows_report(&rt, report)
+    shows_report(&rt, report)?;
+    let freed = count_heaps(&rt, rt.alloc());
+    println!(rt; "freed once on {} of {} heaps", freed, HEAPS)
 }

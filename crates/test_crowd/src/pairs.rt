@@ -1,22 +1,18 @@
 //! A list that two threads let go at the same time as they leave, on each of a thousand heaps. Its maker has put it into
 //! the globals and kept a handle, and the other thread has taken it out there. It is freed once, by either of them.
-#![tactic(auto)]
-
-mod pair;
 
 ghost use Rattle.std.specs.Prelude.{◌≡◌};
 
+use crate::pair::Parting;
 use brc_heap::{Heap, Options, Report, Root};
 use brc_loops::{Ended, Nothing, gather_all, rest_more, run_all};
-use pair::Parting;
 use std::alloc::Global;
-use std::io;
 use std::sync::Wait;
 use std::thread::Threads;
 use test_tools::closed;
 
 /// How many heaps there are, one after the other.
-const HEAPS: u32 = 1_000;
+pub(crate) const HEAPS: u32 = 1_000;
 
 /// The least heap.
 const SIZES: Options = Options {
@@ -74,7 +70,7 @@ where
 }
 
 /// On how many heaps it is so, up to the first on which it isn't.
-fn count_heaps<R>(rt: &R, alloc: Global) -> u32
+pub(crate) fn count_heaps<R>(rt: &R, alloc: Global) -> u32
 where
     R: Threads + Wait + Sync,
 {
@@ -84,9 +80,4 @@ where
         }
     }
     HEAPS
-}
-
-fn main(rt: HostRuntime) -> io::Result<()> {
-    let freed = count_heaps(&rt, rt.alloc());
-    println!(rt; "freed once on {} of {} heaps", freed, HEAPS)
 }
