@@ -30,6 +30,7 @@ impl<A: Allocator> Block<A> {
     ghost use Rattle.brc_block.specs.Lending.{lends_payload};
 
     /// A block of the cell with the payload, or the payload back.
+    #[inline(always)]
     pub fn new(alloc: A, cell: u32, payload: Payload<A>) -> Result<Self, (Fault, Payload<A>)>
         ensures made { IfOk result (λ block. block ≡ (cell, payload)) }
         ensures refused { IfErr result (λ back. back ≡ (fault.OutOfMemory, payload)) }
@@ -63,6 +64,7 @@ impl<A: Allocator> Block<A> {
     }
 
     /// The block is of another cell; its payload stays.
+    #[inline(always)]
     pub fn set_cell(&mut self, cell: u32)
         ensures { self.new ≡ (cell, self.old.1) }
     {

@@ -50,6 +50,7 @@ impl<A: Allocator> KeyMap<A> {
     }
 
     /// The key and the cell at an index, or None past the end.
+    #[inline(always)]
     pub(crate) fn pair(&self, index: usize) -> Option<(&Key<A>, u32)>
         ensures there { IfSome result
             (λ pair. slice_get self.now.items index ≡ Some (pair.0.now, pair.1)) }
@@ -62,6 +63,7 @@ impl<A: Allocator> KeyMap<A> {
     }
 
     /// The index of the key.
+    #[inline(always)]
     pub(crate) fn find(&self, key: &Key<A>) -> Option<usize>
         ensures found { IfSome result
             (λ index. slice_get (keys_in self.now.items) index ≡ Some key.now) }
@@ -69,6 +71,15 @@ impl<A: Allocator> KeyMap<A> {
             (λ index. All (λ other. other ≢ key.now) (take index (keys_in self.now.items))) }
         ensures none { IfNone result (All (λ other. other ≢ key.now) (keys_in self.now.items)) }
     {
+        match key {
+            Key::Int(number) => self.map.get_index_of(&Key::Int(*number)),
+            Key::Text(_) => self.find_text(key),
+        }
+    }
+
+    /// The index of a text.
+    #[inline(never)]
+    fn find_text(&self, key: &Key<A>) -> Option<usize> {
         self.map.get_index_of(key)
     }
 
@@ -96,6 +107,7 @@ impl<A: Allocator> KeyMap<A> {
     }
 
     /// Another cell for a key; its place stays.
+    #[inline(always)]
     pub(crate) fn set(&mut self, index: usize, cell: u32)
         requires within { index < length self.old.items }
         ensures set { cells_in self.new.items ≡ slice_set (cells_in self.old.items) index cell }

@@ -54,10 +54,12 @@ impl<A: Allocator> Letters<A> {
 impl<A: Allocator> Entries for Letters<A> {
     ghost row = { λ l. l };
 
+    #[inline(always)]
     fn len(&self) -> usize {
         self.queue.len()
     }
 
+    #[inline(always)]
     fn entry(&self, index: usize) -> Option<u32> {
         self.queue.get(index).copied()
     }
@@ -72,6 +74,7 @@ impl<A: Allocator> Entries for Letters<A> {
         self.queue.reserve_exact(len.max(FEWEST))
     }
 
+    #[inline(always)]
     fn put_reserved(&mut self, cell: u32) {
         match self.queue.push_back(cell) {
             Ok(()) => {}
@@ -84,7 +87,14 @@ impl<A: Allocator> Entries for Letters<A> {
     }
 
     // The first and the last are taken at once.
+    #[inline(always)]
     fn remove(&mut self, index: usize) -> u32 {
+        if index == 0 {
+            return match self.queue.pop_front() {
+                Some(cell) => cell,
+                None => unreachable!(),
+            };
+        }
         match self.queue.remove(index) {
             Some(cell) => cell,
             None => unreachable!(),

@@ -62,6 +62,7 @@ impl<A: Allocator> Pairs<A> {
     }
 
     /// The key and the cell of an entry, or None past the end.
+    #[inline(always)]
     pub fn pair(&self, index: usize) -> Option<(&Key<A>, u32)>
         ensures there { IfSome result
             (λ pair. slice_get self.now.items index ≡ Some (pair.0.now, pair.1)) }
@@ -74,6 +75,7 @@ impl<A: Allocator> Pairs<A> {
     }
 
     /// The cell of an entry, or None past the end.
+    #[inline(always)]
     pub fn entry(&self, index: usize) -> Option<u32>
         ensures { result ≡ slice_get (cells_in self.now.items) index }
     {
@@ -84,6 +86,7 @@ impl<A: Allocator> Pairs<A> {
     }
 
     /// The index of the first pair that has the key.
+    #[inline(always)]
     pub fn find(&self, key: &Key<A>) -> Option<usize>
         ensures found { IfSome result
             (λ index. slice_get (keys_in self.now.items) index ≡ Some key.now) }
@@ -111,6 +114,7 @@ impl<A: Allocator> Pairs<A> {
     }
 
     /// Another cell for a key; its place stays.
+    #[inline(always)]
     pub fn set(&mut self, index: usize, cell: u32)
         requires within { index < length self.old.items }
         ensures set { cells_in self.new.items ≡ slice_set (cells_in self.old.items) index cell }

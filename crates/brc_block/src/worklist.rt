@@ -1,6 +1,6 @@
 //! Blocks of dead objects, last pushed first: each link is in its block.
 
-ghost use Rattle.std.specs.Prelude.{◌≡◌, ℕ, ◌+◌, ◌-◌, ◌^◌, ◌<◌, List, [], ◌∷◌, length, min, IfSome, IfNone};
+ghost use Rattle.std.specs.Prelude.{◌≡◌, ℕ, ◌+◌, ◌-◌, ◌^◌, ◌<◌, List, [], ◌∷◌, length, min, IfSome, IfNone, IsTrue, IsFalse};
 ghost use Rattle.std.specs.Option.{option_copied_mut};
 ghost use Rattle.brc_block.specs.Blocks.{front_cell, front_payload, front_entries, most_counted, PopsEntry};
 
@@ -21,21 +21,18 @@ pub(crate) struct Node<A: Allocator> {
 /// A list of blocks, which must be empty at its end.
 #[cycle(worklist)]
 pub struct Worklist<A: Allocator> {
-    len: usize,
     top: Option<Box<Node<A>, A>>,
 }
 
 impl<A: Allocator> Model for Worklist<A> {
-    ghost use Rattle.std.specs.Prelude.{◌≡◌, List, ℕ, length, min};
+    ghost use Rattle.std.specs.Prelude.{List, ℕ, length};
     ghost use Rattle.brc_block.specs.declared.payload.Payload.{Payload};
 
     ghost Value = { List (ℕ × Payload A) };
 
-    ghost use Rattle.brc_block.specs.Blocks.{blocks_of, most_counted};
+    ghost use Rattle.brc_block.specs.Blocks.{blocks_of};
 
     ghost view = { λ w. blocks_of w.top };
-
-    ghost invariant = { λ w. w.len ≡ min (length (blocks_of w.top)) most_counted };
 
     ghost size = { length };
 
@@ -52,31 +49,48 @@ impl<A: Allocator> Worklist<A> {
     pub fn new() -> Self
         ensures { result ≡ [] }
     {
-        Worklist { len: 0, top: None }
+        Worklist { top: None }
     }
 
-    /// How many blocks there are, as far as a `usize` counts; more than memory has room for are not.
+    #[inline(always)]
+    pub fn is_empty(&self) -> bool
+        ensures some { IsFalse result → 0 < length self.now }
+        ensures none { IsTrue result → self.now ≡ [] }
+    {
+        self.top.is_none()
+    }
+
+    /// How many blocks there are, as far as a `usize` counts; more than memory has room for are not. It goes along all
+    /// of them.
     pub fn len(&self) -> usize
         ensures { result ≡ min (length self.now) most_counted }
     {
-        self.len
+        let mut passed = 0usize;
+        let mut rest = self;
+        loop {
+            match &rest.top {
+                None => return passed,
+                Some(node) => {
+                    passed = passed.saturating_add(1);
+                    rest = &node.below;
+                }
+            }
+        }
     }
 
     /// The last pushed block is the front.
+    #[inline(always)]
     pub fn push(&mut self, block: Block<A>)
         ensures { self.new ≡ block ∷ self.old }
     {
         let mut node = block.into_node();
         let rest = self.take_all();
-        let len = rest.len().saturating_add(1);
         node.below.fill(rest);
-        self.fill(Worklist {
-            len,
-            top: Some(node),
-        });
+        self.fill(Worklist { top: Some(node) });
     }
 
     /// All blocks, in a list of their own.
+    #[inline(always)]
     fn take_all(&mut self) -> Self
         ensures taken { result ≡ self.old }
         ensures empty { self.new ≡ [] }
@@ -85,6 +99,7 @@ impl<A: Allocator> Worklist<A> {
     }
 
     /// The empty list becomes the other.
+    #[inline(always)]
     fn fill(&mut self, blocks: Self)
         requires empty { self.old ≡ [] }
         ensures { self.new ≡ blocks }
@@ -94,13 +109,14 @@ impl<A: Allocator> Worklist<A> {
     }
 
     /// Takes the front.
+    #[inline(always)]
     pub fn pop(&mut self) -> Option<Block<A>>
         ensures some { IfSome result (λ block. self.old ≡ block ∷ self.new) }
         ensures none { IfNone result (self.old ≡ []) }
         ensures empty { IfNone result (self.new ≡ []) }
     {
         let all = self.take_all();
-        let Worklist { len: _len, top } = all;
+        let Worklist { top } = all;
         match top {
             None => None,
             Some(node) => {
@@ -114,6 +130,7 @@ impl<A: Allocator> Worklist<A> {
     }
 
     /// The cell of the front.
+    #[inline(always)]
     pub fn front(&self) -> Option<u32>
         ensures { result ≡ front_cell self.now }
     {
@@ -124,6 +141,7 @@ impl<A: Allocator> Worklist<A> {
     }
 
     /// What the front holds, to be changed.
+    #[inline(always)]
     pub fn front_mut(&mut self) -> Option<&mut Payload<A>>
         ensures* lends { sem 𝓛 (lends_front A.row A.Allocator self.entry result) }
         ensures value { option_copied_mut result ≡ front_payload self.old }
@@ -135,6 +153,7 @@ impl<A: Allocator> Worklist<A> {
     }
 
     /// Takes the last entry of the front; None where there is no block or the front has no entries.
+    #[inline(always)]
     pub fn pop_entry(&mut self) -> Option<u32>
         ensures popped { IfSome result (PopsEntry self.old self.new) }
         ensures none { IfNone result (front_entries self.old ≡ []) }
@@ -147,10 +166,11 @@ impl<A: Allocator> Worklist<A> {
     }
 
     /// Spends the list, which is empty.
+    #[inline(always)]
     pub fn end(self)
         requires empty { self ≡ [] }
     {
-        let Worklist { len: _len, top } = self;
+        let Worklist { top } = self;
         match top {
             None => {}
             Some(_node) => unreachable!(),

@@ -66,7 +66,7 @@ impl<H: Home<A>, A: Allocator> ClosedFrame<H, A> {
         if self.holdings.first_popped(self.next).is_some() {
             return false;
         }
-        self.holdings.works.len() == 0
+        self.holdings.works.is_empty()
     }
 
     /// One turn: a popped entry is dealt with, or, where none is left, the front block's last entry is released, or the

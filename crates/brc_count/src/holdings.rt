@@ -106,7 +106,7 @@ impl<H: Home<A>, A: Allocator> Holdings<H, A> {
         ensures idle { IsTrue result → (self.now.len ≡ 0) × (self.now.works ≡ []) }
         ensures busy { IsFalse result → (0 < self.now.len) ⊎ (0 < length self.now.works) }
     {
-        self.places.is_empty() && self.works.len() == 0
+        self.places.is_empty() && self.works.is_empty()
     }
 
     /// The cell to which a place has a reference.

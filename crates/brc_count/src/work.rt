@@ -23,7 +23,7 @@ impl<H: Home<A>, A: Allocator> Holdings<H, A> {
         ensures idle { IsFalse result → self.new.works ≡ [] }
         ensures unchanged { IsFalse result → self.new ≡ self.old }
     {
-        if self.works.len() == 0 {
+        if self.works.is_empty() {
             return false;
         }
         if let Some(entry) = self.works.pop_entry() {

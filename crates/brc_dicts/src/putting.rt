@@ -47,6 +47,7 @@ fn make_room<A: Allocator + Copy>(payload: &mut Payload<A>) -> Result<(), Fault>
 }
 
 /// A new key goes into the dictionary that is locked, at the end, with the value.
+#[inline(never)]
 fn append_locked<H: Home<A>, A: Allocator + Copy>(
     frame: &mut Frame<H, A>,
     mut block: Block<A>,
@@ -85,6 +86,7 @@ fn append_locked<H: Home<A>, A: Allocator + Copy>(
 
 /// The value goes beside a key that is there, in the dictionary that is locked; the answer is the old one. It takes no
 /// memory.
+#[inline(always)]
 fn replace_locked<H: Home<A>, A: Allocator>(
     frame: &mut Frame<H, A>,
     mut block: Block<A>,
@@ -107,7 +109,10 @@ fn replace_locked<H: Home<A>, A: Allocator>(
 {
     let place = index as u32;
     let cell = frame.cell(&value);
-    block.payload_mut().set(index, cell);
+    match block.payload_mut() {
+        Payload::Dict(pairs) => pairs.set(index, cell),
+        _ => unreachable!(),
+    }
     let old = frame.end_swap(block, place, entry, value);
     // The key's memory goes once the lock is free.
     drop(key);
@@ -115,6 +120,7 @@ fn replace_locked<H: Home<A>, A: Allocator>(
 }
 
 /// A put into the dictionary that is locked, and its unlocking.
+#[inline(always)]
 fn put_locked<H: Home<A>, A: Allocator + Copy>(
     frame: &mut Frame<H, A>,
     block: Block<A>,
@@ -157,6 +163,7 @@ fn put_locked<H: Home<A>, A: Allocator + Copy>(
 /// takes the place of the old one, which is the answer. Busy where another thread has the dictionary locked, then
 /// WrongKind where the object is no dictionary, Full where a new key is the 1,048,577th, and OutOfMemory for a new key;
 /// a refusal hands key and value back.
+#[inline(always)]
 pub fn try_dict_put<H: Home<A>, A: Allocator + Copy>(
     frame: &mut Frame<H, A>,
     dict: &Handle<A>,
@@ -184,6 +191,7 @@ pub fn try_dict_put<H: Home<A>, A: Allocator + Copy>(
 
 /// Puts the value beside the key, as `try_dict_put` does; WrongKind, Full and OutOfMemory as there. It waits while
 /// another thread has the dictionary locked.
+#[inline(always)]
 pub fn dict_put<H: Home<A>, A: Allocator + Copy>(
     rt: &impl Wait,
     frame: &mut Frame<H, A>,

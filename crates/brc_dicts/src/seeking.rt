@@ -18,7 +18,7 @@ pub(crate) enum Sought {
 }
 
 /// Looks for the key, once.
-#[inline]
+#[inline(always)]
 pub(crate) fn seek<A: Allocator>(payload: &Payload<A>, key: &Key<A>) -> Sought
     ensures { Seeks payload.now key.now result }
 {

@@ -22,6 +22,7 @@ use std::alloc::Allocator;
 use std::sync::Wait;
 
 /// A find in the dictionary that is locked, and its unlocking.
+#[inline(always)]
 fn find_locked<H: Home<A>, A: Allocator>(
     frame: &mut Frame<H, A>,
     block: Block<A>,
@@ -62,6 +63,7 @@ fn find_locked<H: Home<A>, A: Allocator>(
 
 /// A handle to the value beside the key, counted up in one event while the dictionary is locked. Busy where another
 /// thread has it locked, then WrongKind where the object is no dictionary, NoSuchKey, FrameFull and OutOfMemory.
+#[inline(always)]
 pub fn try_dict_find<H: Home<A>, A: Allocator>(
     frame: &mut Frame<H, A>,
     dict: &Handle<A>,
@@ -82,6 +84,7 @@ pub fn try_dict_find<H: Home<A>, A: Allocator>(
 
 /// A handle to the value beside the key; WrongKind, NoSuchKey, FrameFull and OutOfMemory as in `try_dict_find`. It
 /// waits while another thread has the dictionary locked.
+#[inline(always)]
 pub fn dict_find<H: Home<A>, A: Allocator>(
     rt: &impl Wait,
     frame: &mut Frame<H, A>,

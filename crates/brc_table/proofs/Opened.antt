@@ -12,7 +12,7 @@ use lib.Pow.{pow_mono}
 use mathlib.Core.Option.{some}
 use lib.ListN.{get_elem?}
 use Rattle.atomic_table.specs.Table as tables
-use Rattle.brc_words.specs.declared.limits.TheConstants.{FIRST_MORTAL, IMMORTAL_LOCAL}
+use Rattle.brc_words.specs.declared.limits.TheConstants.{FIRST_MORTAL, IMMORTAL_LOCAL, MOST_CELLS}
 use Rattle.law_world.specs.declared.cell.Cell.{Cell}
 use Rattle.law_world.specs.Lists.{word_at, one}
 use Rattle.law_known.specs.Start.{start_of}
@@ -29,7 +29,7 @@ use Rattle.law_known.proofs.Free_Law.{told_below, told_bit}
 use Rattle.law_known.specs.Items.{IsWord, Shows, ShowsQueue, word_in}
 use Rattle.brc_block.specs.declared.payload.Payload.{Payload}
 use Rattle.law_rule.specs.declared.contents.Contents.{Contents}
-use Rattle.law_rule.specs.Layout.{owners_from, free_from, queues_from, spot, extent}
+use Rattle.law_rule.specs.Layout.{counts_from, queues_from, spot, extent}
 use Rattle.law_rule.specs.Logs.{opening_contents}
 use Rattle.law_rule.specs.Homes.{LiesThere}
 use Rattle.law_rule.specs.Rule.{Kept}
@@ -37,8 +37,8 @@ use Rattle.law_rule.specs.Opening.{first_view, Opens}
 use Rattle.law_rule.proofs.Spots.{inside}
 use Rattle.law_rule.proofs.Opening_Law.{opens}
 use Rattle.brc_table.specs.Shown.{shows}
-use Rattle.brc_table.specs.Opening.{bits_below, opening_free, opening_count, opening_else, opening_word, opening_words}
-use Rattle.brc_table.specs.Opening.{slot_shows, opening_slot, opening_slots}
+use Rattle.brc_table.specs.Opening.{bits_below, opening_free, opening_count, opening_low, opening_high, opening_word}
+use Rattle.brc_table.specs.Opening.{opening_words, slot_shows, opening_slot, opening_slots}
 
 if_so : {A : Type 0} (b : Bool) (x y : A) → b ≡ true → (if b then x else y) ≡ x
 if_so b x y is = ap (λ z. if z then x else y) is
@@ -48,50 +48,34 @@ if_not b x y is = ap (λ z. if z then x else y) is
 
 -- ---- words, by where they lie
 
-pub among_counts : (n at c part : ℕ) → c < n → part < 16 → at ≡ c * 16 + part → opening_word n at ≡ opening_count c part
+before_counts : (n at : ℕ) → at < counts_from → opening_word n at ≡ opening_low n at
+before_counts n at low = if_so (nat_lt at counts_from) (opening_low n at) (opening_high n at) (lt-ltb at counts_from low)
+
+from_counts : (n at : ℕ) → counts_from ≤ at → opening_word n at ≡ opening_high n at
+from_counts n at high = if_not (nat_lt at counts_from) (opening_low n at) (opening_high n at) (le-ltb at counts_from high)
+
+pub among_free : (n k : ℕ) → n ≤ MOST_CELLS → k < free_words_for n → opening_word n k ≡ opening_free n k
+among_free n k few low = before_counts n k (omega (arith, few, low))
+    ∙ if_so (nat_lt k (free_words_for n)) (opening_free n k) 0 (lt-ltb k (free_words_for n) low)
+
+pub between : (n at : ℕ) → free_words_for n ≤ at → at < counts_from → opening_word n at ≡ 0
+between n at past low = before_counts n at low
+    ∙ if_not (nat_lt at (free_words_for n)) (opening_free n at) 0 (le-ltb at (free_words_for n) past)
+
+pub among_counts : (n at c part : ℕ) → c < n → part < 16 → at ≡ counts_from + c * 16 + part
+    → opening_word n at ≡ opening_count c part
 among_counts n at c part low small there =
-    let cell : at / 16 ≡ c = omega (arith, small, there) in
-    let of_it : at % 16 ≡ part = omega (arith, small, there) in
-    ap (λ z. if z then opening_count (at / 16) (at % 16) else opening_else n at)
-    (lt-ltb at (owners_from n) (omega (arith, low, small, there)))
+    let cell : (at - counts_from) / 16 ≡ c = omega (arith, small, there) in
+    let of_it : (at - counts_from) % 16 ≡ part = omega (arith, small, there) in
+    from_counts n at (omega (arith, there))
+    ∙ if_so (nat_lt at (queues_from n)) (opening_count ((at - counts_from) / 16) ((at - counts_from) % 16)) 0
+    (lt-ltb at (queues_from n) (omega (arith, low, small, there)))
     ∙ (λ i. opening_count (cell i) (of_it i))
 
-past_counts : (n at : ℕ) → owners_from n ≤ at → opening_word n at ≡ opening_else n at
-past_counts n at high = ap (λ z. if z then opening_count (at / 16) (at % 16) else opening_else n at)
-    (le-ltb at (owners_from n) high)
-
-pub between : (n at : ℕ) → owners_from n ≤ at → at < free_from n → opening_word n at ≡ 0
-between n at past low =
-    past_counts n at past
-    ∙ ap (λ z. if z then 0 else (if nat_lt at (free_from n + free_words_for n) then opening_free n
-    (at - free_from n) else 0)) (lt-ltb at (free_from n) low)
-
-among_owners : (n at c : ℕ) → c < n → at ≡ owners_from n + c → opening_word n at ≡ 0
-among_owners n at c low there = between n at (omega (arith, there)) (omega (arith, low, there))
-
-past_owners : (n at : ℕ) → free_from n ≤ at
-    → opening_word n at ≡ (if nat_lt at (free_from n + free_words_for n) then opening_free n (at - free_from n) else 0)
-past_owners n at high =
-    past_counts n at (omega (arith, high))
-    ∙ ap (λ z. if z then 0 else (if nat_lt at (free_from n + free_words_for n) then opening_free n
-    (at - free_from n) else 0)) (le-ltb at (free_from n) high)
-
-pub among_free : (n at k : ℕ) → k < free_words_for n → at ≡ free_from n + k → opening_word n at ≡ opening_free n k
-among_free n at k low there =
-    let word : at - free_from n ≡ k = omega (arith, there) in
-    past_owners n at (omega (arith, there))
-    ∙ ap (λ z. if z then opening_free n (at - free_from n) else 0)
-    (lt-ltb at (free_from n + free_words_for n) (omega (arith, low, there)))
-    ∙ ap (opening_free n) word
-
-pub past_words : (n at : ℕ) → free_from n + free_words_for n ≤ at → opening_word n at ≡ 0
-past_words n at high =
-    past_owners n at (omega (arith, high))
-    ∙ ap (λ z. if z then opening_free n (at - free_from n) else 0)
-    (le-ltb at (free_from n + free_words_for n) high)
-
-past_free : (n at : ℕ) → queues_from n ≤ at → opening_word n at ≡ 0
-past_free n at high = past_words n at (omega (arith, high))
+pub past_counts : (n at : ℕ) → queues_from n ≤ at → opening_word n at ≡ 0
+past_counts n at high = from_counts n at (omega (arith, high))
+    ∙ if_not (nat_lt at (queues_from n)) (opening_count ((at - counts_from) / 16) ((at - counts_from) % 16)) 0
+    (le-ltb at (queues_from n) high)
 
 -- ---- the opening world's words
 
@@ -158,25 +142,25 @@ opens_free n limit k enough =
     mask_small : (lo hi : ℕ) → hi ≤ 64 → 2 ^ hi - 2 ^ lo < 2 ^ 64
     mask_small lo hi few = let most : 2 ^ hi ≤ 2 ^ 64 = pow_mono few in omega (arith, most, pow_pos lo)
 
-opens_word : (n limit : ℕ) (w : Word) → FIRST_MORTAL ≤ n → IsWord n w
+opens_word : (n limit : ℕ) (w : Word) → FIRST_MORTAL ≤ n → n ≤ MOST_CELLS → IsWord n w
     → Shows (start_of n limit) w (opening_word n (spot n w))
-opens_word n limit (Of Owner c) enough is = subst (ShowsOwner 1 (cell_at (start_of n limit) c).owner)
-    (sym (among_owners n (spot n (Of Owner c)) c is (omega arith))) (opens_owner n limit c enough)
-opens_word n limit (FreeWord k) enough is = among_free n (spot n (FreeWord k)) k is (omega arith)
-    ∙ opens_free n limit k enough
-opens_word n limit (Of Local c) enough is = among_counts n (spot n (Of Local c)) c 0 is (omega arith) (omega arith)
+opens_word n limit (Of Owner c) enough few is = subst (ShowsOwner 1 (cell_at (start_of n limit) c).owner)
+    (sym (among_counts n (spot n (Of Owner c)) c 10 is (omega arith) refl)) (opens_owner n limit c enough)
+opens_word n limit (FreeWord k) enough few is = among_free n k few is ∙ opens_free n limit k enough
+opens_word n limit (Of Local c) enough few is = among_counts n (spot n (Of Local c)) c 0 is (omega arith) (omega arith)
     ∙ by_cell n limit Local c (opening_count c 0) enough
     (λ low. ap (λ z. if z then IMMORTAL_LOCAL else 0) (lt-ltb c FIRST_MORTAL low))
     (λ high. ap (λ z. if z then IMMORTAL_LOCAL else 0) (le-ltb c FIRST_MORTAL high))
-opens_word n limit (Of Shared c) enough is = among_counts n (spot n (Of Shared c)) c 8 is (omega arith) refl
+opens_word n limit (Of Shared c) enough few is = among_counts n (spot n (Of Shared c)) c 8 is (omega arith) refl
     ∙ by_cell n limit Shared c (2 ^ 42) enough (λ low. refl) (λ high. refl)
-opens_word n limit (Of Mutex c) enough is = among_counts n (spot n (Of Mutex c)) c 9 is (omega arith) refl
+opens_word n limit (Of Mutex c) enough few is = among_counts n (spot n (Of Mutex c)) c 9 is (omega arith) refl
     ∙ by_cell n limit Mutex c 0 enough (λ low. refl) (λ high. refl)
-opens_word n limit (Queue t k) enough is =
+opens_word n limit (Queue t k) enough few is =
     subst (λ b. ShowsQueue b (is_closed (row_at (start_of n limit) t).stage k) (word_at (queue_at (start_of n limit) t) k)
     (opening_word n (spot n (Queue t k)))) (sym (none_registered n limit t))
-    (past_free n (spot n (Queue t k)) (omega arith))
-opens_word n limit (NotifyWord t) enough is = past_free n (spot n (NotifyWord t)) (omega arith) ∙ sym (lone t)
+    (past_counts n (spot n (Queue t k)) (omega arith))
+opens_word n limit (NotifyWord t) enough few is =
+    between n (spot n (NotifyWord t)) (omega (arith, few)) (omega (arith, is)) ∙ sym (lone t)
 
 -- ---- lists
 
@@ -257,7 +241,7 @@ module _ {A : Type 0} where
     wide = length-opening_words n (extent n);
     deep = deep_of n slots made;
     each_word = λ w is. subst (Shows (start_of n limit) w) (sym (read_word n (extent n) (spot n w) (inside n w is)))
-        (opens_word n limit w (omega (arith, options.enough)) is);
+        (opens_word n limit w (omega (arith, options.enough)) options.few_enough is);
     immortals = λ c fixed.
         let low : c < n = omega (arith, fixed, options.enough) in
         let t = slot_there slots c (subst (λ m. c < m) (sym (deep_of n slots made)) low) in

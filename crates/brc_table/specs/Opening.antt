@@ -5,7 +5,7 @@ use Rattle.brc_words.specs.declared.limits.TheConstants.{FIRST_MORTAL, IMMORTAL_
 use Rattle.brc_block.specs.declared.payload.Payload.{Payload}
 use Rattle.law_rule.specs.declared.contents.Contents.{Contents}
 use Rattle.law_known.specs.Free_Words.{free_words_for}
-use Rattle.law_rule.specs.Layout.{owners_from, free_from}
+use Rattle.law_rule.specs.Layout.{counts_from, queues_from}
 use Rattle.law_rule.specs.Logs.{opening_contents}
 use Rattle.brc_table.specs.Shown.{shows}
 
@@ -18,20 +18,23 @@ bits_below c k = min 64 (c - k * 64)
 abbrev pub opening_free : ℕ → ℕ → ℕ
 opening_free n k = 2 ^ bits_below n k - 2 ^ bits_below FIRST_MORTAL k
 
--- a local word opens as it is for immortals, and 0 else; a shared word with the count 0; and no mutex is locked
+-- a local word opens as it is for immortals, and 0 else; a shared word with the count 0; no mutex is locked, and nobody
+-- is an owner
 abbrev pub opening_count : ℕ → ℕ → ℕ
 opening_count c part = if part == 0 then (if nat_lt c FIRST_MORTAL then IMMORTAL_LOCAL else 0)
     else (if part == 8 then 2 ^ 42 else 0)
 
--- the word at a spot after the counts: owner words are 0, nothing is queued, and nobody is told anything
-abbrev pub opening_else : ℕ → ℕ → ℕ
-opening_else n at = if nat_lt at
-    (free_from n) then 0 else (if nat_lt at (free_from n + free_words_for n) then opening_free n
-    (at - free_from n) else 0)
+-- the word at a spot before the counts: behind the free words nobody is told anything
+abbrev pub opening_low : ℕ → ℕ → ℕ
+opening_low n at = if nat_lt at (free_words_for n) then opening_free n at else 0
+
+-- the word at a spot from the counts on: behind these nothing is queued
+abbrev pub opening_high : ℕ → ℕ → ℕ
+opening_high n at = if nat_lt at (queues_from n) then opening_count ((at - counts_from) / 16) ((at - counts_from) % 16) else 0
 
 -- the word at a spot
 abbrev pub opening_word : ℕ → ℕ → ℕ
-opening_word n at = if nat_lt at (owners_from n) then opening_count (at / 16) (at % 16) else opening_else n at
+opening_word n at = if nat_lt at counts_from then opening_low n at else opening_high n at
 
 -- so many of the words, from the first on
 abbrev pub opening_words : ℕ → ℕ → List ℕ

@@ -11,7 +11,7 @@ ghost use Rattle.brc_table.specs.Opening.{bits_below, opening_free, opening_coun
 ghost use Rattle.brc_table.specs.Opening.{slot_shows, opening_slot, opening_slots};
 ghost use Rattle.brc_table.specs.Shown.{contents_of};
 
-use crate::layout::{bit, extent, free_from, free_words_for as free_words};
+use crate::layout::{COUNTS_FROM, bit, extent, free_words_for as free_words};
 use brc_block::{Block, Pairs, Payload};
 use brc_words::{
     FEWEST_CELLS, FIRST_MORTAL, Fault, GLOBALS, IMMORTAL_LOCAL, MOST_CELLS, MOST_LOCAL,
@@ -62,7 +62,7 @@ fn opening_local(cell: u32) -> u64
     }
 }
 
-#[tactic(auto, using(crate::proofs::Laying::nothing_laid, crate::proofs::Laying::one_cell_more, crate::proofs::Laying::all_cells, crate::proofs::Laying::one_word_more, crate::proofs::Laying::all_laid, crate::proofs::Laying::cell_inside, crate::proofs::Laying::free_inside))]
+#[tactic(auto, using(crate::proofs::Laying::nothing_laid, crate::proofs::Laying::one_word_more, crate::proofs::Laying::all_free, crate::proofs::Laying::one_cell_more, crate::proofs::Laying::all_laid, crate::proofs::Laying::cell_inside, crate::proofs::Laying::free_inside))]
 /// All words. Most are 0, so they are filled at once; what isn't 0 is stored after that.
 pub(crate) fn opening_words<A: Allocator>(alloc: A, cells: u32) -> Result<Vec<u64, A>, AllocError>
     requires few { cells ≤ MOST_CELLS }
@@ -71,14 +71,13 @@ pub(crate) fn opening_words<A: Allocator>(alloc: A, cells: u32) -> Result<Vec<u6
 {
     let mut made = Vec::new(alloc);
     made.resize(extent(cells), 0)?;
+    for word in 0..free_words(cells) {
+        made[word as usize] = opening_free(cells, word);
+    }
     for cell in 0..cells {
-        let counts = cell as usize * 16;
+        let counts = COUNTS_FROM + cell as usize * 16;
         made[counts] = opening_local(cell);
         made[counts + 8] = 1 << 42;
-    }
-    let free = free_from(cells);
-    for word in 0..free_words(cells) {
-        made[free + word as usize] = opening_free(cells, word);
     }
     Ok(made)
 }

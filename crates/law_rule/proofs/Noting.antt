@@ -1,7 +1,7 @@
 -- What a note tells of its cell, and what its thread's part says of hand and popped bits.
-use Rattle.std.proofs.Common.{◌≡◌, ◌≢◌, ◌⊎◌, ℕ, ◌%◌, ◌||◌, true, false, ℤ, List, length, refl, sym, ◌∙◌, ap, inl, inr}
+use Rattle.std.proofs.Common.{◌≡◌, ◌≢◌, ◌⊎◌, ℕ, ◌%◌, ◌||◌, true, ℤ, List, length, refl, ◌∙◌, ap, inl, inr}
 use Rattle.std.proofs.Common.{arith}
-use Rattle.std.proofs.lemmas.Bool.{and_parts, or_cases, eq-eqb, true≢false}
+use Rattle.std.proofs.lemmas.Bool.{and_parts, or_cases, eq-eqb}
 use Rattle.std.specs.Cmp.Derive.{both_true}
 use Rattle.brc_words.specs.declared.owner.Owner.{Owner}
 use Rattle.brc_words.specs.declared.owner.Owner.TheVariants as owners
@@ -30,12 +30,10 @@ use Rattle.law_lasting.proofs.Lasting.{held_live, has_held}
 use Rattle.law_lasting.proofs.Telling.{hand_tells}
 use Rattle.law_known.specs.declared.word.Field.TheVariants.{Owner as OwnerWord}
 use Rattle.law_known.specs.declared.word.Word.TheVariants.{Of}
-use Rattle.law_known.specs.Items.{Part, Shows, shared_word, events_of}
-use Rattle.law_known.proofs.Items_Runs.{events_run}
+use Rattle.law_known.specs.Items.{Part, Shows, shared_word}
 use Rattle.law_known.proofs.Free_Law.{live_shown}
 use Rattle.law_rule.specs.declared.told.Told.{Told}
 use Rattle.law_rule.specs.Seen.{part_seen, own_may}
-use Rattle.law_rule.specs.Logs.{items_of}
 use Rattle.law_rule.proofs.Knowing.{Known}
 
 -- ---- numbers

@@ -120,7 +120,7 @@ module _ {B : Type 0} (shows : B → ℕ × Contents) (n limit : ℕ) where
           (get_or (set st.words (spot n w) written) (spot n u) 0)
       word_shown st r t s w u written number moved did may there = elim (cases_eq (spot n u) (spot n w)) [
         | inl same ↦
-            let is : u ≡ w = apart n u w there did.is_word same in
+            let is : u ≡ w = apart n u w r.options.few_enough there did.is_word same in
             subst (λ z. Shows (moved_on (world n limit r.run) t s) z
             (get_or (set st.words (spot n w) written) (spot n z) 0)) (sym is)
             (subst (Shows (moved_on (world n limit r.run) t s) w)

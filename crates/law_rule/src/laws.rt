@@ -5,7 +5,7 @@ ghost use Rattle.std.specs.Prelude.{◌≡◌, ℕ, ◌<◌, ◌≤◌, List, �
 ghost use mathlib.Core.Option.{some};
 ghost use lib.ListN.{get_elem?};
 ghost use Rattle.atomic_table.specs.Table.{State, Allows, opening as opens_with};
-ghost use Rattle.brc_words.specs.declared.limits.TheConstants.{MOST_THREADS};
+ghost use Rattle.brc_words.specs.declared.limits.TheConstants.{MOST_CELLS, MOST_THREADS};
 ghost use Rattle.law_world.specs.declared.event.Step.{Step as step};
 ghost use Rattle.law_world.specs.declared.event.Step.TheVariants as steps;
 ghost use Rattle.law_world.specs.declared.event.Change.{Change as change};
@@ -32,7 +32,7 @@ ghost use Rattle.law_rule.specs.Opening.{first_view, Opens};
 /// Each word of the table has a spot of its own.
 pub fn words_lie_apart()
     ensures inside { (n : ℕ) (w : word) → IsWord n w → spot n w < extent n }
-    ensures apart { (n : ℕ) (w v : word) → IsWord n w → IsWord n v → spot n w ≡ spot n v → w ≡ v }
+    ensures apart { (n : ℕ) (w v : word) → n ≤ MOST_CELLS → IsWord n w → IsWord n v → spot n w ≡ spot n v → w ≡ v }
 {}
 
 /// A table whose words show the opening world, with a block for each immortal and no other, keeps the rule.
