@@ -1,8 +1,10 @@
 //! Cells by their keys, in the order in which the keys came.
 
 ghost use Rattle.std.specs.Prelude.{◌≡◌, ◌≢◌, ◌+◌, ◌<◌, ◌≤◌, ◌++◌, [], ◌∷◌, length, take, All, Some, OnOk, OnErr};
-ghost use Rattle.std.specs.Prelude.{IfSome, IfNone, slice_get, slice_set, remove};
+ghost use Rattle.std.specs.Prelude.{IfSome, IfNone, is_some, position, slice_get, slice_set, remove};
+ghost use Rattle.std.specs.Map.{lookup};
 ghost use Rattle.std.specs.Option.{option_to_list};
+ghost use Rattle.brc_words.specs.Keys.{same_key};
 ghost use Rattle.brc_block.specs.Pairs.{keys_in, cells_in};
 
 use brc_words::Key;
@@ -71,15 +73,27 @@ impl<A: Allocator> KeyMap<A> {
             (λ index. All (λ other. other ≢ key.now) (take index (keys_in self.now.items))) }
         ensures none { IfNone result (All (λ other. other ≢ key.now) (keys_in self.now.items)) }
     {
+        self.index_of(key)
+    }
+
+    /// The same, as the first place of the key. A number is compared as one: its hash and its comparison fold.
+    #[inline(always)]
+    fn index_of(&self, key: &Key<A>) -> Option<usize>
+        ensures first { result ≡ position (same_key key.now) (keys_in self.now.items) }
+        ensures there { is_some result ≡ is_some (lookup (same_key key.now) self.now.items) }
+    {
         match key {
             Key::Int(number) => self.map.get_index_of(&Key::Int(*number)),
-            Key::Text(_) => self.find_text(key),
+            Key::Text(_) => self.index_of_text(key),
         }
     }
 
-    /// The index of a text.
+    /// The same of a text, out of the way of numbers.
     #[inline(never)]
-    fn find_text(&self, key: &Key<A>) -> Option<usize> {
+    fn index_of_text(&self, key: &Key<A>) -> Option<usize>
+        ensures first { result ≡ position (same_key key.now) (keys_in self.now.items) }
+        ensures there { is_some result ≡ is_some (lookup (same_key key.now) self.now.items) }
+    {
         self.map.get_index_of(key)
     }
 

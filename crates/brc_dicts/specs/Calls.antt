@@ -11,9 +11,10 @@ use Rattle.brc_dicts.specs.Plain.{plain_find, plain_del, plain_key_at, plain_val
 use Rattle.brc_dicts.specs.Putting.{HasPut, RefusedPut}
 
 module _ {A : Type 0} where
-  -- the value goes beside the key, and the old one comes out
-  abbrev pub DictPut : FrameSeen A → FrameSeen A → ℕ → Key A → HandleSeen
-      → Result (Option HandleSeen) (Handed (Key A × HandleSeen)) → Type 0
+  -- The value goes beside the key, and the old one comes out. A refusal hands back what the call took: the key and the
+  -- value, or the value alone where the key is lent.
+  abbrev pub DictPut : {V : Type 0} → FrameSeen A → FrameSeen A → ℕ → Key A → HandleSeen
+      → Result (Option HandleSeen) (Handed V) → Type 0
   DictPut old new k key value result = TakesIn old new (HasPut old new k key value)
       (RefusedPut old new k key value) result
 

@@ -38,7 +38,7 @@ fn pair_in<A: Allocator>(payload: &Payload<A>, index: usize) -> Result<(&Key<A>,
 }
 
 /// The same key once more; None where memory for its text is missing.
-fn copy_of_key<A: Allocator>(alloc: A, key: &Key<A>) -> Option<Key<A>>
+pub(crate) fn copy_of_key<A: Allocator>(alloc: A, key: &Key<A>) -> Option<Key<A>>
     ensures { IfSome result (λ copy. copy ≡ key.now) }
 {
     match key {

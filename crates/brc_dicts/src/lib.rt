@@ -13,5 +13,5 @@ mod seeking;
 mod values;
 
 pub use indexing::{dict_key, dict_pair, try_dict_key, try_dict_pair};
-pub use putting::{dict_put, try_dict_put};
+pub use putting::{dict_put, dict_set, try_dict_put, try_dict_set};
 pub use values::{dict_del, dict_find, try_dict_del, try_dict_find};

@@ -15,6 +15,7 @@ ghost use Rattle.brc_dicts.specs.Putting.{RefusedRoom, HasPut, OwnsPut, RefusedP
 ghost use Rattle.brc_dicts.specs.Seeking.{IsThere, IsAbsent};
 ghost use Rattle.brc_dicts.specs.Since.{Since};
 
+use crate::indexing::copy_of_key;
 use crate::seeking::{Sought, seek};
 use brc_biased::Home;
 use brc_block::{Block, Payload};
@@ -90,7 +91,7 @@ fn append_locked<H: Home<A>, A: Allocator + Copy>(
 fn replace_locked<H: Home<A>, A: Allocator>(
     frame: &mut Frame<H, A>,
     mut block: Block<A>,
-    key: Key<A>,
+    key: &Key<A>,
     value: Handle<A>,
     index: usize,
     entry: u32,
@@ -100,11 +101,11 @@ fn replace_locked<H: Home<A>, A: Allocator>(
     requires found { contents_found frame.old ≡ contents_of block.1 }
     requires value_owned { Owns frame.old value }
     requires apart { place_locked frame.old ≢ Some value.place }
-    requires there { IsThere block.1 key index entry }
+    requires there { IsThere block.1 key.now index entry }
     ensures thread { KeepsThread frame.old frame.new }
     ensures unlocked { IsUnlocked frame.new }
     ensures put { Since frame.old block
-        (λ before k. HasPut before frame.new k key value (Some result)) }
+        (λ before k. HasPut before frame.new k key.now value (Some result)) }
     ensures owns { OwnsPut frame.old frame.new value (Some result) }
 {
     let place = index as u32;
@@ -113,10 +114,7 @@ fn replace_locked<H: Home<A>, A: Allocator>(
         Payload::Dict(pairs) => pairs.set(index, cell),
         _ => unreachable!(),
     }
-    let old = frame.end_swap(block, place, entry, value);
-    // The key's memory goes once the lock is free.
-    drop(key);
-    old
+    frame.end_swap(block, place, entry, value)
 }
 
 /// A put into the dictionary that is locked, and its unlocking.
@@ -145,7 +143,9 @@ fn put_locked<H: Home<A>, A: Allocator + Copy>(
 {
     match seek(block.payload(), &key) {
         Sought::There { index, cell } => {
-            let old = replace_locked(frame, block, key, value, index, cell);
+            let old = replace_locked(frame, block, &key, value, index, cell);
+            // The key's memory goes once the lock is free.
+            drop(key);
             Ok(Some(old))
         }
         Sought::Absent => append_locked(frame, block, key, value),
@@ -154,6 +154,104 @@ fn put_locked<H: Home<A>, A: Allocator + Copy>(
             Err(Handed {
                 fault: Fault::WrongKind,
                 back: (key, value),
+            })
+        }
+    }
+}
+
+/// A copy of a key that goes into a dictionary: Full where that has as many pairs as it may, then OutOfMemory.
+fn copy_for<A: Allocator>(alloc: A, payload: &Payload<A>, key: &Key<A>) -> Result<Key<A>, Fault>
+    ensures copy { IfOk result (λ copy. copy ≡ key.now) }
+    ensures refused { IfErr result (RefusedRoom (length (entries_of payload.now))) }
+{
+    if payload.len() >= MOST_ENTRIES as usize {
+        return Err(Fault::Full);
+    }
+    match copy_of_key(alloc, key) {
+        Some(copy) => Ok(copy),
+        None => Err(Fault::OutOfMemory),
+    }
+}
+
+/// A copy of the key, which is new, goes into the dictionary that is locked, at the end, with the value.
+#[inline(never)]
+fn append_copy<H: Home<A>, A: Allocator + Copy>(
+    alloc: A,
+    frame: &mut Frame<H, A>,
+    block: Block<A>,
+    key: &Key<A>,
+    value: Handle<A>,
+) -> Result<Option<Handle<A>>, Handed<Handle<A>>>
+    requires locked { IsLocked frame.old }
+    requires of_cell { cell_locked frame.old ≡ Some block.0 }
+    requires found { contents_found frame.old ≡ contents_of block.1 }
+    requires value_owned { Owns frame.old value }
+    requires apart { place_locked frame.old ≢ Some value.place }
+    requires absent { IsAbsent block.1 key.now }
+    ensures thread { KeepsThread frame.old frame.new }
+    ensures unlocked { IsUnlocked frame.new }
+    ensures put { IfOk result (λ answer. Since frame.old block
+        (λ before k. HasPut before frame.new k key.now value answer)) }
+    ensures owns { IfOk result (OwnsPut frame.old frame.new value) }
+    ensures back { IfErr result (λ handed. handed.back ≡ value) }
+    ensures frame { IfErr result (λ handed. KeepsFrame frame.old frame.new) }
+    ensures refused { IfErr result (λ handed. Since frame.old block
+        (λ before k. RefusedPut before frame.new k key.now value handed.fault)) }
+    ensures waits { IfErr result (λ handed. handed.fault ≢ faults.Busy) }
+{
+    match copy_for(alloc, block.payload(), key) {
+        Ok(copy) => match append_locked(frame, block, copy, value) {
+            Ok(answer) => Ok(answer),
+            Err(
+                Handed {
+                    fault,
+                    back: (_copy, back),
+                },
+            ) => Err(Handed { fault, back }),
+        },
+        Err(fault) => {
+            frame.end_keep(block);
+            Err(Handed { fault, back: value })
+        }
+    }
+}
+
+/// A put by a key that is lent, into the dictionary that is locked, and its unlocking.
+#[inline(always)]
+fn set_locked<H: Home<A>, A: Allocator + Copy>(
+    alloc: A,
+    frame: &mut Frame<H, A>,
+    block: Block<A>,
+    key: &Key<A>,
+    value: Handle<A>,
+) -> Result<Option<Handle<A>>, Handed<Handle<A>>>
+    requires locked { IsLocked frame.old }
+    requires of_cell { cell_locked frame.old ≡ Some block.0 }
+    requires found { contents_found frame.old ≡ contents_of block.1 }
+    requires value_owned { Owns frame.old value }
+    requires apart { place_locked frame.old ≢ Some value.place }
+    ensures thread { KeepsThread frame.old frame.new }
+    ensures unlocked { IsUnlocked frame.new }
+    ensures put { IfOk result (λ answer. Since frame.old block
+        (λ before k. HasPut before frame.new k key.now value answer)) }
+    ensures owns { IfOk result (OwnsPut frame.old frame.new value) }
+    ensures back { IfErr result (λ handed. handed.back ≡ value) }
+    ensures frame { IfErr result (λ handed. KeepsFrame frame.old frame.new) }
+    ensures refused { IfErr result (λ handed. Since frame.old block
+        (λ before k. RefusedPut before frame.new k key.now value handed.fault)) }
+    ensures waits { IfErr result (λ handed. handed.fault ≢ faults.Busy) }
+{
+    match seek(block.payload(), key) {
+        Sought::There { index, cell } => {
+            let old = replace_locked(frame, block, key, value, index, cell);
+            Ok(Some(old))
+        }
+        Sought::Absent => append_copy(alloc, frame, block, key, value),
+        Sought::WrongKind => {
+            frame.end_keep(block);
+            Err(Handed {
+                fault: Fault::WrongKind,
+                back: value,
             })
         }
     }
@@ -212,4 +310,60 @@ pub fn dict_put<H: Home<A>, A: Allocator + Copy>(
 {
     let block = begin_late(rt, frame, dict);
     put_locked(frame, block, key, value)
+}
+
+/// Puts the value beside the key, which is lent: as `try_dict_put` does, but that it copies the key, and only where it is
+/// new. Busy where another thread has the dictionary locked, then WrongKind where the object is no dictionary, Full where
+/// a new key is the 1,048,577th, and OutOfMemory for a new key or its copy; a refusal hands the value back.
+#[inline(always)]
+pub fn try_dict_set<H: Home<A>, A: Allocator + Copy>(
+    alloc: A,
+    frame: &mut Frame<H, A>,
+    dict: &Handle<A>,
+    key: &Key<A>,
+    value: Handle<A>,
+) -> Result<Option<Handle<A>>, Handed<Handle<A>>>
+    requires owned { Owns frame.old dict.now }
+    requires value_owned { Owns frame.old value }
+    requires apart { value.place ≢ dict.now.place }
+    requires unlocked { IsUnlocked frame.old }
+    ensures put { DictPut frame.old frame.new dict.now.place key.now value result }
+    ensures owns { IfOk result (OwnsPut frame.old frame.new value) }
+    ensures keeps { OnErr result (Keeps frame.old frame.new) }
+    ensures unlocked { IsUnlocked frame.new }
+    ensures back { IfErr result (λ handed. handed.back ≡ value) }
+{
+    let Some(block) = frame.begin(dict) else {
+        return Err(Handed {
+            fault: Fault::Busy,
+            back: value,
+        });
+    };
+    set_locked(alloc, frame, block, key, value)
+}
+
+/// Puts the value beside the key, as `try_dict_set` does; WrongKind, Full and OutOfMemory as there. It waits while
+/// another thread has the dictionary locked.
+#[inline(always)]
+pub fn dict_set<H: Home<A>, A: Allocator + Copy>(
+    rt: &impl Wait,
+    alloc: A,
+    frame: &mut Frame<H, A>,
+    dict: &Handle<A>,
+    key: &Key<A>,
+    value: Handle<A>,
+) -> Result<Option<Handle<A>>, Handed<Handle<A>>>
+    requires owned { Owns frame.old dict.now }
+    requires value_owned { Owns frame.old value }
+    requires apart { value.place ≢ dict.now.place }
+    requires unlocked { IsUnlocked frame.old }
+    ensures put { Late frame.old dict.now.place (λ mid. DictPut mid frame.new dict.now.place key.now value result) }
+    ensures owns { IfOk result (OwnsPut frame.old frame.new value) }
+    ensures keeps { OnErr result (Keeps frame.old frame.new) }
+    ensures unlocked { IsUnlocked frame.new }
+    ensures back { IfErr result (λ handed. handed.back ≡ value) }
+    ensures waited { IfErr result (λ handed. handed.fault ≢ faults.Busy) }
+{
+    let block = begin_late(rt, frame, dict);
+    set_locked(alloc, frame, block, key, value)
 }

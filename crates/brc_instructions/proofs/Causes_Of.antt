@@ -200,8 +200,8 @@ module _ {A : Type 0} where
       (λ mid. SwapsValue mid new k value.place call (Err handed)) owns late in
       call_room late.0 new k (call at.0) handed.fault (needs at.0) (late.2.refused at.0 at.1)
 
-  pub pair_put_room : (old new : FrameSeen A) (k : ℕ) (key : Key A) (value : HandleSeen)
-      (handed : Handed (Key A × HandleSeen)) → ((c : ℕ) → NeedsNoRoom (plain_put key c)) → Owns old value
+  pub pair_put_room : {V : Type 0} (old new : FrameSeen A) (k : ℕ) (key : Key A) (value : HandleSeen)
+      (handed : Handed V) → ((c : ℕ) → NeedsNoRoom (plain_put key c)) → Owns old value
       → Late old k (λ mid. DictPut mid new k key value (Err handed))
       → WantsNoRoom handed.fault
   pair_put_room old new k key value handed needs owns late =

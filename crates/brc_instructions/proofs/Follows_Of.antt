@@ -174,16 +174,16 @@ module _ {A : Type 0} where
   later_refused_pair old new k call faults.OutOfMemory why = later_changes why.looks
   later_refused_pair old new k call fault why = later_changes why.looks
 
-  later_pair_put : (old new : FrameSeen A) (k : ℕ) (key : Key A) (value : HandleSeen) (c : ℕ)
-      (result : Result (Option HandleSeen) (Handed (Key A × HandleSeen))) → cell_in old value.place ≡ Some c
+  later_pair_put : {V : Type 0} (old new : FrameSeen A) (k : ℕ) (key : Key A) (value : HandleSeen) (c : ℕ)
+      (result : Result (Option HandleSeen) (Handed V)) → cell_in old value.place ≡ Some c
       → DictPut old new k key value result → IsLater old.seat.log new.seat.log
   later_pair_put old new k key value c (Ok None) at is = later_changes is.did.changes
   later_pair_put old new k key value c (Ok (Some given)) at is = later_changes is.did.1.changes
   later_pair_put old new k key value c (Err handed) at is =
       later_refused_pair old new k (plain_put key c) handed.fault (is.refused c at)
 
-  pub late_pair_put : (old new : FrameSeen A) (k : ℕ) (key : Key A) (value : HandleSeen)
-      (result : Result (Option HandleSeen) (Handed (Key A × HandleSeen))) → Owns old value
+  pub late_pair_put : {V : Type 0} (old new : FrameSeen A) (k : ℕ) (key : Key A) (value : HandleSeen)
+      (result : Result (Option HandleSeen) (Handed V)) → Owns old value
       → Late old k (λ mid. DictPut mid new k key value result) → IsLater old.seat.log new.seat.log
   late_pair_put old new k key value result owns late =
       let at : (c : ℕ) × (cell_in late.0 value.place ≡ Some c) = cell_still old k value

@@ -12,11 +12,10 @@ ghost use Rattle.brc_instructions.specs.Calls.{taken_by};
 ghost use Rattle.brc_instructions.specs.Causes.{WantsNoRoom};
 ghost use Rattle.brc_instructions.specs.Registers.{Stands, Besides};
 
-use crate::making::copy_key;
 use crate::registers::Registers;
 use brc_biased::Home;
 use brc_count::{Frame, Handed, Handle};
-use brc_heap::{dict_put, list_push, list_set, send};
+use brc_heap::{dict_set, list_push, list_set, send};
 use brc_script::Register;
 use brc_words::{Fault, Key};
 use std::alloc::Allocator;
@@ -78,20 +77,9 @@ pub(crate) fn taken<R: Wait, H: Home<A>, A: Allocator + Copy>(
             Ok(()) => Ok(None),
             Err(handed) => Err(handed),
         },
-        Taking::Put(key) => {
-            let key = match copy_key(alloc, *key) {
-                Ok(key) => key,
-                Err(fault) => return Err(Handed { fault, back: given }),
-            };
-            match dict_put(rt, frame, object, key, given) {
-                Ok(old) => Ok(old),
-                Err(
-                    Handed {
-                        fault,
-                        back: (_key, back),
-                    },
-                ) => Err(Handed { fault, back }),
-            }
-        }
+        Taking::Put(key) => match dict_set(rt, alloc, frame, object, *key, given) {
+            Ok(old) => Ok(old),
+            Err(handed) => Err(handed),
+        },
     }
 }

@@ -84,7 +84,7 @@ module _ {A : Type 0} (base : ℕ) (old new : FrameSeen A) (registers : List (Op
         (λ part here object each. object_kept (IsMeant part) (calls.Set index reference) object here each)
         (plain_set index) (set_matches means.cells index reference) result late same busy
 
-    pub put_means : (key : Key A) (result : Result (Option HandleSeen) (Handed (Key A × HandleSeen)))
+    pub put_means : {V : Type 0} (key : Key A) (result : Result (Option HandleSeen) (Handed V))
         → Late old h.place (λ mid. DictPut mid new h.place key value result)
         → IfErr result (λ handed. handed.fault ≢ faults.Busy)
         → PutsMeant (keyed_call key (keyed.Put reference)) container base new registers s value reference result

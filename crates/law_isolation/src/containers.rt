@@ -56,7 +56,7 @@ pub fn calls_put_in_what_is_meant<A>()
         → OwnLog new.heap.cells new.seat.log → (container : ℕ) (h : handle)
         → slot registers container ≡ Some h → (value : handle) (r : reference)
         → MeansBesides base old registers s value r → IsApart value registers
-        → (at : key A) (result : Result (Option handle) (handed (key A × handle)))
+        → (V : Type 0) (at : key A) (result : Result (Option handle) (handed V))
         → Late old h.place (λ mid. DictPut mid new h.place at value result)
         → IfErr result (λ back. back.fault ≢ faults.Busy)
         → PutsMeant (keyed_call at (keyed.Put r)) container base new registers s value r result }

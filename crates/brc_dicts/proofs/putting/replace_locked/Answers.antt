@@ -12,20 +12,20 @@ pub overflow_cast-place : goal.overflow_cast-place
 overflow_cast-place g c =
     omega (
       arith,
-      entry_within c.args.block.1 c.args.key c.args.index c.args.entry c.requires.there,
+      entry_within c.args.block.1 c.args.key.now c.args.index c.args.entry c.requires.there,
       few_entries c.args.frame.now c.args.block.1 c.requires.locked c.requires.found,
     )
 
 pub set-requires : goal.set-requires
 set-requires g c =
-    let there = subst (λ p. IsThere p c.args.key c.args.index c.args.entry) (sym c.payload_mut.ensures.value)
+    let there = subst (λ p. IsThere p c.args.key.now c.args.index c.args.entry) (sym c.payload_mut.ensures.value)
     c.requires.there in
-    record { within = entry_within c.payload_mut.result.now c.args.key c.args.index c.args.entry there }
+    record { within = entry_within c.payload_mut.result.now c.args.key.now c.args.index c.args.entry there }
 
 pub end_swap-old-requires-clause-entry : goal.end_swap-old-requires-clause-entry
 end_swap-old-requires-clause-entry g c =
     entry_found c.args.frame.now c.args.block.1 c.args.index c.args.entry c.requires.found
-    (entry_there c.args.block.1 c.args.key c.args.index c.args.entry c.requires.there)
+    (entry_there c.args.block.1 c.args.key.now c.args.index c.args.entry c.requires.there)
 
 pub end_swap-old-requires-clause-entries : goal.end_swap-old-requires-clause-entries
 end_swap-old-requires-clause-entries g c = λ value at.
@@ -44,11 +44,11 @@ returns-clause-put g c = λ before k since.
     let there = c.requires.there in (
       c.end_swap-old.ensures.same,
       swaps_since before c.args.frame.now c.end_swap-old.new.self k c.args.value.place c.args.block c.set.new.self
-          (plain_put c.args.key) Some
+          (plain_put c.args.key.now) Some
           c.cell-cell.result c.args.index c.args.entry
           (stood before c.args.frame.now k c.args.block since) c.end_swap-old.ensures.ended c.cell-cell.ensures.cell
-          (entry_there c.args.block.1 c.args.key c.args.index c.args.entry there)
-          (put_there c.args.key c.cell-cell.result c.args.block.1 c.set.new.self c.args.index c.args.entry there
+          (entry_there c.args.block.1 c.args.key.now c.args.index c.args.entry there)
+          (put_there c.args.key.now c.cell-cell.result c.args.block.1 c.set.new.self c.args.index c.args.entry there
           (c.set.ensures.kind ∙ ap kind_of lent) (c.set.ensures.keys ∙ ap keys_of lent)
           (c.set.ensures.set ∙ ap (λ p. slice_set (entries_of p) c.args.index c.cell-cell.result) lent))
           c.end_swap-old.ensures.places c.end_swap-old.ensures.len,

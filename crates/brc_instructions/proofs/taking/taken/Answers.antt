@@ -1,9 +1,6 @@
-use Rattle.std.proofs.Common.{Some, None, Ok, Err, sym, subst}
-use Rattle.brc_words.specs.declared.key.Key.{Key}
+use Rattle.std.proofs.Common.{Some, None, Ok, Err, sym}
 use Rattle.brc_count.specs.Frames.{HandleSeen}
-use Rattle.brc_containers.specs.Called.{Late}
 use Rattle.brc_lists.specs.Plain.{plain_push, plain_set, plain_send}
-use Rattle.brc_dicts.specs.Calls.{DictPut}
 use Rattle.brc_meaning.specs.declared.call.Call.TheVariants as calls
 use Rattle.brc_meaning.specs.declared.call.KeyedCall.TheVariants as keyed
 use Rattle.brc_meaning.specs.Objects.{object_call, keyed_call}
@@ -113,44 +110,38 @@ returns-in-Err-send-clause-asked g c base s reference own means =
     c.args.given reference means c.requires.besides.apart (Err c.in-Err-send.handed) c.in-Err-send.ensures.sent
     c.in-Err-send.ensures.waited))
 
-pub returns-in-Ok-dict_put-clause-later : goal.returns-in-Ok-dict_put-clause-later
-returns-in-Ok-dict_put-clause-later g c =
-    late_pair_put c.args.frame.now c.dict_put.new.frame c.in-Some.object.now.place c.in-Ok-copy_key.key c.args.given
-    c.dict_put.result c.requires.besides.owned c.dict_put.ensures.put
+pub returns-in-Ok-dict_set-clause-later : goal.returns-in-Ok-dict_set-clause-later
+returns-in-Ok-dict_set-clause-later g c =
+    late_pair_put c.args.frame.now c.dict_set.new.frame c.in-Some.object.now.place c.in-Put.key.now c.args.given
+    c.dict_set.result c.requires.besides.owned c.dict_set.ensures.put
 
-pub returns-in-Ok-dict_put-clause-asked : goal.returns-in-Ok-dict_put-clause-asked
-returns-in-Ok-dict_put-clause-asked g c base s reference own means =
-    let new = c.dict_put.new.frame in
-    let result = Ok c.in-Ok-dict_put.old in
-    let late = subst (λ (key : Key g.row.A.Denot). Late c.args.frame.now c.in-Some.object.now.place
-    (λ mid. DictPut mid new c.in-Some.object.now.place key c.args.given result))
-    c.in-Ok-copy_key.ensures.copied c.in-Ok-dict_put.ensures.put in
-    put_as {V = Key g.row.A.Denot × HandleSeen} c.args.container base new c.args.registers.now s
+pub returns-in-Ok-dict_set-clause-asked : goal.returns-in-Ok-dict_set-clause-asked
+returns-in-Ok-dict_set-clause-asked g c base s reference own means =
+    let new = c.dict_set.new.frame in
+    let result = Ok c.in-Ok-dict_set.old in
+    put_as {V = HandleSeen} c.args.container base new c.args.registers.now s
     c.args.given reference result c.in-Put.is
     (puts_asked (keyed_call c.in-Put.key.now (keyed.Put reference)) c.args.container base new c.args.registers.now s
     c.args.given reference result
     (put_means base c.args.frame.now new c.args.registers.now s own c.args.container c.in-Some.object.now
     (sym c.in-Some.ensures)
-    c.args.given reference means c.requires.besides.apart c.in-Put.key.now result late
-    c.in-Ok-dict_put.ensures.waited))
+    c.args.given reference means c.requires.besides.apart c.in-Put.key.now result c.in-Ok-dict_set.ensures.put
+    c.in-Ok-dict_set.ensures.waited))
 
-pub returns-in-Err-dict_put-clause-later : goal.returns-in-Err-dict_put-clause-later
-returns-in-Err-dict_put-clause-later g c =
-    late_pair_put c.args.frame.now c.dict_put.new.frame c.in-Some.object.now.place c.in-Ok-copy_key.key c.args.given
-    c.dict_put.result c.requires.besides.owned c.dict_put.ensures.put
+pub returns-in-Err-dict_set-clause-later : goal.returns-in-Err-dict_set-clause-later
+returns-in-Err-dict_set-clause-later g c =
+    late_pair_put c.args.frame.now c.dict_set.new.frame c.in-Some.object.now.place c.in-Put.key.now c.args.given
+    c.dict_set.result c.requires.besides.owned c.dict_set.ensures.put
 
-pub returns-in-Err-dict_put-clause-asked : goal.returns-in-Err-dict_put-clause-asked
-returns-in-Err-dict_put-clause-asked g c base s reference own means =
-    let new = c.dict_put.new.frame in
-    let result = Err c.in-Err-dict_put.field-0 in
-    let late = subst (λ (key : Key g.row.A.Denot). Late c.args.frame.now c.in-Some.object.now.place
-    (λ mid. DictPut mid new c.in-Some.object.now.place key c.args.given result))
-    c.in-Ok-copy_key.ensures.copied c.in-Err-dict_put.ensures.put in
-    put_as {V = Key g.row.A.Denot × HandleSeen} c.args.container base new c.args.registers.now s
+pub returns-in-Err-dict_set-clause-asked : goal.returns-in-Err-dict_set-clause-asked
+returns-in-Err-dict_set-clause-asked g c base s reference own means =
+    let new = c.dict_set.new.frame in
+    let result = Err c.in-Err-dict_set.handed in
+    put_as {V = HandleSeen} c.args.container base new c.args.registers.now s
     c.args.given reference result c.in-Put.is
     (puts_asked (keyed_call c.in-Put.key.now (keyed.Put reference)) c.args.container base new c.args.registers.now s
     c.args.given reference result
     (put_means base c.args.frame.now new c.args.registers.now s own c.args.container c.in-Some.object.now
     (sym c.in-Some.ensures)
-    c.args.given reference means c.requires.besides.apart c.in-Put.key.now result late
-    c.in-Err-dict_put.ensures.waited))
+    c.args.given reference means c.requires.besides.apart c.in-Put.key.now result c.in-Err-dict_set.ensures.put
+    c.in-Err-dict_set.ensures.waited))

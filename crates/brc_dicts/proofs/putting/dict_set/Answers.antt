@@ -1,0 +1,18 @@
+use Rattle.brc_dicts.specs.Putting.{HasPut, RefusedPut}
+use Rattle.brc_dicts.proofs.Since_Law.{locked_late, takes_in}
+use Rattle.brc_dicts.proofs.putting.dict_set.Goals as goal
+
+pub returns-clause-put : goal.returns-clause-put
+returns-clause-put g c =
+    let late = c.begin_late-block.ensures in
+    let locked = c.begin_late-block.new.frame in
+    let k = c.args.dict.now.place in
+    let up = c.set_locked.ensures in (
+      late.mid,
+      late.waits,
+      takes_in late.mid locked c.set_locked.new.frame k c.begin_late-block.result
+          (λ before j answer. HasPut before c.set_locked.new.frame j c.args.key.now c.args.value answer)
+          (λ before j fault. RefusedPut before c.set_locked.new.frame j c.args.key.now c.args.value fault)
+          c.set_locked.result (locked_late c.args.frame.now locked k c.begin_late-block.result late) up.thread up.put
+          up.frame up.refused,
+    )
