@@ -114,134 +114,6 @@ fn stirs<R: Wait, A: Allocator>(rt: &R, done: Done, seated: &Seated<'_, A>) -> D
     done
 }
 
-#[inline(never)]
-fn int_line<R: Wait, H: Home<A>, A: Allocator + Copy>(rt: &R, alloc: A, frame: &mut Frame<H, A>, registers: &mut Registers<A>, to: Register, number: i64) -> Done {
-    MakeInt { to, number }.act(rt, alloc, frame, registers)
-}
-
-#[inline(never)]
-fn push_line<R: Wait, H: Home<A>, A: Allocator + Copy>(rt: &R, alloc: A, frame: &mut Frame<H, A>, registers: &mut Registers<A>, container: Register, value: Register, seated: &Seated<'_, A>) -> Done {
-    let take = Take { container, value, taking: Taking::Push };
-    let done = take.act(rt, alloc, frame, registers);
-    stirs(rt, done, seated)
-}
-
-#[inline(never)]
-fn set_line<R: Wait, H: Home<A>, A: Allocator + Copy>(rt: &R, alloc: A, frame: &mut Frame<H, A>, registers: &mut Registers<A>, container: Register, value: Register, index: u32, seated: &Seated<'_, A>) -> Done {
-    let take = Take { container, value, taking: Taking::Set(index) };
-    let done = take.act(rt, alloc, frame, registers);
-    stirs(rt, done, seated)
-}
-
-#[inline(never)]
-fn put_line<R: Wait, H: Home<A>, A: Allocator + Copy>(rt: &R, alloc: A, frame: &mut Frame<H, A>, registers: &mut Registers<A>, container: Register, value: Register, key: &Key<A>, seated: &Seated<'_, A>) -> Done {
-    let take = Take { container, value, taking: Taking::Put(key) };
-    let done = take.act(rt, alloc, frame, registers);
-    stirs(rt, done, seated)
-}
-
-#[inline(never)]
-fn send_line<R: Wait, H: Home<A>, A: Allocator + Copy>(rt: &R, alloc: A, frame: &mut Frame<H, A>, registers: &mut Registers<A>, container: Register, value: Register, seated: &Seated<'_, A>) -> Done {
-    let take = Take { container, value, taking: Taking::Send };
-    let done = take.act(rt, alloc, frame, registers);
-    stirs(rt, done, seated)
-}
-
-#[inline(never)]
-fn pop_line<R: Wait, H: Home<A>, A: Allocator + Copy>(rt: &R, alloc: A, frame: &mut Frame<H, A>, registers: &mut Registers<A>, to: Register, container: Register, seated: &Seated<'_, A>) -> Done {
-    let give = Give { to, container, giving: Giving::Pop };
-    let done = give.act(rt, alloc, frame, registers);
-    stirs(rt, done, seated)
-}
-
-#[inline(never)]
-fn get_line<R: Wait, H: Home<A>, A: Allocator + Copy>(rt: &R, alloc: A, frame: &mut Frame<H, A>, registers: &mut Registers<A>, to: Register, container: Register, index: u32) -> Done {
-    let give = Give { to, container, giving: Giving::Get(index) };
-    give.act(rt, alloc, frame, registers)
-}
-
-#[inline(never)]
-fn find_line<R: Wait, H: Home<A>, A: Allocator + Copy>(rt: &R, alloc: A, frame: &mut Frame<H, A>, registers: &mut Registers<A>, to: Register, container: Register, key: &Key<A>) -> Done {
-    let give = Give { to, container, giving: Giving::Find(key) };
-    give.act(rt, alloc, frame, registers)
-}
-
-#[inline(never)]
-fn delete_line<R: Wait, H: Home<A>, A: Allocator + Copy>(rt: &R, alloc: A, frame: &mut Frame<H, A>, registers: &mut Registers<A>, to: Register, container: Register, key: &Key<A>, seated: &Seated<'_, A>) -> Done {
-    let give = Give { to, container, giving: Giving::Delete(key) };
-    let done = give.act(rt, alloc, frame, registers);
-    stirs(rt, done, seated)
-}
-
-#[inline(never)]
-fn receive_line<R: Wait, H: Home<A>, A: Allocator + Copy>(rt: &R, alloc: A, frame: &mut Frame<H, A>, registers: &mut Registers<A>, to: Register, mailbox: Register, seated: &Seated<'_, A>) -> Done {
-    let look = Look { to, awaited: Awaited::Letter(mailbox) };
-    Await { look, seated }.act(rt, alloc, frame, registers)
-}
-
-#[inline(never)]
-fn shared_line<R: Wait, H: Home<A>, A: Allocator + Copy>(rt: &R, alloc: A, frame: &mut Frame<H, A>, registers: &mut Registers<A>, instruction: &Instruction<A>, key: Option<&Key<A>>, seated: &Seated<'_, A>) -> Done {
-    match instruction {
-        Instruction::Share { name, value } => {
-            let shared = Shared::Share { value: *value };
-            let done = under_name(rt, alloc, frame, registers, shared, name, key, seated);
-            stirs(rt, done, seated)
-        }
-        Instruction::Fetch { to, name } => {
-            let shared = Shared::Fetch { to: *to };
-            let done = under_name(rt, alloc, frame, registers, shared, name, key, seated);
-            done
-        }
-        Instruction::Unshare { to, name } => {
-            let shared = Shared::Unshare { to: *to };
-            let done = under_name(rt, alloc, frame, registers, shared, name, key, seated);
-            stirs(rt, done, seated)
-        }
-        _ => Ok(()),
-    }
-}
-
-#[inline(never)]
-fn rare_line<R: Wait, H: Home<A>, A: Allocator + Copy>(rt: &R, alloc: A, frame: &mut Frame<H, A>, registers: &mut Registers<A>, instruction: &Instruction<A>) -> Done {
-    match instruction {
-        Instruction::Text { to, text } => {
-            let to = *to;
-            MakeText { to, text }.act(rt, alloc, frame, registers)
-        }
-        Instruction::List { to } => {
-            let (to, empty) = (*to, Empty::List);
-            MakeEmpty { to, empty }.act(rt, alloc, frame, registers)
-        }
-        Instruction::Dict { to } => {
-            let (to, empty) = (*to, Empty::Dict);
-            MakeEmpty { to, empty }.act(rt, alloc, frame, registers)
-        }
-        Instruction::Mailbox { to } => {
-            let (to, empty) = (*to, Empty::Mailbox);
-            MakeEmpty { to, empty }.act(rt, alloc, frame, registers)
-        }
-        Instruction::Len { to, container } => {
-            let (to, container) = (*to, *container);
-            Len { to, container }.act(rt, alloc, frame, registers)
-        }
-        Instruction::Add { to, first, second } => {
-            let (to, first, second) = (*to, *first, *second);
-            Add { to, first, second }.act(rt, alloc, frame, registers)
-        }
-        _ => Ok(()),
-    }
-}
-
-#[inline(never)]
-fn copy_line<R: Wait, H: Home<A>, A: Allocator + Copy>(rt: &R, alloc: A, frame: &mut Frame<H, A>, registers: &mut Registers<A>, to: Register, from: Register) -> Done {
-    CopyHeld { to, from }.act(rt, alloc, frame, registers)
-}
-
-#[inline(never)]
-fn drop_line<R: Wait, H: Home<A>, A: Allocator + Copy>(rt: &R, alloc: A, frame: &mut Frame<H, A>, registers: &mut Registers<A>, from: Register) -> Done {
-    DropHeld { from }.act(rt, alloc, frame, registers)
-}
-
 /// What the instruction of a line says, where it is none that prints.
 #[derive(Drop)]
 pub(crate) struct Silent<'i, A: Allocator> {
@@ -260,24 +132,145 @@ impl<'i, R: Wait, H: Home<A>, A: Allocator + Copy> Does<R, H, A> for Silent<'i, 
         // (An answer has a name where it comes from a call that isn't inlined. So no call writes into what this answers,
         // which can stay in registers where nothing is called.)
         let (key, seated) = (self.key, self.seated);
-        let done = match self.instruction {
-            Instruction::Int { to, number } => int_line(rt, alloc, frame, registers, *to, *number),
-            Instruction::Copy { to, from } => copy_line(rt, alloc, frame, registers, *to, *from),
-            Instruction::Drop { from } => drop_line(rt, alloc, frame, registers, *from),
-            Instruction::Push { list, value } => push_line(rt, alloc, frame, registers, *list, *value, seated),
-            Instruction::Pop { to, list } => pop_line(rt, alloc, frame, registers, *to, *list, seated),
-            Instruction::Get { to, list, index } => get_line(rt, alloc, frame, registers, *to, *list, *index),
-            Instruction::Set { list, index, value } => set_line(rt, alloc, frame, registers, *list, *value, *index, seated),
-            Instruction::Put { dict, key, value } => put_line(rt, alloc, frame, registers, *dict, *value, key, seated),
-            Instruction::Find { to, dict, key } => find_line(rt, alloc, frame, registers, *to, *dict, key),
-            Instruction::Delete { to, dict, key } => delete_line(rt, alloc, frame, registers, *to, *dict, key, seated),
-            Instruction::Send { mailbox, value } => send_line(rt, alloc, frame, registers, *mailbox, *value, seated),
-            Instruction::Receive { to, mailbox } => receive_line(rt, alloc, frame, registers, *to, *mailbox, seated),
-            Instruction::Share { .. } => shared_line(rt, alloc, frame, registers, self.instruction, key, seated),
-            Instruction::Fetch { .. } => shared_line(rt, alloc, frame, registers, self.instruction, key, seated),
-            Instruction::Unshare { .. } => shared_line(rt, alloc, frame, registers, self.instruction, key, seated),
-            _ => rare_line(rt, alloc, frame, registers, self.instruction),
-        };
-        done
+        match self.instruction {
+            Instruction::Int { to, number } => {
+                let (to, number) = (*to, *number);
+                MakeInt { to, number }.act(rt, alloc, frame, registers)
+            }
+            Instruction::Text { to, text } => {
+                let to = *to;
+                MakeText { to, text }.act(rt, alloc, frame, registers)
+            }
+            Instruction::List { to } => {
+                let (to, empty) = (*to, Empty::List);
+                let done = MakeEmpty { to, empty }.act(rt, alloc, frame, registers);
+                done
+            }
+            Instruction::Dict { to } => {
+                let (to, empty) = (*to, Empty::Dict);
+                let done = MakeEmpty { to, empty }.act(rt, alloc, frame, registers);
+                done
+            }
+            Instruction::Mailbox { to } => {
+                let (to, empty) = (*to, Empty::Mailbox);
+                let done = MakeEmpty { to, empty }.act(rt, alloc, frame, registers);
+                done
+            }
+
+            Instruction::Copy { to, from } => {
+                let (to, from) = (*to, *from);
+                CopyHeld { to, from }.act(rt, alloc, frame, registers)
+            }
+            Instruction::Drop { from } => {
+                let from = *from;
+                DropHeld { from }.act(rt, alloc, frame, registers)
+            }
+
+            Instruction::Push { list, value } => {
+                let take = Take {
+                    container: *list,
+                    value: *value,
+                    taking: Taking::Push,
+                };
+                let done = take.act(rt, alloc, frame, registers);
+                stirs(rt, done, seated)
+            }
+            Instruction::Pop { to, list } => {
+                let give = Give {
+                    to: *to,
+                    container: *list,
+                    giving: Giving::Pop,
+                };
+                let done = give.act(rt, alloc, frame, registers);
+                stirs(rt, done, seated)
+            }
+            Instruction::Get { to, list, index } => {
+                let give = Give {
+                    to: *to,
+                    container: *list,
+                    giving: Giving::Get(*index),
+                };
+                give.act(rt, alloc, frame, registers)
+            }
+            Instruction::Set { list, index, value } => {
+                let take = Take {
+                    container: *list,
+                    value: *value,
+                    taking: Taking::Set(*index),
+                };
+                let done = take.act(rt, alloc, frame, registers);
+                stirs(rt, done, seated)
+            }
+            Instruction::Len { to, container } => {
+                let (to, container) = (*to, *container);
+                Len { to, container }.act(rt, alloc, frame, registers)
+            }
+
+            Instruction::Put { dict, key, value } => {
+                let take = Take {
+                    container: *dict,
+                    value: *value,
+                    taking: Taking::Put(key),
+                };
+                let done = take.act(rt, alloc, frame, registers);
+                stirs(rt, done, seated)
+            }
+            Instruction::Find { to, dict, key } => {
+                let give = Give {
+                    to: *to,
+                    container: *dict,
+                    giving: Giving::Find(key),
+                };
+                give.act(rt, alloc, frame, registers)
+            }
+            Instruction::Delete { to, dict, key } => {
+                let give = Give {
+                    to: *to,
+                    container: *dict,
+                    giving: Giving::Delete(key),
+                };
+                let done = give.act(rt, alloc, frame, registers);
+                stirs(rt, done, seated)
+            }
+
+            Instruction::Share { name, value } => {
+                let shared = Shared::Share { value: *value };
+                let done = under_name(rt, alloc, frame, registers, shared, name, key, seated);
+                stirs(rt, done, seated)
+            }
+            Instruction::Fetch { to, name } => {
+                let shared = Shared::Fetch { to: *to };
+                let done = under_name(rt, alloc, frame, registers, shared, name, key, seated);
+                done
+            }
+            Instruction::Unshare { to, name } => {
+                let shared = Shared::Unshare { to: *to };
+                let done = under_name(rt, alloc, frame, registers, shared, name, key, seated);
+                stirs(rt, done, seated)
+            }
+
+            Instruction::Send { mailbox, value } => {
+                let take = Take {
+                    container: *mailbox,
+                    value: *value,
+                    taking: Taking::Send,
+                };
+                let done = take.act(rt, alloc, frame, registers);
+                stirs(rt, done, seated)
+            }
+            Instruction::Receive { to, mailbox } => {
+                let look = Look {
+                    to: *to,
+                    awaited: Awaited::Letter(*mailbox),
+                };
+                Await { look, seated }.act(rt, alloc, frame, registers)
+            }
+
+            Instruction::Add { to, first, second } => {
+                let (to, first, second) = (*to, *first, *second);
+                Add { to, first, second }.act(rt, alloc, frame, registers)
+            }
+            Instruction::Print { .. } => Ok(()),
+        }
     }
 }

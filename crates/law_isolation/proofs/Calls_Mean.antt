@@ -84,22 +84,22 @@ module _ {A : Type 0} (base : ℕ) (old new : FrameSeen A) (registers : List (Op
         (λ part here object each. object_kept (IsMeant part) (calls.Set index reference) object here each)
         (plain_set index) (set_matches means.cells index reference) result late same busy
 
-    pub put_means : {V : Type 0} (key : Key A) (result : Result (Option HandleSeen) (Handed V))
+    pub put_means : (V : Type 0) (key : Key A) (result : Result (Option HandleSeen) (Handed V))
         → Late old h.place (λ mid. DictPut mid new h.place key value result)
         → IfErr result (λ handed. handed.fault ≢ faults.Busy)
         → PutsMeant (keyed_call key (keyed.Put reference)) container base new registers s value reference result
-    put_means key (Ok None) late busy =
+    put_means V key (Ok None) late busy =
         put_in base old new registers s own container h in_register (keyed_call key (keyed.Put reference))
         (λ number. refl) value reference means apart
         (λ part here object each. keyed_kept (IsMeant part) key (keyed.Put reference) object here each)
         (plain_put key) same None refl (put_matches means.cells key reference) late.0 late.1 late.2.did
-    put_means key (Ok (Some given)) late busy =
+    put_means V key (Ok (Some given)) late busy =
         subst (GivesOne (keyed_call key (keyed.Put reference)) container base new registers s) (sym late.2.did.0)
         (swapped_in base old new registers s own container h in_register (keyed_call key (keyed.Put reference))
         (λ number. refl) value reference means apart
         (λ part here object each. keyed_kept (IsMeant part) key (keyed.Put reference) object here each)
         (plain_put key) same Some (λ entry. refl) (put_matches means.cells key reference) late.0 late.1 late.2.did.1)
-    put_means key (Err handed) late busy =
+    put_means V key (Err handed) late busy =
         handed_back base old new registers s own container h in_register (keyed_call key (keyed.Put reference))
         (λ number. refl) value reference means apart
         (λ part here object each. keyed_kept (IsMeant part) key (keyed.Put reference) object here each)

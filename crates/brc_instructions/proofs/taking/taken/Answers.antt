@@ -125,7 +125,7 @@ returns-in-Ok-dict_set-clause-asked g c base s reference own means =
     c.args.given reference result
     (put_means base c.args.frame.now new c.args.registers.now s own c.args.container c.in-Some.object.now
     (sym c.in-Some.ensures)
-    c.args.given reference means c.requires.besides.apart c.in-Put.key.now result c.in-Ok-dict_set.ensures.put
+    c.args.given reference means c.requires.besides.apart HandleSeen c.in-Put.key.now result c.in-Ok-dict_set.ensures.put
     c.in-Ok-dict_set.ensures.waited))
 
 pub returns-in-Err-dict_set-clause-later : goal.returns-in-Err-dict_set-clause-later
@@ -143,5 +143,5 @@ returns-in-Err-dict_set-clause-asked g c base s reference own means =
     c.args.given reference result
     (put_means base c.args.frame.now new c.args.registers.now s own c.args.container c.in-Some.object.now
     (sym c.in-Some.ensures)
-    c.args.given reference means c.requires.besides.apart c.in-Put.key.now result c.in-Err-dict_set.ensures.put
+    c.args.given reference means c.requires.besides.apart HandleSeen c.in-Put.key.now result c.in-Err-dict_set.ensures.put
     c.in-Err-dict_set.ensures.waited))
