@@ -10,5 +10,6 @@ mod guards;
 mod letters;
 mod objects;
 mod refused;
+mod sets;
 mod starving;
 mod threads;
