@@ -1,6 +1,6 @@
 //! A value goes beside a key.
 
-ghost use Rattle.std.specs.Prelude.{◌≡◌, ◌≢◌, ◌<◌, Some, None, IfOk, IfErr, OnOk, OnErr, length};
+ghost use Rattle.std.specs.Prelude.{◌≡◌, ◌≢◌, ◌<◌, Some, None, IfOk, IfErr, OnOk, OnErr, length, slice_set};
 ghost use Rattle.brc_words.specs.declared.fault.Fault.TheVariants as faults;
 ghost use Rattle.brc_words.specs.declared.kind.Kind.TheVariants as kinds;
 ghost use Rattle.brc_words.specs.declared.limits.TheConstants.{MOST_ENTRIES};
@@ -85,6 +85,21 @@ fn append_locked<H: Home<A>, A: Allocator + Copy>(
     Ok(None)
 }
 
+/// Another cell for a pair. That the object is a dictionary is known, and not looked at once more.
+#[inline(always)]
+fn set_pair<A: Allocator>(payload: &mut Payload<A>, index: usize, cell: u32)
+    requires dict { kind_of payload.old ≡ kinds.Dict }
+    requires within { index < length (entries_of payload.old) }
+    ensures set { entries_of payload.new ≡ slice_set (entries_of payload.old) index cell }
+    ensures kind { kind_of payload.new ≡ kind_of payload.old }
+    ensures keys { keys_of payload.new ≡ keys_of payload.old }
+{
+    match payload {
+        Payload::Dict(pairs) => pairs.set(index, cell),
+        _ => unreachable!(),
+    }
+}
+
 /// The value goes beside a key that is there, in the dictionary that is locked; the answer is the old one. It takes no
 /// memory.
 #[inline(always)]
@@ -110,10 +125,7 @@ fn replace_locked<H: Home<A>, A: Allocator>(
 {
     let place = index as u32;
     let cell = frame.cell(&value);
-    match block.payload_mut() {
-        Payload::Dict(pairs) => pairs.set(index, cell),
-        _ => unreachable!(),
-    }
+    set_pair(block.payload_mut(), index, cell);
     frame.end_swap(block, place, entry, value)
 }
 
