@@ -1,5 +1,5 @@
 -- A call on an object that is locked, as one from the frame that the locking began from.
-use Rattle.std.proofs.Common.{◌≡◌, ◌+◌, ◌<◌, ◌≤◌, ◌++◌, ℕ, true, [], ◌∷◌, Option, Some, None, Ok, Err, sym, ◌∙◌, ap}
+use Rattle.std.proofs.Common.{◌≡◌, ◌+◌, ◌≤◌, ◌++◌, ℕ, true, [], ◌∷◌, Option, Some, None, Ok, Err, sym, ◌∙◌, ap}
 use Rattle.std.proofs.Common.{subst, length, slice_get, slice_set}
 use Rattle.std.specs.Result.{is_ok}
 use Rattle.brc_words.specs.declared.fault.Fault.{Fault}

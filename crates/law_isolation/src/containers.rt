@@ -56,7 +56,17 @@ pub fn calls_put_in_what_is_meant<A>()
         → OwnLog new.heap.cells new.seat.log → (container : ℕ) (h : handle)
         → slot registers container ≡ Some h → (value : handle) (r : reference)
         → MeansBesides base old registers s value r → IsApart value registers
-        → (V : Type 0) (at : key A) (result : Result (Option handle) (handed V))
+        → (at : key A) (result : Result (Option handle) (handed (key A × handle)))
+        → Late old h.place (λ mid. DictPut mid new h.place at value result)
+        → IfErr result (λ back. back.fault ≢ faults.Busy)
+        → PutsMeant (keyed_call at (keyed.Put r)) container base new registers s value r result }
+
+    // The same by a key that is lent.
+    ensures set_key { (base : ℕ) (old new : frame A) (registers : List (Option handle)) (s : state A)
+        → OwnLog new.heap.cells new.seat.log → (container : ℕ) (h : handle)
+        → slot registers container ≡ Some h → (value : handle) (r : reference)
+        → MeansBesides base old registers s value r → IsApart value registers
+        → (at : key A) (result : Result (Option handle) (handed handle))
         → Late old h.place (λ mid. DictPut mid new h.place at value result)
         → IfErr result (λ back. back.fault ≢ faults.Busy)
         → PutsMeant (keyed_call at (keyed.Put r)) container base new registers s value r result }

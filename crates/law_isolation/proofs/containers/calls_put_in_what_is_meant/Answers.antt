@@ -11,4 +11,9 @@ pub returns-clause-set : goal.returns-clause-set
 returns-clause-set g c = set_means
 
 pub returns-clause-put : goal.returns-clause-put
-returns-clause-put g c = put_means
+returns-clause-put g c base old new registers s own container h there value r means apart =
+    put_means base old new registers s own container h there value r means apart _
+
+pub returns-clause-set_key : goal.returns-clause-set_key
+returns-clause-set_key g c base old new registers s own container h there value r means apart =
+    put_means base old new registers s own container h there value r means apart _
