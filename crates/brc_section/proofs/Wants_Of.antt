@@ -29,32 +29,7 @@ abbrev fault_in : Result (Unit {0}) Fault → Fault → Fault
 fault_in (Ok done) else = else
 fault_in (Err fault) else = fault
 
--- what an instruction's answer has, the answer has that was made of it
-pub of_answer : {T : Type 0} (P : Fault → Type 0) (told answer : Result T Fault) → answer ≡ told → IfErr told P
-    → IfErr answer P
-of_answer P told answer is holds = subst (λ (r : Result _ Fault). IfErr r P) (sym is) holds
-
 module _ {A : Type 0} where
-  -- ---- one instruction
-
-  -- its cause is told, whatever it shares
-  pub of_own : (instruction : Instruction A) (old new : FrameSeen A) (told answer : Result (Unit {0}) Fault)
-      → answer ≡ told → IfErr told (Caused old new) → IfErr answer (WantsOfOwn instruction old new)
-  of_own instruction old new told answer is holds =
-      by_result answer (of_answer (Caused old new) told answer is holds)
-    where
-      by_result : (answer : Result (Unit {0}) Fault) → IfErr answer (Caused old new)
-          → IfErr answer (WantsOfOwn instruction old new)
-      by_result (Ok done) why = tt
-      by_result (Err fault) why = λ own. why
-
-  -- of one that shares, nothing is told
-  pub of_shared : (instruction is : Instruction A) (old new : FrameSeen A) (answer : Result (Unit {0}) Fault)
-      → instruction ≡ is → is_shared is ≡ true → IfErr answer (WantsOfOwn instruction old new)
-  of_shared instruction is old new (Ok done) same shared = tt
-  of_shared instruction is old new (Err fault) same shared =
-      λ own. absurd (true≢false (sym shared ∙ ap is_shared (sym same) ∙ own))
-
   -- ---- one line
 
   module _ (old mid polled : FrameSeen A) (told : ℕ) (later : IsLater old.seat.log mid.seat.log)
