@@ -69,8 +69,3 @@ module _ {A : Type 0} where
     pub led_stirred : {told : Result (Unit {0}) Fault} → answer ≡ told → Led old new before now instruction told
         → Led old new before now instruction answer
     led_stirred same line = subst (Led old new before now instruction) (sym same) line
-
-    -- the instruction that the line has is of this kind
-    pub led_as : {is : Instruction A} → instruction ≡ is → Led old new before now is answer
-        → Led old new before now instruction answer
-    led_as same line = subst (λ (i : Instruction A). Led old new before now i answer) (sym same) line

@@ -1,12 +1,10 @@
 -- From the cause of an instruction's want to that of a section's.
 use Rattle.std.proofs.Common.{arith, ◌≡◌, ◌≢◌, ◌≤◌, ℕ, true, List, Option, Some, Result, Ok, Err, IfErr}
-use Rattle.std.proofs.Common.{IfSome, ◌∙◌, sym, ap, subst, true≢false}
+use Rattle.std.proofs.Common.{IfSome, sym, ap, subst}
 use Rattle.brc_words.specs.Faults.{number_of}
 use Rattle.brc_words.specs.declared.fault.Fault.{Fault}
 use Rattle.brc_words.specs.declared.fault.Fault.TheVariants as faults
 use Rattle.brc_words.specs.declared.limits.TheConstants.{MOST_BIRTHS}
-use Rattle.brc_script.specs.declared.instruction.Instruction.{Instruction}
-use Rattle.brc_script.specs.Instructions.{is_shared}
 use Rattle.brc_script.specs.declared.script.Section.{Section}
 use Rattle.brc_script.specs.Scripts.{is_private}
 use Rattle.brc_meaning.specs.Sections.{written_out}
@@ -21,7 +19,6 @@ use Rattle.brc_instructions.specs.Causes.{NoneWasFree, WantsNoRoom, Caused}
 use Rattle.brc_instructions.proofs.Causes_Of.{uncaused, uncaused_memory, caused_from, caused_on, none_quietly, born_quietly}
 use Rattle.brc_section.specs.declared.running.Halt.{Halt}
 use Rattle.brc_section.specs.Running.{AreOwn, Notes, HaltOf, FaultOf}
-use Rattle.brc_section.specs.Stepping.{WantsOfOwn}
 use Rattle.brc_section.specs.Wants.{HaltsForCause, CauseLeft}
 use Rattle.brc_section.proofs.Plainly.{own_section, halt_told}
 

@@ -1,4 +1,4 @@
--- What a line of each kind promises.
+-- What the function of each kind of line ensures.
 use Rattle.std.specs.Prelude.{◌≡◌, ◌≢◌, List, Option, Result, IfErr}
 use Rattle.brc_words.specs.declared.fault.Fault.{Fault}
 use Rattle.brc_words.specs.declared.fault.Fault.TheVariants as faults
@@ -9,7 +9,7 @@ use Rattle.brc_instructions.specs.Registers.{Stands}
 use Rattle.brc_section.specs.Stepping.{FollowsOwn, WantsOfOwn}
 
 module _ {A : Type 0} where
-  -- A line that means this instruction was done, or refused: what `Does` promises of one.
+  -- A line with this instruction was done, or refused. The parts are the clauses of `Does`.
   pub record Led (old new : FrameSeen A) (before now : List (Option HandleSeen)) (instruction : Instruction A)
       (result : Result (Unit {0}) Fault) : Type 0 where
     pub stands : Stands new now

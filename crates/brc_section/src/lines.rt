@@ -1,8 +1,10 @@
-//! A line of each kind, as a function of its own.
+//! Each kind of line, as a function of its own.
 //!
-//! The loop over the lines calls these. Each takes registers, numbers and references, and none of them is inlined: what
-//! one builds for its call then lies in its own frame. LLVM would otherwise set it to zero in each line of a script,
-//! of whatever kind.
+//! The loop over a section's lines calls them. None is inlined, and each takes only registers, numbers and references.
+//! So the `Take`, `Give` or `Await` of a line lies in that function's own stack frame. In the loop LLVM would set
+//! each of these to zero for every line, whatever its kind.
+//!
+//! What each ensures is `Led`, of the instruction that it is for (`specs/Lines.antt`).
 
 ghost use Rattle.std.specs.Prelude.{◌≡◌};
 ghost use Rattle.brc_script.specs.declared.instruction.Instruction.TheVariants as does;
@@ -32,7 +34,7 @@ pub(crate) fn stirs<R: Wait, A: Allocator>(rt: &R, done: Done, seated: &Seated<'
     done
 }
 
-/// `int`.
+/// `int`: a new integer.
 #[inline(never)]
 pub(crate) fn int_line<R: Wait, H: Home<A>, A: Allocator + Copy>(
     rt: &R,
@@ -48,7 +50,7 @@ pub(crate) fn int_line<R: Wait, H: Home<A>, A: Allocator + Copy>(
     MakeInt { to, number }.act(rt, alloc, frame, registers)
 }
 
-/// `text`.
+/// `text`: a new text, with these bytes.
 #[inline(never)]
 pub(crate) fn text_line<R: Wait, H: Home<A>, A: Allocator + Copy>(
     rt: &R,
@@ -64,7 +66,7 @@ pub(crate) fn text_line<R: Wait, H: Home<A>, A: Allocator + Copy>(
     MakeText { to, text }.act(rt, alloc, frame, registers)
 }
 
-/// `list`.
+/// `list`: a new list.
 #[inline(never)]
 pub(crate) fn list_line<R: Wait, H: Home<A>, A: Allocator + Copy>(
     rt: &R,
@@ -80,7 +82,7 @@ pub(crate) fn list_line<R: Wait, H: Home<A>, A: Allocator + Copy>(
     MakeEmpty { to, empty }.act(rt, alloc, frame, registers)
 }
 
-/// `dict`.
+/// `dict`: a new dictionary.
 #[inline(never)]
 pub(crate) fn dict_line<R: Wait, H: Home<A>, A: Allocator + Copy>(
     rt: &R,
@@ -96,7 +98,7 @@ pub(crate) fn dict_line<R: Wait, H: Home<A>, A: Allocator + Copy>(
     MakeEmpty { to, empty }.act(rt, alloc, frame, registers)
 }
 
-/// `mailbox`.
+/// `mailbox`: a new mailbox.
 #[inline(never)]
 pub(crate) fn mailbox_line<R: Wait, H: Home<A>, A: Allocator + Copy>(
     rt: &R,
@@ -112,7 +114,7 @@ pub(crate) fn mailbox_line<R: Wait, H: Home<A>, A: Allocator + Copy>(
     MakeEmpty { to, empty }.act(rt, alloc, frame, registers)
 }
 
-/// `copy`.
+/// `copy`: one reference more.
 #[inline(never)]
 pub(crate) fn copy_line<R: Wait, H: Home<A>, A: Allocator + Copy>(
     rt: &R,
@@ -128,7 +130,7 @@ pub(crate) fn copy_line<R: Wait, H: Home<A>, A: Allocator + Copy>(
     CopyHeld { to, from }.act(rt, alloc, frame, registers)
 }
 
-/// `drop`.
+/// `drop`: the register's reference is released.
 #[inline(never)]
 pub(crate) fn drop_line<R: Wait, H: Home<A>, A: Allocator + Copy>(
     rt: &R,
@@ -143,7 +145,7 @@ pub(crate) fn drop_line<R: Wait, H: Home<A>, A: Allocator + Copy>(
     DropHeld { from }.act(rt, alloc, frame, registers)
 }
 
-/// `push`.
+/// `push`: the value becomes the list's last entry.
 #[inline(never)]
 pub(crate) fn push_line<R: Wait, H: Home<A>, A: Allocator + Copy>(
     rt: &R,
@@ -166,7 +168,7 @@ pub(crate) fn push_line<R: Wait, H: Home<A>, A: Allocator + Copy>(
     stirs(rt, done, seated)
 }
 
-/// `pop`.
+/// `pop`: the list's last entry comes out.
 #[inline(never)]
 pub(crate) fn pop_line<R: Wait, H: Home<A>, A: Allocator + Copy>(
     rt: &R,
@@ -189,7 +191,7 @@ pub(crate) fn pop_line<R: Wait, H: Home<A>, A: Allocator + Copy>(
     stirs(rt, done, seated)
 }
 
-/// `get`.
+/// `get`: one reference more to the list's entry at this index.
 #[inline(never)]
 pub(crate) fn get_line<R: Wait, H: Home<A>, A: Allocator + Copy>(
     rt: &R,
@@ -211,7 +213,7 @@ pub(crate) fn get_line<R: Wait, H: Home<A>, A: Allocator + Copy>(
     give.act(rt, alloc, frame, registers)
 }
 
-/// `set`.
+/// `set`: the value takes the place of the list's entry, which comes out.
 #[inline(never)]
 pub(crate) fn set_line<R: Wait, H: Home<A>, A: Allocator + Copy>(
     rt: &R,
@@ -235,7 +237,7 @@ pub(crate) fn set_line<R: Wait, H: Home<A>, A: Allocator + Copy>(
     stirs(rt, done, seated)
 }
 
-/// `len`.
+/// `len`: the number of entries, as a new integer.
 #[inline(never)]
 pub(crate) fn len_line<R: Wait, H: Home<A>, A: Allocator + Copy>(
     rt: &R,
@@ -251,7 +253,7 @@ pub(crate) fn len_line<R: Wait, H: Home<A>, A: Allocator + Copy>(
     Len { to, container }.act(rt, alloc, frame, registers)
 }
 
-/// `put`.
+/// `put`: the value goes beside the key, and an old value comes out.
 #[inline(never)]
 pub(crate) fn put_line<R: Wait, H: Home<A>, A: Allocator + Copy>(
     rt: &R,
@@ -275,7 +277,7 @@ pub(crate) fn put_line<R: Wait, H: Home<A>, A: Allocator + Copy>(
     stirs(rt, done, seated)
 }
 
-/// `find`.
+/// `find`: one reference more to the value beside the key.
 #[inline(never)]
 pub(crate) fn find_line<R: Wait, H: Home<A>, A: Allocator + Copy>(
     rt: &R,
@@ -297,7 +299,7 @@ pub(crate) fn find_line<R: Wait, H: Home<A>, A: Allocator + Copy>(
     give.act(rt, alloc, frame, registers)
 }
 
-/// `del`.
+/// `del`: the value beside the key comes out, and its pair is removed.
 #[inline(never)]
 pub(crate) fn delete_line<R: Wait, H: Home<A>, A: Allocator + Copy>(
     rt: &R,
@@ -321,7 +323,7 @@ pub(crate) fn delete_line<R: Wait, H: Home<A>, A: Allocator + Copy>(
     stirs(rt, done, seated)
 }
 
-/// `send`.
+/// `send`: the value becomes the mailbox's last letter.
 #[inline(never)]
 pub(crate) fn send_line<R: Wait, H: Home<A>, A: Allocator + Copy>(
     rt: &R,
@@ -344,7 +346,7 @@ pub(crate) fn send_line<R: Wait, H: Home<A>, A: Allocator + Copy>(
     stirs(rt, done, seated)
 }
 
-/// `recv`.
+/// `recv`: the mailbox's first letter comes out. An empty mailbox is waited for.
 #[inline(never)]
 pub(crate) fn receive_line<R: Wait, H: Home<A>, A: Allocator + Copy>(
     rt: &R,
@@ -365,7 +367,7 @@ pub(crate) fn receive_line<R: Wait, H: Home<A>, A: Allocator + Copy>(
     Await { look, seated }.act(rt, alloc, frame, registers)
 }
 
-/// `add`.
+/// `add`: the sum of two integers, as a new one.
 #[inline(never)]
 pub(crate) fn add_line<R: Wait, H: Home<A>, A: Allocator + Copy>(
     rt: &R,

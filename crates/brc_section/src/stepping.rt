@@ -1,6 +1,6 @@
 //! What one instruction does.
 
-ghost use Rattle.std.specs.Prelude.{◌≡◌, ◌≢◌, ⊤, true, false, IfErr};
+ghost use Rattle.std.specs.Prelude.{◌≡◌, ◌≢◌, ⊤, IfErr};
 ghost use Rattle.brc_words.specs.declared.fault.Fault.TheVariants as faults;
 ghost use Rattle.brc_script.specs.declared.instruction.Instruction.TheVariants as does;
 ghost use Rattle.law_living.specs.Later.{IsLater};
@@ -105,7 +105,7 @@ fn under_name<R: Wait, H: Home<A>, A: Allocator + Copy>(
     }
 }
 
-/// `share`.
+/// `share`: the value goes into the globals, under the name.
 #[inline(never)]
 fn share_line<R: Wait, H: Home<A>, A: Allocator + Copy>(
     rt: &R,
@@ -125,7 +125,7 @@ fn share_line<R: Wait, H: Home<A>, A: Allocator + Copy>(
     stirs(rt, done, seated)
 }
 
-/// `fetch`.
+/// `fetch`: one reference more to what has the name. A name that is missing is waited for.
 #[inline(never)]
 fn fetch_line<R: Wait, H: Home<A>, A: Allocator + Copy>(
     rt: &R,
@@ -144,7 +144,7 @@ fn fetch_line<R: Wait, H: Home<A>, A: Allocator + Copy>(
     under_name(rt, alloc, frame, registers, shared, name, key, seated)
 }
 
-/// `unshare`.
+/// `unshare`: what has the name comes out of the globals.
 #[inline(never)]
 fn unshare_line<R: Wait, H: Home<A>, A: Allocator + Copy>(
     rt: &R,
@@ -172,13 +172,19 @@ pub(crate) struct Silent<'i, A: Allocator> {
     pub(crate) seated: &'i Seated<'i, A>,
 }
 
-impl<'i, R: Wait, H: Home<A>, A: Allocator + Copy> Does<R, H, A> for Silent<'i, A> {
-    ghost follows = { λ it. FollowsOwn it.instruction.now };
-
-    ghost why = { λ it. WantsOfOwn it.instruction.now };
-
+impl<'i, A: Allocator + Copy> Silent<'i, A> {
+    /// The line, by the function of its kind.
     #[inline(always)]
-    fn act(&self, rt: &R, alloc: A, frame: &mut Frame<H, A>, registers: &mut Registers<A>) -> Done {
+    fn line<R: Wait, H: Home<A>>(
+        &self,
+        rt: &R,
+        alloc: A,
+        frame: &mut Frame<H, A>,
+        registers: &mut Registers<A>,
+    ) -> Done
+        requires stands { Stands frame.old registers.old }
+        ensures led { Led frame.old frame.new registers.old registers.new self.now.instruction.now result }
+    {
         let (key, seated) = (self.key, self.seated);
         match self.instruction {
             Instruction::Int { to, number } => {
@@ -240,5 +246,18 @@ impl<'i, R: Wait, H: Home<A>, A: Allocator + Copy> Does<R, H, A> for Silent<'i, 
             }
             Instruction::Print { .. } => Ok(()),
         }
+    }
+}
+
+impl<'i, R: Wait, H: Home<A>, A: Allocator + Copy> Does<R, H, A> for Silent<'i, A> {
+    ghost follows = { λ it. FollowsOwn it.instruction.now };
+
+    ghost why = { λ it. WantsOfOwn it.instruction.now };
+
+    #[inline(always)]
+    fn act(&self, rt: &R, alloc: A, frame: &mut Frame<H, A>, registers: &mut Registers<A>) -> Done {
+        // (The answer has a name first. So no call writes into what this answers, which can stay in registers.)
+        let done = self.line(rt, alloc, frame, registers);
+        done
     }
 }

@@ -5,6 +5,8 @@ use Rattle.brc_section.proofs.lines.drop_line.Goals as goal
 pub returns : goal.returns
 returns g c =
     let did = c.act in
-    record { led = led did.ensures.stands did.ensures.heap did.ensures.waits did.ensures.later
-    (uncaused_in c.args.frame.now did.new.frame did.result did.ensures.why)
-    (λ differ. did.ensures.follows) }
+    record {
+      led = led did.ensures.stands did.ensures.heap did.ensures.waits did.ensures.later
+          (uncaused_in c.args.frame.now did.new.frame did.result did.ensures.why)
+          (λ differ. did.ensures.follows);
+    }

@@ -8,7 +8,9 @@ use Rattle.brc_section.proofs.lines.int_line.Goals as goal
 pub returns : goal.returns
 returns g c =
     let did = c.act in
-    record { led = led did.ensures.stands did.ensures.heap did.ensures.waits did.ensures.later did.ensures.why
-    (λ differ. subst (λ (z : ℤ). Follows c.args.frame.now did.new.frame c.args.registers.now did.new.registers
-    (does.Int c.args.to z) did.result)
-    (to_z-of_z w64 c.args.number (search rules)) did.ensures.follows) }
+    record {
+      led = led did.ensures.stands did.ensures.heap did.ensures.waits did.ensures.later did.ensures.why
+          (λ differ. subst (λ (z : ℤ). Follows c.args.frame.now did.new.frame c.args.registers.now did.new.registers
+          (does.Int c.args.to z) did.result)
+          (to_z-of_z w64 c.args.number (search rules)) did.ensures.follows);
+    }

@@ -7,7 +7,9 @@ use Rattle.brc_section.proofs.lines.set_line.Goals as goal
 pub returns : goal.returns
 returns g c =
     let did = c.act-done in
-    record { led = led_stirred c.stirs.ensures (led did.ensures.stands did.ensures.heap did.ensures.waits did.ensures.later
-    (uncaused_in c.args.frame.now did.new.frame did.result did.ensures.why)
-    (λ differ. did.ensures.follows
-    (two_apart (does.Set c.args.list c.args.index c.args.value) c.args.list c.args.value refl differ))) }
+    record {
+      led = led_stirred c.stirs.ensures (led did.ensures.stands did.ensures.heap did.ensures.waits did.ensures.later
+          (uncaused_in c.args.frame.now did.new.frame did.result did.ensures.why)
+          (λ differ. did.ensures.follows
+          (two_apart (does.Set c.args.list c.args.index c.args.value) c.args.list c.args.value refl differ)));
+    }
