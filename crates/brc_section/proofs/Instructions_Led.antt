@@ -1,32 +1,71 @@
 -- An instruction is done by the function of its kind.
-use Rattle.std.proofs.Common.{◌≡◌, ◌≢◌, ◌∙◌, ℕ, Bool, true, false, not, ◌&&◌, ◌||◌, List, [], ◌∷◌, Option, Result, sym}
-use Rattle.std.proofs.Common.{ap, subst}
+use Rattle.std.proofs.Common.{◌≡◌, ◌≢◌, ◌∙◌, ℕ, Bool, true, false, not, ◌&&◌, ◌||◌, List, [], ◌∷◌, Option, Result, Ok, Err}
+use Rattle.std.proofs.Common.{IfErr, ap, subst, sym}
 use Rattle.std.proofs.lemmas.Bool.{eq-eqb, true≢false}
 use Rattle.brc_words.specs.declared.fault.Fault.{Fault}
+use Rattle.brc_words.specs.declared.fault.Fault.TheVariants as faults
 use Rattle.brc_script.specs.declared.instruction.Instruction.{Instruction}
-use Rattle.brc_script.specs.Instructions.{registers_of, registers_differ, all_differ}
+use Rattle.brc_script.specs.Instructions.{is_shared, registers_of, registers_differ, all_differ}
 use Rattle.brc_count.specs.Frames.{FrameSeen, HandleSeen}
+use Rattle.law_living.specs.Later.{IsLater}
 use Rattle.law_isolation.specs.Asked.{Follows}
+use Rattle.brc_instructions.specs.Causes.{Caused}
+use Rattle.brc_instructions.specs.Registers.{Stands}
+use Rattle.brc_section.specs.Lines.{Led}
+use Rattle.brc_section.specs.Stepping.{WantsOfOwn}
 
 module _ {A : Type 0} where
-  pub led : (old new : FrameSeen A) (before now : List (Option HandleSeen)) (instruction is : Instruction A)
-      (told answer : Result (Unit {0}) Fault)
-      → instruction ≡ is → answer ≡ told → Follows old new before now is told
-      → Follows old new before now instruction answer
-  led old new before now instruction is told answer same given follows =
-      subst (λ (i : Instruction A). Follows old new before now i answer) (sym same)
-      (subst (Follows old new before now is) (sym given) follows)
-
-  all_of : (instruction : Instruction A) → registers_differ instruction ≡ true
-      → all_differ (registers_of instruction) ≡ true
-  unfolding registers_differ
-  all_of instruction differ = differ
-
   -- the two registers of an instruction are not the same
-  pub two_apart : (instruction is : Instruction A) (a b : ℕ) → instruction ≡ is → registers_of is ≡ a ∷ b ∷ []
+  pub two_apart : (instruction : Instruction A) (a b : ℕ) → registers_of instruction ≡ a ∷ b ∷ []
       → registers_differ instruction ≡ true → a ≢ b
-  two_apart instruction is a b same names differ equal =
-      let all : all_differ (registers_of instruction) ≡ true = all_of instruction differ
-      in let two : all_differ (a ∷ b ∷ []) ≡ true
-      = subst (λ (registers : List ℕ). all_differ registers ≡ true) (ap registers_of same ∙ names) all
+  unfolding registers_differ
+  two_apart instruction a b names differ equal =
+      let two : all_differ (a ∷ b ∷ []) ≡ true
+      = subst (λ (registers : List ℕ). all_differ registers ≡ true) names differ
       in absurd (true≢false (sym two ∙ ap (λ (t : Bool). not (t || false) && (not false && true)) (eq-eqb a b equal)))
+
+  -- the cause of a want is told, whatever is shared
+  of_own : (instruction : Instruction A) (old new : FrameSeen A) (answer : Result (Unit {0}) Fault)
+      → IfErr answer (Caused old new) → IfErr answer (WantsOfOwn instruction old new)
+  of_own instruction old new (Ok done) why = tt
+  of_own instruction old new (Err fault) why = λ own. why
+
+  -- of one that shares, nothing is told
+  of_shared : (instruction : Instruction A) (old new : FrameSeen A) (answer : Result (Unit {0}) Fault)
+      → is_shared instruction ≡ true → IfErr answer (WantsOfOwn instruction old new)
+  of_shared instruction old new (Ok done) shared = tt
+  of_shared instruction old new (Err fault) shared = λ own. absurd (true≢false (sym shared ∙ own))
+
+  module _ {old new : FrameSeen A} {before now : List (Option HandleSeen)} {instruction : Instruction A}
+      {answer : Result (Unit {0}) Fault} where
+    -- one that shares nothing leads on as is meant
+    pub led : Stands new now → new.heap ≡ old.heap → IfErr answer (λ fault. fault ≢ faults.Busy)
+        → IsLater old.seat.log new.seat.log → IfErr answer (Caused old new)
+        → (registers_differ instruction ≡ true → Follows old new before now instruction answer)
+        → Led old new before now instruction answer
+    led stands heap waits later why follows = record {
+      stands = stands;
+      heap = heap;
+      waits = waits;
+      later = later;
+      why = of_own instruction old new answer why;
+      follows = λ own differ silent. follows differ;
+    }
+
+    -- where one leads that shares, no plain meaning tells
+    pub led_shared : Stands new now → new.heap ≡ old.heap → IfErr answer (λ fault. fault ≢ faults.Busy)
+        → IsLater old.seat.log new.seat.log → is_shared instruction ≡ true
+        → Led old new before now instruction answer
+    led_shared stands heap waits later shared = record {
+      stands = stands;
+      heap = heap;
+      waits = waits;
+      later = later;
+      why = of_shared instruction old new answer shared;
+      follows = λ own. absurd (true≢false (sym shared ∙ own));
+    }
+
+    -- the others were told of it
+    pub led_stirred : {told : Result (Unit {0}) Fault} → answer ≡ told → Led old new before now instruction told
+        → Led old new before now instruction answer
+    led_stirred same line = subst (Led old new before now instruction) (sym same) line

@@ -1,4 +1,4 @@
-mod Lines
+mod Lines_In
 mod Runs
 mod Line_Did
 mod Plainly

@@ -1,12 +1,10 @@
 -- From the cause of an instruction's want to that of a section's.
 use Rattle.std.proofs.Common.{arith, ◌≡◌, ◌≢◌, ◌≤◌, ℕ, true, List, Option, Some, Result, Ok, Err, IfErr}
-use Rattle.std.proofs.Common.{IfSome, ◌∙◌, sym, ap, subst, true≢false}
+use Rattle.std.proofs.Common.{IfSome, sym, ap, subst}
 use Rattle.brc_words.specs.Faults.{number_of}
 use Rattle.brc_words.specs.declared.fault.Fault.{Fault}
 use Rattle.brc_words.specs.declared.fault.Fault.TheVariants as faults
 use Rattle.brc_words.specs.declared.limits.TheConstants.{MOST_BIRTHS}
-use Rattle.brc_script.specs.declared.instruction.Instruction.{Instruction}
-use Rattle.brc_script.specs.Instructions.{is_shared}
 use Rattle.brc_script.specs.declared.script.Section.{Section}
 use Rattle.brc_script.specs.Scripts.{is_private}
 use Rattle.brc_meaning.specs.Sections.{written_out}
@@ -21,7 +19,6 @@ use Rattle.brc_instructions.specs.Causes.{NoneWasFree, WantsNoRoom, Caused}
 use Rattle.brc_instructions.proofs.Causes_Of.{uncaused, uncaused_memory, caused_from, caused_on, none_quietly, born_quietly}
 use Rattle.brc_section.specs.declared.running.Halt.{Halt}
 use Rattle.brc_section.specs.Running.{AreOwn, Notes, HaltOf, FaultOf}
-use Rattle.brc_section.specs.Stepping.{WantsOfOwn}
 use Rattle.brc_section.specs.Wants.{HaltsForCause, CauseLeft}
 use Rattle.brc_section.proofs.Plainly.{own_section, halt_told}
 
@@ -29,32 +26,7 @@ abbrev fault_in : Result (Unit {0}) Fault → Fault → Fault
 fault_in (Ok done) else = else
 fault_in (Err fault) else = fault
 
--- what an instruction's answer has, the answer has that was made of it
-pub of_answer : {T : Type 0} (P : Fault → Type 0) (told answer : Result T Fault) → answer ≡ told → IfErr told P
-    → IfErr answer P
-of_answer P told answer is holds = subst (λ (r : Result _ Fault). IfErr r P) (sym is) holds
-
 module _ {A : Type 0} where
-  -- ---- one instruction
-
-  -- its cause is told, whatever it shares
-  pub of_own : (instruction : Instruction A) (old new : FrameSeen A) (told answer : Result (Unit {0}) Fault)
-      → answer ≡ told → IfErr told (Caused old new) → IfErr answer (WantsOfOwn instruction old new)
-  of_own instruction old new told answer is holds =
-      by_result answer (of_answer (Caused old new) told answer is holds)
-    where
-      by_result : (answer : Result (Unit {0}) Fault) → IfErr answer (Caused old new)
-          → IfErr answer (WantsOfOwn instruction old new)
-      by_result (Ok done) why = tt
-      by_result (Err fault) why = λ own. why
-
-  -- of one that shares, nothing is told
-  pub of_shared : (instruction is : Instruction A) (old new : FrameSeen A) (answer : Result (Unit {0}) Fault)
-      → instruction ≡ is → is_shared is ≡ true → IfErr answer (WantsOfOwn instruction old new)
-  of_shared instruction is old new (Ok done) same shared = tt
-  of_shared instruction is old new (Err fault) same shared =
-      λ own. absurd (true≢false (sym shared ∙ ap is_shared (sym same) ∙ own))
-
   -- ---- one line
 
   module _ (old mid polled : FrameSeen A) (told : ℕ) (later : IsLater old.seat.log mid.seat.log)

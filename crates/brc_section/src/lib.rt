@@ -9,6 +9,7 @@
 
 mod board;
 mod gate;
+mod lines;
 mod names;
 mod running;
 mod section;

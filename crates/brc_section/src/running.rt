@@ -260,7 +260,7 @@ fn run_piece<R: Wait, G: Gate, H: Home<A>, A: Allocator + Copy>(
 }
 
 /// All pieces in order, up to the first fault.
-#[tactic(auto, using(crate::proofs::Lines::piece_at))]
+#[tactic(auto, using(crate::proofs::Lines_In::piece_at))]
 pub(crate) fn run_pieces<R: Wait, G: Gate, H: Home<A>, A: Allocator + Copy>(
     rt: &R,
     alloc: A,

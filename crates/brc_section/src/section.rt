@@ -51,7 +51,7 @@ fn first_in<A: Allocator>(piece: &Piece<A>) -> Option<u32>
 }
 
 /// The number of the first line of these pieces, if they have one.
-#[tactic(auto, using(crate::proofs::Lines::piece_at))]
+#[tactic(auto, using(crate::proofs::Lines_In::piece_at))]
 fn first_line<A: Allocator>(pieces: &[Piece<A>]) -> Option<u32>
     ensures line { IfSome result (λ line. IsLineOf line pieces.now) }
     ensures none { IfNone result (written_out pieces.now ≡ []) }

@@ -1,21 +1,23 @@
 //! What one instruction does.
 
-ghost use Rattle.std.specs.Prelude.{◌≡◌, ◌≢◌, ⊤, true, false, IfErr};
+ghost use Rattle.std.specs.Prelude.{◌≡◌, ◌≢◌, ⊤, IfErr};
 ghost use Rattle.brc_words.specs.declared.fault.Fault.TheVariants as faults;
-ghost use Rattle.brc_script.specs.Instructions.{is_shared, registers_differ};
+ghost use Rattle.brc_script.specs.declared.instruction.Instruction.TheVariants as does;
 ghost use Rattle.law_living.specs.Later.{IsLater};
-ghost use Rattle.brc_instructions.specs.Causes.{Caused};
 ghost use Rattle.brc_instructions.specs.Registers.{Stands};
+ghost use Rattle.brc_section.specs.Lines.{Led};
 ghost use Rattle.brc_section.specs.Stepping.{FollowsOwn, WantsOfOwn};
 
+use crate::lines::{
+    add_line, copy_line, delete_line, dict_line, drop_line, find_line, get_line, int_line,
+    len_line, list_line, mailbox_line, pop_line, push_line, put_line, receive_line, send_line,
+    set_line, stirs, text_line,
+};
 use crate::names::key_of;
 use crate::waiting::{Await, Awaited, Look, Seated};
 use brc_biased::Home;
 use brc_count::Frame;
-use brc_instructions::{
-    Add, CopyHeld, Does, Done, DropHeld, Empty, Give, GiveGlobal, Giving, Len, MakeEmpty, MakeInt,
-    MakeText, Print, Reads, Registers, Share, Shown, Take, Taking,
-};
+use brc_instructions::{Does, Done, GiveGlobal, Giving, Registers, Share};
 use brc_script::{Instruction, Register};
 use brc_words::{Key, Text};
 use std::alloc::Allocator;
@@ -103,15 +105,63 @@ fn under_name<R: Wait, H: Home<A>, A: Allocator + Copy>(
     }
 }
 
-/// Others may wait for what the instruction has changed.
-#[inline(always)]
-fn stirs<R: Wait, A: Allocator>(rt: &R, done: Done, seated: &Seated<'_, A>) -> Done
-    ensures { result ≡ done }
+/// `share`: the value goes into the globals, under the name.
+#[inline(never)]
+fn share_line<R: Wait, H: Home<A>, A: Allocator + Copy>(
+    rt: &R,
+    alloc: A,
+    frame: &mut Frame<H, A>,
+    registers: &mut Registers<A>,
+    name: &Text<A>,
+    value: Register,
+    key: Option<&Key<A>>,
+    seated: &Seated<'_, A>,
+) -> Done
+    requires stands { Stands frame.old registers.old }
+    ensures led { Led frame.old frame.new registers.old registers.new (does.Share name.now value) result }
 {
-    if done.is_ok() {
-        seated.board.change(rt);
-    }
-    done
+    let shared = Shared::Share { value };
+    let done = under_name(rt, alloc, frame, registers, shared, name, key, seated);
+    stirs(rt, done, seated)
+}
+
+/// `fetch`: one reference more to what has the name. A name that is missing is waited for.
+#[inline(never)]
+fn fetch_line<R: Wait, H: Home<A>, A: Allocator + Copy>(
+    rt: &R,
+    alloc: A,
+    frame: &mut Frame<H, A>,
+    registers: &mut Registers<A>,
+    to: Register,
+    name: &Text<A>,
+    key: Option<&Key<A>>,
+    seated: &Seated<'_, A>,
+) -> Done
+    requires stands { Stands frame.old registers.old }
+    ensures led { Led frame.old frame.new registers.old registers.new (does.Fetch to name.now) result }
+{
+    let shared = Shared::Fetch { to };
+    under_name(rt, alloc, frame, registers, shared, name, key, seated)
+}
+
+/// `unshare`: what has the name comes out of the globals.
+#[inline(never)]
+fn unshare_line<R: Wait, H: Home<A>, A: Allocator + Copy>(
+    rt: &R,
+    alloc: A,
+    frame: &mut Frame<H, A>,
+    registers: &mut Registers<A>,
+    to: Register,
+    name: &Text<A>,
+    key: Option<&Key<A>>,
+    seated: &Seated<'_, A>,
+) -> Done
+    requires stands { Stands frame.old registers.old }
+    ensures led { Led frame.old frame.new registers.old registers.new (does.Unshare to name.now) result }
+{
+    let shared = Shared::Unshare { to };
+    let done = under_name(rt, alloc, frame, registers, shared, name, key, seated);
+    stirs(rt, done, seated)
 }
 
 /// What the instruction of a line says, where it is none that prints.
@@ -122,6 +172,83 @@ pub(crate) struct Silent<'i, A: Allocator> {
     pub(crate) seated: &'i Seated<'i, A>,
 }
 
+impl<'i, A: Allocator + Copy> Silent<'i, A> {
+    /// The line, by the function of its kind.
+    #[inline(always)]
+    fn line<R: Wait, H: Home<A>>(
+        &self,
+        rt: &R,
+        alloc: A,
+        frame: &mut Frame<H, A>,
+        registers: &mut Registers<A>,
+    ) -> Done
+        requires stands { Stands frame.old registers.old }
+        ensures led { Led frame.old frame.new registers.old registers.new self.now.instruction.now result }
+    {
+        let (key, seated) = (self.key, self.seated);
+        match self.instruction {
+            Instruction::Int { to, number } => {
+                int_line(rt, alloc, frame, registers, *to, *number)
+            }
+            Instruction::Text { to, text } => text_line(rt, alloc, frame, registers, *to, text),
+            Instruction::List { to } => list_line(rt, alloc, frame, registers, *to),
+            Instruction::Dict { to } => dict_line(rt, alloc, frame, registers, *to),
+            Instruction::Mailbox { to } => mailbox_line(rt, alloc, frame, registers, *to),
+
+            Instruction::Copy { to, from } => copy_line(rt, alloc, frame, registers, *to, *from),
+            Instruction::Drop { from } => drop_line(rt, alloc, frame, registers, *from),
+
+            Instruction::Push { list, value } => {
+                push_line(rt, alloc, frame, registers, *list, *value, seated)
+            }
+            Instruction::Pop { to, list } => {
+                pop_line(rt, alloc, frame, registers, *to, *list, seated)
+            }
+            Instruction::Get { to, list, index } => {
+                get_line(rt, alloc, frame, registers, *to, *list, *index)
+            }
+            Instruction::Set { list, index, value } => {
+                set_line(rt, alloc, frame, registers, *list, *index, *value, seated)
+            }
+            Instruction::Len { to, container } => {
+                len_line(rt, alloc, frame, registers, *to, *container)
+            }
+
+            Instruction::Put { dict, key, value } => {
+                put_line(rt, alloc, frame, registers, *dict, key, *value, seated)
+            }
+            Instruction::Find { to, dict, key } => {
+                find_line(rt, alloc, frame, registers, *to, *dict, key)
+            }
+            Instruction::Delete { to, dict, key } => {
+                delete_line(rt, alloc, frame, registers, *to, *dict, key, seated)
+            }
+
+            Instruction::Share { name, value } => {
+                share_line(rt, alloc, frame, registers, name, *value, key, seated)
+            }
+            Instruction::Fetch { to, name } => {
+                fetch_line(rt, alloc, frame, registers, *to, name, key, seated)
+            }
+            Instruction::Unshare { to, name } => {
+                unshare_line(rt, alloc, frame, registers, *to, name, key, seated)
+            }
+
+            Instruction::Send { mailbox, value } => {
+                send_line(rt, alloc, frame, registers, *mailbox, *value, seated)
+            }
+            Instruction::Receive { to, mailbox } => {
+                receive_line(rt, alloc, frame, registers, *to, *mailbox, seated)
+            }
+
+            Instruction::Add { to, first, second } => {
+                add_line(rt, alloc, frame, registers, *to, *first, *second)
+            }
+            Instruction::Print { .. } => Ok(()),
+        }
+    }
+}
+
 impl<'i, R: Wait, H: Home<A>, A: Allocator + Copy> Does<R, H, A> for Silent<'i, A> {
     ghost follows = { λ it. FollowsOwn it.instruction.now };
 
@@ -129,148 +256,8 @@ impl<'i, R: Wait, H: Home<A>, A: Allocator + Copy> Does<R, H, A> for Silent<'i, 
 
     #[inline(always)]
     fn act(&self, rt: &R, alloc: A, frame: &mut Frame<H, A>, registers: &mut Registers<A>) -> Done {
-        // (An answer has a name where it comes from a call that isn't inlined. So no call writes into what this answers,
-        // which can stay in registers where nothing is called.)
-        let (key, seated) = (self.key, self.seated);
-        match self.instruction {
-            Instruction::Int { to, number } => {
-                let (to, number) = (*to, *number);
-                MakeInt { to, number }.act(rt, alloc, frame, registers)
-            }
-            Instruction::Text { to, text } => {
-                let to = *to;
-                MakeText { to, text }.act(rt, alloc, frame, registers)
-            }
-            Instruction::List { to } => {
-                let (to, empty) = (*to, Empty::List);
-                let done = MakeEmpty { to, empty }.act(rt, alloc, frame, registers);
-                done
-            }
-            Instruction::Dict { to } => {
-                let (to, empty) = (*to, Empty::Dict);
-                let done = MakeEmpty { to, empty }.act(rt, alloc, frame, registers);
-                done
-            }
-            Instruction::Mailbox { to } => {
-                let (to, empty) = (*to, Empty::Mailbox);
-                let done = MakeEmpty { to, empty }.act(rt, alloc, frame, registers);
-                done
-            }
-
-            Instruction::Copy { to, from } => {
-                let (to, from) = (*to, *from);
-                CopyHeld { to, from }.act(rt, alloc, frame, registers)
-            }
-            Instruction::Drop { from } => {
-                let from = *from;
-                DropHeld { from }.act(rt, alloc, frame, registers)
-            }
-
-            Instruction::Push { list, value } => {
-                let take = Take {
-                    container: *list,
-                    value: *value,
-                    taking: Taking::Push,
-                };
-                let done = take.act(rt, alloc, frame, registers);
-                stirs(rt, done, seated)
-            }
-            Instruction::Pop { to, list } => {
-                let give = Give {
-                    to: *to,
-                    container: *list,
-                    giving: Giving::Pop,
-                };
-                let done = give.act(rt, alloc, frame, registers);
-                stirs(rt, done, seated)
-            }
-            Instruction::Get { to, list, index } => {
-                let give = Give {
-                    to: *to,
-                    container: *list,
-                    giving: Giving::Get(*index),
-                };
-                give.act(rt, alloc, frame, registers)
-            }
-            Instruction::Set { list, index, value } => {
-                let take = Take {
-                    container: *list,
-                    value: *value,
-                    taking: Taking::Set(*index),
-                };
-                let done = take.act(rt, alloc, frame, registers);
-                stirs(rt, done, seated)
-            }
-            Instruction::Len { to, container } => {
-                let (to, container) = (*to, *container);
-                Len { to, container }.act(rt, alloc, frame, registers)
-            }
-
-            Instruction::Put { dict, key, value } => {
-                let take = Take {
-                    container: *dict,
-                    value: *value,
-                    taking: Taking::Put(key),
-                };
-                let done = take.act(rt, alloc, frame, registers);
-                stirs(rt, done, seated)
-            }
-            Instruction::Find { to, dict, key } => {
-                let give = Give {
-                    to: *to,
-                    container: *dict,
-                    giving: Giving::Find(key),
-                };
-                give.act(rt, alloc, frame, registers)
-            }
-            Instruction::Delete { to, dict, key } => {
-                let give = Give {
-                    to: *to,
-                    container: *dict,
-                    giving: Giving::Delete(key),
-                };
-                let done = give.act(rt, alloc, frame, registers);
-                stirs(rt, done, seated)
-            }
-
-            Instruction::Share { name, value } => {
-                let shared = Shared::Share { value: *value };
-                let done = under_name(rt, alloc, frame, registers, shared, name, key, seated);
-                stirs(rt, done, seated)
-            }
-            Instruction::Fetch { to, name } => {
-                let shared = Shared::Fetch { to: *to };
-                let done = under_name(rt, alloc, frame, registers, shared, name, key, seated);
-                done
-            }
-            Instruction::Unshare { to, name } => {
-                let shared = Shared::Unshare { to: *to };
-                let done = under_name(rt, alloc, frame, registers, shared, name, key, seated);
-                stirs(rt, done, seated)
-            }
-
-            Instruction::Send { mailbox, value } => {
-                let take = Take {
-                    container: *mailbox,
-                    value: *value,
-                    taking: Taking::Send,
-                };
-                let done = take.act(rt, alloc, frame, registers);
-                stirs(rt, done, seated)
-            }
-            Instruction::Receive { to, mailbox } => {
-                let look = Look {
-                    to: *to,
-                    awaited: Awaited::Letter(*mailbox),
-                };
-                Await { look, seated }.act(rt, alloc, frame, registers)
-            }
-
-            Instruction::Add { to, first, second } => {
-                let (to, first, second) = (*to, *first, *second);
-                Add { to, first, second }.act(rt, alloc, frame, registers)
-            }
-            Instruction::Print { .. } => Ok(()),
-        }
+        // (The answer has a name first. So no call writes into what this answers, which can stay in registers.)
+        let done = self.line(rt, alloc, frame, registers);
+        done
     }
 }

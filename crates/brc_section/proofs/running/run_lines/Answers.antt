@@ -1,5 +1,5 @@
 use Rattle.std.proofs.Common.{◌∙◌}
-use Rattle.brc_section.proofs.Lines.{line_at}
+use Rattle.brc_section.proofs.Lines_In.{line_at}
 use Rattle.brc_section.proofs.Runs.{lines_next, lines_stop, lines_end, line_own}
 use Rattle.brc_section.proofs.Wants_Of.{goes_one, goes_next, halts_next}
 use Rattle.brc_section.proofs.running.run_lines.Goals as goal

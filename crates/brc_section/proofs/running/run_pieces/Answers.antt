@@ -1,5 +1,5 @@
 use Rattle.std.proofs.Common.{◌∙◌}
-use Rattle.brc_section.proofs.Lines.{piece_at}
+use Rattle.brc_section.proofs.Lines_In.{piece_at}
 use Rattle.brc_section.proofs.Runs.{pieces_next, pieces_stop, pieces_end, piece_own}
 use Rattle.brc_section.proofs.Wants_Of.{goes_one, goes_next, halts_next}
 use Rattle.brc_section.proofs.running.run_pieces.Goals as goal
