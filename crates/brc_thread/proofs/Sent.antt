@@ -4,7 +4,7 @@
 use denote.Param.Send.{IsSend, IsSync, sendable}
 use denote.RattleType.{RattleType}
 use denote.Hole.{as_row}
-use denote.Struct.Field.{usize-field, u32-field}
+use denote.Struct.Field.{u32-field}
 use Rattle.std.proofs.Crossing.{crosses, Box-send, frees, send as global_send}
 use Rattle.std.specs.contracts.option.Option as Option
 use Rattle.std.specs.contracts.boxed.Box as Box
@@ -46,15 +46,12 @@ payload_field_send = search (sendable, crosses, payload.the_field_send, global_s
 payload_row_send : IsSend (Payload.the_field Global.the_row ghosts).row
 payload_row_send = search (sendable, crosses, payload.the_field_send, global_send, frees) depth 40
 
-usize_send : IsSend (as_row usize-field)
-usize_send = search sendable
-
 u32_send : IsSend (as_row u32-field)
 u32_send = search sendable
 
 node_send : IsSend (Node.the_field Global.the_row ghosts).row
 node_send =
-    let below = send-Worklist Global.the_row ghosts usize_send boxed_send u32_send payload_field_send
+    let below = send-Worklist Global.the_row ghosts boxed_send u32_send payload_field_send
     in send-Node Global.the_row ghosts below u32_send payload_row_send
 
 block_send : IsSend (Block.the_row Global.the_row ghosts)
