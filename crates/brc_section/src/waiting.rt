@@ -13,7 +13,7 @@ use std::alloc::Allocator;
 use std::sync::Wait;
 use std::thread;
 
-/// How often a section tries before it tells the board that it looks.
+/// How many times a section tries before the board is told that it looks.
 const TRIES: u32 = 100;
 
 /// Which section of a board it is, and how much its thread works between two instructions.
@@ -72,7 +72,7 @@ fn is_nothing(tried: &Done) -> bool
 }
 
 /// One try, after a poll and work: what others dropped meanwhile is this thread's to free, and a section that waited
-/// without it would keep every cell of theirs. The yield is for a thread that has what this one looks for.
+/// without it would keep every cell of theirs. The yield lets sections run that may put what this one looks for.
 #[derive(Drop)]
 struct LookNext<'w, A: Allocator> {
     look: &'w Look<'w, A>,
@@ -92,11 +92,11 @@ impl<'w, R: Wait, H: Home<A>, A: Allocator + Copy> Does<R, H, A> for LookNext<'w
     }
 }
 
-/// `TRIES` tries, up to the first that found something or was refused.
+/// `TRIES` tries, up to the first that finds something or is refused.
 ///
-/// To sleep and to be woken takes longer than most handovers between two sections, so a section tries before it
-/// sleeps. The board doesn't know of these tries. A change that comes meanwhile wakes nobody, and needn't: the next
-/// try finds it, and after the last comes one that the board knows of (`LookAgain`).
+/// A section tries before it sleeps, since to sleep and be woken takes longer than most handovers do. The board
+/// doesn't know of these tries. A change that comes meanwhile wakes nobody, and needn't: the next try finds it, and
+/// after the last comes one that the board knows of (`LookAgain`). A section that waits so still polls and works.
 #[derive(Drop)]
 struct LookSoon<'w, A: Allocator> {
     look: &'w Look<'w, A>,
@@ -123,8 +123,8 @@ impl<'w, R: Wait, H: Home<A>, A: Allocator + Copy> Does<R, H, A> for LookSoon<'w
     }
 }
 
-/// One round after another: tries of which the board knows nothing, then one that it knows of, then sleep until
-/// something has changed.
+/// One round after another: tries that the board doesn't know of, then one that it knows of, and then the section
+/// sleeps until something has changed.
 #[derive(Drop)]
 struct LookAgain<'w, A: Allocator> {
     look: &'w Look<'w, A>,

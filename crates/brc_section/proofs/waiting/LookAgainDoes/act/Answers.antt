@@ -104,11 +104,11 @@ loop-preserved g c = (
   search rules,
   search rules,
   let worked : IsLater c.args.frame.now.seat.log c.work-left.new.self.seat.log
-        = goes_on c.args.frame.now c.act-soon.new.frame c.poll-told.new.self c.work-left.new.self c.poll-told.result _
-        (later_both c.args.frame.now.seat.log c.loop.frame.seat.log c.act-soon.new.frame.seat.log c.loop.invariant.4
-        c.act-soon.ensures.later) c.poll-told.ensures.polled c.work-left.ensures.turns
+      = goes_on c.args.frame.now c.act-soon.new.frame c.poll-told.new.self c.work-left.new.self c.poll-told.result _
+      (later_both c.args.frame.now.seat.log c.loop.frame.seat.log c.act-soon.new.frame.seat.log c.loop.invariant.4
+      c.act-soon.ensures.later) c.poll-told.ensures.polled c.work-left.ensures.turns
       in later_both c.args.frame.now.seat.log c.work-left.new.self.seat.log c.act-tried.new.frame.seat.log worked
-        c.act-tried.ensures.later,
+      c.act-tried.ensures.later,
   λ mailbox is.
       let soon = c.act-soon in
       let tried = c.act-tried in
@@ -124,5 +124,5 @@ loop-preserved g c = (
       in stays_tried c.args.frame.now c.work-left.new.self tried.new.frame c.args.registers.now soon.new.registers
       tried.new.registers receive tried.result stays tried.ensures.heap tried.ensures.later
       (tried.ensures.follows mailbox is)
-      (c.is_nothing-2.ensures c.if-not-is_nothing-2.false),
+      (c.is_nothing-in-loop.ensures c.if-not-is_nothing-2.false),
 )

@@ -1,4 +1,4 @@
-use Rattle.std.proofs.Common.{◌∙◌, rules}
+use Rattle.std.proofs.Common.{rules}
 use Rattle.brc_script.specs.declared.instruction.Instruction.TheVariants as does
 use Rattle.law_living.proofs.Earlier.{later_both}
 use Rattle.brc_section.proofs.Tries.{stays_tried, follows_on, letter_from}
