@@ -256,7 +256,7 @@ impl<'i, R: Wait, H: Home<A>, A: Allocator + Copy> Does<R, H, A> for Silent<'i, 
 
     #[inline(always)]
     fn act(&self, rt: &R, alloc: A, frame: &mut Frame<H, A>, registers: &mut Registers<A>) -> Done {
-        // (The answer has a name first. So no call writes into what this answers, which can stay in registers.)
+        // A call writes its result through a pointer. That is to `done`, so what this returns can stay in registers.
         let done = self.line(rt, alloc, frame, registers);
         done
     }
