@@ -11,10 +11,6 @@ use brc_script::Register;
 use brc_words::{Fault, Key};
 use std::alloc::Allocator;
 use std::sync::Wait;
-use std::thread;
-
-/// How many times a section tries before the board is told that it looks.
-const TRIES: u32 = 100;
 
 /// Which section of a board it is, and how much its thread works between two instructions.
 #[derive(Drop)]
@@ -71,60 +67,8 @@ fn is_nothing(tried: &Done) -> bool
     matches!(tried, Err(Fault::NoSuchKey | Fault::NoSuchPlace))
 }
 
-/// One try, after a poll and work: what others dropped meanwhile is this thread's to free, and a section that waited
-/// without it would keep every cell of theirs. The yield lets sections run that may put what this one looks for.
-#[derive(Drop)]
-struct LookNext<'w, A: Allocator> {
-    look: &'w Look<'w, A>,
-    seated: &'w Seated<'w, A>,
-}
-
-impl<'w, R: Wait, H: Home<A>, A: Allocator + Copy> Does<R, H, A> for LookNext<'w, A> {
-    ghost follows = { λ it. FollowsLetter it.look.now.awaited it.look.now.to };
-
-    ghost why = { λ it. WantsForLetter it.look.now.awaited };
-
-    fn act(&self, rt: &R, alloc: A, frame: &mut Frame<H, A>, registers: &mut Registers<A>) -> Done {
-        let _told = frame.poll();
-        let _left = frame.work(self.seated.budget);
-        thread::yield_now();
-        self.look.act(rt, alloc, frame, registers)
-    }
-}
-
-/// `TRIES` tries, up to the first that finds something or is refused.
-///
-/// A section tries before it sleeps, since to sleep and be woken takes longer than most handovers do. The board
-/// doesn't know of these tries. A change that comes meanwhile wakes nobody, and needn't: the next try finds it, and
-/// after the last comes one that the board knows of (`LookAgain`). A section that waits so still polls and works.
-#[derive(Drop)]
-struct LookSoon<'w, A: Allocator> {
-    look: &'w Look<'w, A>,
-    seated: &'w Seated<'w, A>,
-}
-
-impl<'w, R: Wait, H: Home<A>, A: Allocator + Copy> Does<R, H, A> for LookSoon<'w, A> {
-    ghost follows = { λ it. FollowsLetter it.look.now.awaited it.look.now.to };
-
-    ghost why = { λ it. WantsForLetter it.look.now.awaited };
-
-    fn act(&self, rt: &R, alloc: A, frame: &mut Frame<H, A>, registers: &mut Registers<A>) -> Done {
-        let next = LookNext {
-            look: self.look,
-            seated: self.seated,
-        };
-        for _ in 1..TRIES {
-            let tried = next.act(rt, alloc, frame, registers);
-            if !is_nothing(&tried) {
-                return tried;
-            }
-        }
-        next.act(rt, alloc, frame, registers)
-    }
-}
-
-/// One round after another: tries that the board doesn't know of, then one that it knows of, and then the section
-/// sleeps until something has changed.
+/// One try after another, each after a poll and work: what others dropped meanwhile is this thread's to free, and a
+/// section that waited without it would keep every cell of theirs.
 #[derive(Drop)]
 struct LookAgain<'w, A: Allocator> {
     look: &'w Look<'w, A>,
@@ -138,15 +82,7 @@ impl<'w, R: Wait, H: Home<A>, A: Allocator + Copy> Does<R, H, A> for LookAgain<'
 
     fn act(&self, rt: &R, alloc: A, frame: &mut Frame<H, A>, registers: &mut Registers<A>) -> Done {
         let seated = self.seated;
-        let tries = LookSoon {
-            look: self.look,
-            seated,
-        };
         for _ in rt.forever() {
-            let soon = tries.act(rt, alloc, frame, registers);
-            if !is_nothing(&soon) {
-                return soon;
-            }
             let _told = frame.poll();
             let _left = frame.work(seated.budget);
             seated.board.looks(rt, seated.number);
