@@ -1,8 +1,7 @@
 //! The entries of a mailbox.
 
-ghost use Rattle.std.specs.Prelude.{◌≡◌, ◌+◌, ◌-◌, ◌++◌, [], OnSome, IfNone};
+ghost use Rattle.std.specs.Prelude.{◌≡◌, ◌+◌, ◌++◌, [], IfOk, OnSome, IfNone};
 ghost use Rattle.std.specs.Option.{option_to_list};
-ghost use Rattle.std.specs.VecDeque.{deque_items, deque_len, deque_capacity};
 
 use crate::entries::Entries;
 use std::alloc::{AllocError, Allocator};
@@ -13,9 +12,11 @@ use std::marker::Model;
 const FEWEST: usize = 4;
 
 /// The entries of a mailbox, as cells: the first put in is the first taken out.
+///
+/// The queue stands in memory of its own, so that blocks stay small, and is made with the mailbox.
 #[derive(Drop)]
 pub struct Letters<A: Allocator> {
-    queue: VecDeque<u32, A>,
+    queue: Box<VecDeque<u32, A>, A>,
 }
 
 impl<A: Allocator> Model for Letters<A> {
@@ -26,20 +27,24 @@ impl<A: Allocator> Model for Letters<A> {
     ghost Value = { Row ℕ };
 
     ghost view = { λ l. record {
-      items = deque_items l.queue;
-      spare = deque_capacity l.queue - deque_len l.queue;
+      items = deque_items l.queue.value;
+      spare = deque_capacity l.queue.value - deque_len l.queue.value;
     } };
 }
 
-impl<A: Allocator> Letters<A> {
-    /// The queue as entries; its spare capacity stays spare.
-    pub fn new(queue: VecDeque<u32, A>) -> Self
-        ensures items { result.items ≡ deque_items queue }
-        ensures spare { result.spare ≡ deque_capacity queue - deque_len queue }
+impl<A: Allocator + Copy> Letters<A> {
+    /// No entries, and memory for the queue, but none for an entry.
+    pub fn new(alloc: A) -> Result<Letters<A>, AllocError>
+        ensures items { IfOk result (λ letters. letters.items ≡ []) }
     {
-        Letters { queue }
+        match Box::new(alloc, VecDeque::new(alloc)) {
+            Ok(queue) => Ok(Letters { queue }),
+            Err(_refused) => Err(AllocError),
+        }
     }
+}
 
+impl<A: Allocator> Letters<A> {
     /// Takes the first entry.
     pub fn take(&mut self) -> Option<u32>
         ensures first { self.old.items ≡ option_to_list result ++ self.new.items }

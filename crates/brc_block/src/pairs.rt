@@ -3,9 +3,11 @@
 ghost use Rattle.std.specs.Prelude.{◌≡◌, ◌≢◌, ◌+◌, ◌<◌, ◌≤◌, ◌++◌, [], ◌∷◌, length, take, All, Some, None, OnOk, OnErr};
 ghost use Rattle.std.specs.Prelude.{IfOk, IfErr, IfSome, IfNone, slice_get, slice_set, remove};
 ghost use Rattle.std.specs.Option.{option_to_list};
+ghost use Rattle.brc_block.specs.Lent_Keys.{key_of};
 ghost use Rattle.brc_block.specs.Pairs.{keys_in, cells_in};
 
 use crate::key_map::KeyMap;
+use crate::key_ref::KeyRef;
 use brc_words::Key;
 use std::alloc::{AllocError, Allocator};
 use std::marker::Model;
@@ -87,12 +89,12 @@ impl<A: Allocator> Pairs<A> {
 
     /// The index of the first pair that has the key.
     #[inline(always)]
-    pub fn find(&self, key: &Key<A>) -> Option<usize>
+    pub fn find(&self, key: KeyRef<'_>) -> Option<usize>
         ensures found { IfSome result
-            (λ index. slice_get (keys_in self.now.items) index ≡ Some key.now) }
+            (λ index. slice_get (keys_in self.now.items) index ≡ Some (key_of key.entry)) }
         ensures first { IfSome result
-            (λ index. All (λ other. other ≢ key.now) (take index (keys_in self.now.items))) }
-        ensures none { IfNone result (All (λ other. other ≢ key.now) (keys_in self.now.items)) }
+            (λ index. All (λ other. other ≢ key_of key.entry) (take index (keys_in self.now.items))) }
+        ensures none { IfNone result (All (λ other. other ≢ key_of key.entry) (keys_in self.now.items)) }
     {
         match &self.map {
             None => None,

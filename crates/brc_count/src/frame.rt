@@ -2,7 +2,8 @@
 
 ghost use Rattle.std.specs.Prelude.{◌≡◌, ◌+◌, ◌-◌, ◌<◌, ◌≤◌, ℕ, Some, None, IsTrue, IsFalse, [], length, replicate};
 ghost use Rattle.std.specs.Prelude.{◌⊎◌, IfOk, IfErr, OnOk, OnErr, true, false};
-ghost use Rattle.brc_words.specs.declared.limits.TheConstants.{FIRST_MORTAL, MOST_THREADS, MOST_REGISTRATIONS};
+ghost use Rattle.brc_words.specs.declared.limits.TheConstants.{FIRST_MORTAL, GLOBALS, MOST_THREADS};
+ghost use Rattle.brc_words.specs.declared.limits.TheConstants.{MOST_REGISTRATIONS};
 ghost use Rattle.brc_words.specs.declared.fault.Fault.TheVariants.{OutOfMemory};
 ghost use Rattle.law_world.specs.declared.event.Source.TheVariants as sources;
 ghost use Rattle.law_world.specs.Heap.{words_for};
@@ -29,7 +30,7 @@ use crate::ledger::Ledger;
 use brc_biased::{Counter, Home, first_counts, no_bits};
 use brc_block::Payload;
 use brc_table::RootSeat;
-use brc_words::Fault;
+use brc_words::{Fault, GLOBALS};
 use law_world::Source;
 use std::alloc::Allocator;
 use std::marker::Model;
@@ -210,6 +211,22 @@ impl<H: Home<A>, A: Allocator> Frame<H, A> {
         self.holdings.reserve()?;
         let place = self.holdings.fill(Source::Immortal(cell), cell);
         Ok(self.handle(place))
+    }
+
+    /// A handle to the dictionary of globals, which is immortal. It is refused as `retain` is.
+    #[inline(always)]
+    pub fn globals(&mut self) -> Result<Handle<A>, Fault>
+        requires unlocked { IsUnlocked self.old }
+        ensures heap { self.new.heap ≡ self.old.heap }
+        ensures given { IfOk result (Given self.old self.new (sources.Immortal GLOBALS) GLOBALS) }
+        ensures refused { IfErr result (Refused self.old) }
+        ensures unchanged { OnErr result (IsAsBefore self.old self.new) }
+
+        ensures gains { IfOk result (Gains self.old self.new) }
+        ensures keeps { OnErr result (Keeps self.old self.new) }
+        ensures unlocked { IsUnlocked self.new }
+    {
+        self.immortal(GLOBALS)
     }
 
     /// From now on the thread's claims begin with the free word that has this cell (word k has the cells from 64 k on),

@@ -18,7 +18,7 @@ use brc_biased::Home;
 use brc_block::{Block, Payload};
 use brc_count::{Frame, Handle};
 use brc_lock::begin_late;
-use brc_words::{Fault, Key, MOST_PLACES, Text};
+use brc_words::{Fault, Key, MOST_PLACES};
 use std::alloc::Allocator;
 use std::sync::Wait;
 
@@ -37,19 +37,6 @@ fn pair_in<A: Allocator>(payload: &Payload<A>, index: usize) -> Result<(&Key<A>,
     }
 }
 
-/// The same key once more; None where memory for its text is missing.
-pub(crate) fn copy_of_key<A: Allocator>(alloc: A, key: &Key<A>) -> Option<Key<A>>
-    ensures { IfSome result (λ copy. copy ≡ key.now) }
-{
-    match key {
-        Key::Int(number) => Some(Key::Int(*number)),
-        Key::Text(text) => match String::from_str(alloc, text.as_str()) {
-            Ok(copy) => Some(Key::Text(Text::new(copy))),
-            Err(_) => None,
-        },
-    }
-}
-
 /// A copy of the key at the place.
 fn key_in<A: Allocator>(alloc: A, payload: &Payload<A>, index: usize) -> Result<Key<A>, Fault>
     ensures found { IfOk result (λ key. plain_key_at index (contents_of payload.now) ≡ Ok
@@ -57,9 +44,9 @@ fn key_in<A: Allocator>(alloc: A, payload: &Payload<A>, index: usize) -> Result<
     ensures refused { IfErr result (MissesKey A (contents_of payload.now) index) }
 {
     let (key, _cell) = pair_in(payload, index)?;
-    match copy_of_key(alloc, key) {
-        Some(key) => Ok(key),
-        None => Err(Fault::OutOfMemory),
+    match key.copy(alloc) {
+        Ok(key) => Ok(key),
+        Err(_refused) => Err(Fault::OutOfMemory),
     }
 }
 
@@ -143,11 +130,11 @@ fn pair_and_place<H: Home<A>, A: Allocator>(
     let (key, cell) = pair_in(block.payload(), index)?;
     let full = frame.len() >= MOST_PLACES as usize;
     frame.place()?;
-    match copy_of_key(alloc, key) {
-        Some(key) => Ok((key, cell)),
+    match key.copy(alloc) {
+        Ok(key) => Ok((key, cell)),
         // There is a place, so the frame isn't full; but no contract says so.
-        None if full => Err(Fault::FrameFull),
-        None => Err(Fault::OutOfMemory),
+        Err(_refused) if full => Err(Fault::FrameFull),
+        Err(_refused) => Err(Fault::OutOfMemory),
     }
 }
 

@@ -4,6 +4,7 @@ ghost use Rattle.std.specs.Prelude.{◌≡◌, ◌≢◌, ◌<◌, Some, None, I
 ghost use Rattle.brc_words.specs.declared.fault.Fault.TheVariants as faults;
 ghost use Rattle.brc_words.specs.declared.kind.Kind.TheVariants as kinds;
 ghost use Rattle.brc_words.specs.declared.limits.TheConstants.{MOST_ENTRIES};
+ghost use Rattle.brc_block.specs.Lent_Keys.{key_of};
 ghost use Rattle.brc_block.specs.Payload.{kind_of, entries_of, keys_of, spare_of};
 ghost use Rattle.brc_table.specs.Shown.{contents_of};
 ghost use Rattle.brc_count.specs.Frames.{IsUnlocked, Owns};
@@ -15,10 +16,9 @@ ghost use Rattle.brc_dicts.specs.Putting.{RefusedRoom, HasPut, OwnsPut, RefusedP
 ghost use Rattle.brc_dicts.specs.Seeking.{IsThere, IsAbsent};
 ghost use Rattle.brc_dicts.specs.Since.{Since};
 
-use crate::indexing::copy_of_key;
 use crate::seeking::{Sought, seek};
 use brc_biased::Home;
-use brc_block::{Block, Payload};
+use brc_block::{Block, KeyRef, Payload};
 use brc_count::{Frame, Handed, Handle};
 use brc_lock::begin_late;
 use brc_words::{Fault, Key, MOST_ENTRIES};
@@ -106,7 +106,7 @@ fn set_pair<A: Allocator>(payload: &mut Payload<A>, index: usize, cell: u32)
 fn replace_locked<H: Home<A>, A: Allocator>(
     frame: &mut Frame<H, A>,
     mut block: Block<A>,
-    key: &Key<A>,
+    key: KeyRef<'_>,
     value: Handle<A>,
     index: usize,
     entry: u32,
@@ -116,11 +116,11 @@ fn replace_locked<H: Home<A>, A: Allocator>(
     requires found { contents_found frame.old ≡ contents_of block.1 }
     requires value_owned { Owns frame.old value }
     requires apart { place_locked frame.old ≢ Some value.place }
-    requires there { IsThere block.1 key.now index entry }
+    requires there { IsThere block.1 (key_of key.entry) index entry }
     ensures thread { KeepsThread frame.old frame.new }
     ensures unlocked { IsUnlocked frame.new }
     ensures put { Since frame.old block
-        (λ before k. HasPut before frame.new k key.now value (Some result)) }
+        (λ before k. HasPut before frame.new k (key_of key.entry) value (Some result)) }
     ensures owns { OwnsPut frame.old frame.new value (Some result) }
 {
     let place = index as u32;
@@ -153,9 +153,9 @@ fn put_locked<H: Home<A>, A: Allocator + Copy>(
         (λ before k. RefusedPut before frame.new k key value handed.fault)) }
     ensures waits { IfErr result (λ handed. handed.fault ≢ faults.Busy) }
 {
-    match seek(block.payload(), &key) {
+    match seek(block.payload(), KeyRef::of(&key)) {
         Sought::There { index, cell } => {
-            let old = replace_locked(frame, block, &key, value, index, cell);
+            let old = replace_locked(frame, block, KeyRef::of(&key), value, index, cell);
             // The key's memory goes once the lock is free.
             drop(key);
             Ok(Some(old))
@@ -172,16 +172,16 @@ fn put_locked<H: Home<A>, A: Allocator + Copy>(
 }
 
 /// A copy of a key that goes into a dictionary: Full where that has as many pairs as it may, then OutOfMemory.
-fn copy_for<A: Allocator>(alloc: A, payload: &Payload<A>, key: &Key<A>) -> Result<Key<A>, Fault>
-    ensures copy { IfOk result (λ copy. copy ≡ key.now) }
+fn copy_for<A: Allocator>(alloc: A, payload: &Payload<A>, key: KeyRef<'_>) -> Result<Key<A>, Fault>
+    ensures copy { IfOk result (λ copy. copy ≡ key_of key.entry) }
     ensures refused { IfErr result (RefusedRoom (length (entries_of payload.now))) }
 {
     if payload.len() >= MOST_ENTRIES as usize {
         return Err(Fault::Full);
     }
-    match copy_of_key(alloc, key) {
-        Some(copy) => Ok(copy),
-        None => Err(Fault::OutOfMemory),
+    match key.copy(alloc) {
+        Ok(copy) => Ok(copy),
+        Err(_refused) => Err(Fault::OutOfMemory),
     }
 }
 
@@ -191,7 +191,7 @@ fn append_copy<H: Home<A>, A: Allocator + Copy>(
     alloc: A,
     frame: &mut Frame<H, A>,
     block: Block<A>,
-    key: &Key<A>,
+    key: KeyRef<'_>,
     value: Handle<A>,
 ) -> Result<Option<Handle<A>>, Handed<Handle<A>>>
     requires locked { IsLocked frame.old }
@@ -199,16 +199,16 @@ fn append_copy<H: Home<A>, A: Allocator + Copy>(
     requires found { contents_found frame.old ≡ contents_of block.1 }
     requires value_owned { Owns frame.old value }
     requires apart { place_locked frame.old ≢ Some value.place }
-    requires absent { IsAbsent block.1 key.now }
+    requires absent { IsAbsent block.1 (key_of key.entry) }
     ensures thread { KeepsThread frame.old frame.new }
     ensures unlocked { IsUnlocked frame.new }
     ensures put { IfOk result (λ answer. Since frame.old block
-        (λ before k. HasPut before frame.new k key.now value answer)) }
+        (λ before k. HasPut before frame.new k (key_of key.entry) value answer)) }
     ensures owns { IfOk result (OwnsPut frame.old frame.new value) }
     ensures back { IfErr result (λ handed. handed.back ≡ value) }
     ensures frame { IfErr result (λ handed. KeepsFrame frame.old frame.new) }
     ensures refused { IfErr result (λ handed. Since frame.old block
-        (λ before k. RefusedPut before frame.new k key.now value handed.fault)) }
+        (λ before k. RefusedPut before frame.new k (key_of key.entry) value handed.fault)) }
     ensures waits { IfErr result (λ handed. handed.fault ≢ faults.Busy) }
 {
     match copy_for(alloc, block.payload(), key) {
@@ -234,7 +234,7 @@ fn set_locked<H: Home<A>, A: Allocator + Copy>(
     alloc: A,
     frame: &mut Frame<H, A>,
     block: Block<A>,
-    key: &Key<A>,
+    key: KeyRef<'_>,
     value: Handle<A>,
 ) -> Result<Option<Handle<A>>, Handed<Handle<A>>>
     requires locked { IsLocked frame.old }
@@ -245,12 +245,12 @@ fn set_locked<H: Home<A>, A: Allocator + Copy>(
     ensures thread { KeepsThread frame.old frame.new }
     ensures unlocked { IsUnlocked frame.new }
     ensures put { IfOk result (λ answer. Since frame.old block
-        (λ before k. HasPut before frame.new k key.now value answer)) }
+        (λ before k. HasPut before frame.new k (key_of key.entry) value answer)) }
     ensures owns { IfOk result (OwnsPut frame.old frame.new value) }
     ensures back { IfErr result (λ handed. handed.back ≡ value) }
     ensures frame { IfErr result (λ handed. KeepsFrame frame.old frame.new) }
     ensures refused { IfErr result (λ handed. Since frame.old block
-        (λ before k. RefusedPut before frame.new k key.now value handed.fault)) }
+        (λ before k. RefusedPut before frame.new k (key_of key.entry) value handed.fault)) }
     ensures waits { IfErr result (λ handed. handed.fault ≢ faults.Busy) }
 {
     match seek(block.payload(), key) {
@@ -332,14 +332,14 @@ pub fn try_dict_set<H: Home<A>, A: Allocator + Copy>(
     alloc: A,
     frame: &mut Frame<H, A>,
     dict: &Handle<A>,
-    key: &Key<A>,
+    key: KeyRef<'_>,
     value: Handle<A>,
 ) -> Result<Option<Handle<A>>, Handed<Handle<A>>>
     requires owned { Owns frame.old dict.now }
     requires value_owned { Owns frame.old value }
     requires apart { value.place ≢ dict.now.place }
     requires unlocked { IsUnlocked frame.old }
-    ensures put { DictPut frame.old frame.new dict.now.place key.now value result }
+    ensures put { DictPut frame.old frame.new dict.now.place (key_of key.entry) value result }
     ensures owns { IfOk result (OwnsPut frame.old frame.new value) }
     ensures keeps { OnErr result (Keeps frame.old frame.new) }
     ensures unlocked { IsUnlocked frame.new }
@@ -362,14 +362,14 @@ pub fn dict_set<H: Home<A>, A: Allocator + Copy>(
     alloc: A,
     frame: &mut Frame<H, A>,
     dict: &Handle<A>,
-    key: &Key<A>,
+    key: KeyRef<'_>,
     value: Handle<A>,
 ) -> Result<Option<Handle<A>>, Handed<Handle<A>>>
     requires owned { Owns frame.old dict.now }
     requires value_owned { Owns frame.old value }
     requires apart { value.place ≢ dict.now.place }
     requires unlocked { IsUnlocked frame.old }
-    ensures put { Late frame.old dict.now.place (λ mid. DictPut mid frame.new dict.now.place key.now value result) }
+    ensures put { Late frame.old dict.now.place (λ mid. DictPut mid frame.new dict.now.place (key_of key.entry) value result) }
     ensures owns { IfOk result (OwnsPut frame.old frame.new value) }
     ensures keeps { OnErr result (Keeps frame.old frame.new) }
     ensures unlocked { IsUnlocked frame.new }

@@ -1,9 +1,9 @@
 //! Where a key stands in an object.
 
+ghost use Rattle.brc_block.specs.Lent_Keys.{key_of};
 ghost use Rattle.brc_dicts.specs.Seeking.{Seeks};
 
-use brc_block::Payload;
-use brc_words::Key;
+use brc_block::{KeyRef, Payload};
 use std::alloc::Allocator;
 
 /// What a look for a key in an object finds.
@@ -19,8 +19,8 @@ pub(crate) enum Sought {
 
 /// Looks for the key, once.
 #[inline(always)]
-pub(crate) fn seek<A: Allocator>(payload: &Payload<A>, key: &Key<A>) -> Sought
-    ensures { Seeks payload.now key.now result }
+pub(crate) fn seek<A: Allocator>(payload: &Payload<A>, key: KeyRef<'_>) -> Sought
+    ensures { Seeks payload.now (key_of key.entry) result }
 {
     let Payload::Dict(pairs) = payload else {
         return Sought::WrongKind;

@@ -2,6 +2,7 @@
 
 ghost use Rattle.std.specs.Prelude.{◌≡◌, ◌≢◌, Some, IfOk, IfErr, OnErr};
 ghost use Rattle.brc_words.specs.declared.fault.Fault.TheVariants as faults;
+ghost use Rattle.brc_block.specs.Lent_Keys.{key_of};
 ghost use Rattle.brc_table.specs.Shown.{contents_of};
 ghost use Rattle.brc_count.specs.Frames.{IsUnlocked, Owns};
 ghost use Rattle.brc_count.specs.Locking.{IsLocked, cell_locked, contents_found, KeepsThread};
@@ -14,7 +15,7 @@ ghost use Rattle.brc_dicts.specs.Since.{Since};
 
 use crate::seeking::{Sought, seek};
 use brc_biased::Home;
-use brc_block::Block;
+use brc_block::{Block, KeyRef};
 use brc_count::{Frame, Handle};
 use brc_lock::begin_late;
 use brc_words::{Fault, Key};
@@ -26,7 +27,7 @@ use std::sync::Wait;
 fn find_locked<H: Home<A>, A: Allocator>(
     frame: &mut Frame<H, A>,
     block: Block<A>,
-    key: &Key<A>,
+    key: KeyRef<'_>,
 ) -> Result<Handle<A>, Fault>
     requires locked { IsLocked frame.old }
     requires of_cell { cell_locked frame.old ≡ Some block.0 }
@@ -34,11 +35,11 @@ fn find_locked<H: Home<A>, A: Allocator>(
     ensures thread { KeepsThread frame.old frame.new }
     ensures unlocked { IsUnlocked frame.new }
     ensures shares { IfOk result (λ given. Since frame.old block
-        (λ before k. Shares before frame.new k (plain_find key.now) given)) }
+        (λ before k. Shares before frame.new k (plain_find (key_of key.entry)) given)) }
     ensures gains { IfOk result (Gains frame.old frame.new) }
     ensures places { IfErr result (λ fault. KeepsPlaces frame.old frame.new) }
     ensures refused { IfErr result (λ fault. Since frame.old block
-        (λ before k. RefusedPlace before frame.new k (plain_find key.now) fault)) }
+        (λ before k. RefusedPlace before frame.new k (plain_find (key_of key.entry)) fault)) }
     ensures waits { IfErr result (λ fault. fault ≢ faults.Busy) }
 {
     let (index, cell) = match seek(block.payload(), key) {
@@ -61,6 +62,26 @@ fn find_locked<H: Home<A>, A: Allocator>(
     Ok(given)
 }
 
+/// As `try_dict_find`, by a key that is lent.
+#[inline(always)]
+pub fn try_dict_find_by<H: Home<A>, A: Allocator>(
+    frame: &mut Frame<H, A>,
+    dict: &Handle<A>,
+    key: KeyRef<'_>,
+) -> Result<Handle<A>, Fault>
+    requires owned { Owns frame.old dict.now }
+    requires unlocked { IsUnlocked frame.old }
+    ensures shares { DictFind frame.old frame.new dict.now.place (key_of key.entry) result }
+    ensures gains { IfOk result (Gains frame.old frame.new) }
+    ensures keeps { OnErr result (Keeps frame.old frame.new) }
+    ensures unlocked { IsUnlocked frame.new }
+{
+    let Some(block) = frame.begin(dict) else {
+        return Err(Fault::Busy);
+    };
+    find_locked(frame, block, key)
+}
+
 /// A handle to the value beside the key, counted up in one event while the dictionary is locked. Busy where another
 /// thread has it locked, then WrongKind where the object is no dictionary, NoSuchKey, FrameFull and OutOfMemory.
 #[inline(always)]
@@ -76,9 +97,26 @@ pub fn try_dict_find<H: Home<A>, A: Allocator>(
     ensures keeps { OnErr result (Keeps frame.old frame.new) }
     ensures unlocked { IsUnlocked frame.new }
 {
-    let Some(block) = frame.begin(dict) else {
-        return Err(Fault::Busy);
-    };
+    try_dict_find_by(frame, dict, KeyRef::of(key))
+}
+
+/// As `dict_find`, by a key that is lent.
+#[inline(always)]
+pub fn dict_find_by<H: Home<A>, A: Allocator>(
+    rt: &impl Wait,
+    frame: &mut Frame<H, A>,
+    dict: &Handle<A>,
+    key: KeyRef<'_>,
+) -> Result<Handle<A>, Fault>
+    requires owned { Owns frame.old dict.now }
+    requires unlocked { IsUnlocked frame.old }
+    ensures shares { Late frame.old dict.now.place (λ mid. DictFind mid frame.new dict.now.place (key_of key.entry) result) }
+    ensures gains { IfOk result (Gains frame.old frame.new) }
+    ensures keeps { OnErr result (Keeps frame.old frame.new) }
+    ensures unlocked { IsUnlocked frame.new }
+    ensures waited { IfErr result (λ fault. fault ≢ faults.Busy) }
+{
+    let block = begin_late(rt, frame, dict);
     find_locked(frame, block, key)
 }
 
@@ -99,15 +137,14 @@ pub fn dict_find<H: Home<A>, A: Allocator>(
     ensures unlocked { IsUnlocked frame.new }
     ensures waited { IfErr result (λ fault. fault ≢ faults.Busy) }
 {
-    let block = begin_late(rt, frame, dict);
-    find_locked(frame, block, key)
+    dict_find_by(rt, frame, dict, KeyRef::of(key))
 }
 
 /// A deletion in the dictionary that is locked, and its unlocking.
 fn del_locked<H: Home<A>, A: Allocator>(
     frame: &mut Frame<H, A>,
     mut block: Block<A>,
-    key: &Key<A>,
+    key: KeyRef<'_>,
 ) -> Result<Handle<A>, Fault>
     requires locked { IsLocked frame.old }
     requires of_cell { cell_locked frame.old ≡ Some block.0 }
@@ -115,11 +152,11 @@ fn del_locked<H: Home<A>, A: Allocator>(
     ensures thread { KeepsThread frame.old frame.new }
     ensures unlocked { IsUnlocked frame.new }
     ensures takes { IfOk result (λ given. Since frame.old block
-        (λ before k. Takes before frame.new k (plain_del key.now) given)) }
+        (λ before k. Takes before frame.new k (plain_del (key_of key.entry)) given)) }
     ensures gains { IfOk result (Gains frame.old frame.new) }
     ensures places { IfErr result (λ fault. KeepsPlaces frame.old frame.new) }
     ensures refused { IfErr result (λ fault. Since frame.old block
-        (λ before k. RefusedPlace before frame.new k (plain_del key.now) fault)) }
+        (λ before k. RefusedPlace before frame.new k (plain_del (key_of key.entry)) fault)) }
     ensures waits { IfErr result (λ fault. fault ≢ faults.Busy) }
 {
     let (index, cell) = match seek(block.payload(), key) {
@@ -142,6 +179,25 @@ fn del_locked<H: Home<A>, A: Allocator>(
     Ok(frame.end_take(block, place, cell))
 }
 
+/// As `try_dict_del`, by a key that is lent.
+pub fn try_dict_del_by<H: Home<A>, A: Allocator>(
+    frame: &mut Frame<H, A>,
+    dict: &Handle<A>,
+    key: KeyRef<'_>,
+) -> Result<Handle<A>, Fault>
+    requires owned { Owns frame.old dict.now }
+    requires unlocked { IsUnlocked frame.old }
+    ensures takes { DictDel frame.old frame.new dict.now.place (key_of key.entry) result }
+    ensures gains { IfOk result (Gains frame.old frame.new) }
+    ensures keeps { OnErr result (Keeps frame.old frame.new) }
+    ensures unlocked { IsUnlocked frame.new }
+{
+    let Some(block) = frame.begin(dict) else {
+        return Err(Fault::Busy);
+    };
+    del_locked(frame, block, key)
+}
+
 /// The value beside the key, whose pair goes; later ones close up. Busy where another thread has the dictionary locked,
 /// then WrongKind where the object is no dictionary, NoSuchKey, FrameFull and OutOfMemory.
 pub fn try_dict_del<H: Home<A>, A: Allocator>(
@@ -156,9 +212,25 @@ pub fn try_dict_del<H: Home<A>, A: Allocator>(
     ensures keeps { OnErr result (Keeps frame.old frame.new) }
     ensures unlocked { IsUnlocked frame.new }
 {
-    let Some(block) = frame.begin(dict) else {
-        return Err(Fault::Busy);
-    };
+    try_dict_del_by(frame, dict, KeyRef::of(key))
+}
+
+/// As `dict_del`, by a key that is lent.
+pub fn dict_del_by<H: Home<A>, A: Allocator>(
+    rt: &impl Wait,
+    frame: &mut Frame<H, A>,
+    dict: &Handle<A>,
+    key: KeyRef<'_>,
+) -> Result<Handle<A>, Fault>
+    requires owned { Owns frame.old dict.now }
+    requires unlocked { IsUnlocked frame.old }
+    ensures takes { Late frame.old dict.now.place (λ mid. DictDel mid frame.new dict.now.place (key_of key.entry) result) }
+    ensures gains { IfOk result (Gains frame.old frame.new) }
+    ensures keeps { OnErr result (Keeps frame.old frame.new) }
+    ensures unlocked { IsUnlocked frame.new }
+    ensures waited { IfErr result (λ fault. fault ≢ faults.Busy) }
+{
+    let block = begin_late(rt, frame, dict);
     del_locked(frame, block, key)
 }
 
@@ -178,6 +250,5 @@ pub fn dict_del<H: Home<A>, A: Allocator>(
     ensures unlocked { IsUnlocked frame.new }
     ensures waited { IfErr result (λ fault. fault ≢ faults.Busy) }
 {
-    let block = begin_late(rt, frame, dict);
-    del_locked(frame, block, key)
+    dict_del_by(rt, frame, dict, KeyRef::of(key))
 }

@@ -10,7 +10,7 @@ use crate::doing::{Does, Done};
 use crate::giving::{Giving, given};
 use crate::globals::{given_by_globals, taken_by_globals};
 use crate::holding::hold;
-use crate::making::{Empty, copy_key, copy_text, new_empty};
+use crate::making::{Empty, new_empty};
 use crate::reading::{Reads, Sum};
 use crate::registers::Registers;
 use crate::taking::{Taking, taken};
@@ -67,7 +67,7 @@ impl<'t, R: Wait, H: Home<A>, A: Allocator + Copy> Does<R, H, A> for MakeText<'t
         frame: &mut Frame<H, A>,
         registers: &mut Registers<A>,
     ) -> Done {
-        let copy = copy_text(alloc, self.text)?;
+        let copy = self.text.copy(alloc)?;
         match new_text(alloc, frame, copy) {
             Ok(made) => {
                 hold(frame, registers, self.to, made);
@@ -299,7 +299,7 @@ impl<'k, R: Wait, H: Home<A>, A: Allocator + Copy> Does<R, H, A> for Share<'k, A
         if registers.get(self.value).is_none() {
             return Err(Fault::NoSuchPlace);
         }
-        let name = copy_key(alloc, self.name)?;
+        let name = self.name.copy(alloc)?;
         let Some(given) = registers.take(self.value) else {
             return Err(Fault::NoSuchPlace);
         };

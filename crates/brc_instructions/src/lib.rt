@@ -33,7 +33,7 @@ pub use instructions::{
 
 // what they are told
 pub use giving::Giving;
-pub use making::{Empty, copy_text};
+pub use making::Empty;
 pub use taking::Taking;
 
 // what one prints

@@ -1,7 +1,6 @@
 //! What is made: containers, and copies of what the script has.
 
 ghost use Rattle.std.specs.Prelude.{◌≡◌, IfOk, IfErr, OnErr};
-ghost use Rattle.brc_words.specs.declared.fault.Fault.TheVariants as faults;
 ghost use Rattle.brc_count.specs.Frames.{IsUnlocked};
 ghost use Rattle.brc_count.specs.Making.{Made, RefusedMaking};
 ghost use Rattle.brc_count.specs.Owned.{Keeps, Gains};
@@ -10,32 +9,8 @@ ghost use Rattle.brc_instructions.specs.Calls.{contents_of};
 use brc_biased::Home;
 use brc_count::{Frame, Handle};
 use brc_heap::{new_dict, new_list, new_mailbox};
-use brc_words::{Fault, Key, Text};
+use brc_words::Fault;
 use std::alloc::Allocator;
-
-/// A copy of a text of the script.
-pub fn copy_text<A: Allocator>(alloc: A, text: &Text<A>) -> Result<Text<A>, Fault>
-    ensures copied { IfOk result (λ copy. copy ≡ text.now) }
-    ensures refused { IfErr result (λ fault. fault ≡ faults.OutOfMemory) }
-{
-    let copy = String::from_str(alloc, text.as_str())?;
-    Ok(Text::new(copy))
-}
-
-/// A key of the script, for a dictionary to keep.
-#[inline(always)]
-pub(crate) fn copy_key<A: Allocator>(alloc: A, key: &Key<A>) -> Result<Key<A>, Fault>
-    ensures copied { IfOk result (λ copy. copy ≡ key.now) }
-    ensures refused { IfErr result (λ fault. fault ≡ faults.OutOfMemory) }
-{
-    match key {
-        Key::Int(number) => Ok(Key::Int(*number)),
-        Key::Text(name) => {
-            let name = copy_text(alloc, name)?;
-            Ok(Key::Text(name))
-        }
-    }
-}
 
 /// The kinds of containers.
 #[derive(Clone, Copy)]

@@ -15,7 +15,7 @@ ghost use Rattle.brc_instructions.specs.Registers.{Stands, Besides};
 use crate::registers::Registers;
 use brc_biased::Home;
 use brc_count::{Frame, Handed, Handle};
-use brc_heap::{dict_set, list_push, list_set, send};
+use brc_heap::{KeyRef, dict_set, list_push, list_set, send};
 use brc_script::Register;
 use brc_words::{Fault, Key};
 use std::alloc::Allocator;
@@ -77,7 +77,7 @@ pub(crate) fn taken<R: Wait, H: Home<A>, A: Allocator + Copy>(
             Ok(()) => Ok(None),
             Err(handed) => Err(handed),
         },
-        Taking::Put(key) => match dict_set(rt, alloc, frame, object, *key, given) {
+        Taking::Put(key) => match dict_set(rt, alloc, frame, object, KeyRef::of(*key), given) {
             Ok(old) => Ok(old),
             Err(handed) => Err(handed),
         },

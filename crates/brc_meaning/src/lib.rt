@@ -8,7 +8,6 @@
 #![tactic(auto)]
 
 mod call;
-mod copying;
 mod laws;
 mod object;
 mod objects;

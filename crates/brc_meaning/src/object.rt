@@ -8,7 +8,6 @@ ghost use Rattle.brc_meaning.specs.Objects.{number_in, text_in};
 ghost use Rattle.brc_meaning.specs.Outcomes.{Goes};
 
 use crate::call::{Call, KeyedCall};
-use crate::copying::copy_key;
 use crate::printed::Printed;
 use crate::reference::Reference;
 use brc_plain::{PlainDict, PlainList, PlainQueue};
@@ -81,7 +80,7 @@ fn call_dict<A: Allocator>(
 {
     match call {
         KeyedCall::Put(value) => {
-            let own = copy_key(alloc, key)?;
+            let own = key.copy(alloc)?;
             match pairs.put(own, value) {
                 Ok(old) => Ok(old),
                 Err((fault, _)) => Err(fault),

@@ -6,7 +6,6 @@ ghost use Rattle.brc_meaning.specs.Steps.{after, integer_sum};
 ghost use Rattle.brc_meaning.specs.Outcomes.{Steps};
 
 use crate::call::{Call, KeyedCall};
-use crate::copying::copy_text;
 use crate::object::Object;
 use crate::state::State;
 use brc_plain::{PlainDict, PlainList, PlainQueue};
@@ -31,7 +30,7 @@ fn text<A: Allocator>(
 ) -> Result<(), Fault>
     ensures { Steps result state.old state.new (after (does.Text to text.now) state.old) }
 {
-    let copy = copy_text(alloc, text)?;
+    let copy = text.copy(alloc)?;
     state.make(to, Object::Text(copy))
 }
 

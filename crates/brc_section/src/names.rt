@@ -4,7 +4,6 @@ ghost use Rattle.std.specs.Prelude.{◌≡◌, IfOk, IfErr};
 ghost use Rattle.brc_words.specs.declared.fault.Fault.TheVariants.{OutOfMemory};
 ghost use Rattle.brc_words.specs.declared.key.Key.TheVariants as keys;
 
-use brc_instructions::copy_text;
 use brc_script::{Instruction, Line, Piece, Section, is_private};
 use brc_words::{Fault, Key, Text};
 use std::alloc::Allocator;
@@ -21,8 +20,7 @@ pub(crate) fn key_of<A: Allocator>(alloc: A, name: &Text<A>) -> Result<Key<A>, F
     ensures made { IfOk result (λ key. key ≡ keys.Text name.now) }
     ensures refused { IfErr result (λ fault. fault ≡ OutOfMemory) }
 {
-    let name = copy_text(alloc, name)?;
-    Ok(Key::Text(name))
+    Ok(Key::Text(name.copy(alloc)?))
 }
 
 /// The key of the line's shared name, if it has one.

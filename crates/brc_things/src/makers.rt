@@ -1,10 +1,10 @@
 //! Makers: a handle to an immortal, or to a new object.
 
-ghost use Rattle.std.specs.Prelude.{◌≡◌, ◌<◌, [], IfOk, IfErr, OnErr, Some, None};
-ghost use Rattle.brc_words.specs.declared.limits.TheConstants.{FIRST_MORTAL};
+ghost use Rattle.std.specs.Prelude.{◌≡◌, ◌<◌, [], IfOk, IfErr, OnOk, OnErr, Some, None};
+ghost use Rattle.brc_words.specs.declared.limits.TheConstants.{FIRST_MORTAL, MOST_PLACES, MOST_BIRTHS};
 ghost use Rattle.law_world.specs.declared.event.Source.TheVariants as sources;
 ghost use Rattle.law_rule.specs.declared.contents.Contents.TheVariants as contents;
-ghost use Rattle.brc_count.specs.Frames.{Given, Refused, IsAsBefore, IsUnlocked};
+ghost use Rattle.brc_count.specs.Frames.{Given, Refused, IsAsBefore, IsUnlocked, ledger_seen};
 ghost use Rattle.brc_count.specs.Making.{Made, RefusedMaking};
 ghost use Rattle.brc_count.specs.Owned.{Keeps, Gains};
 ghost use Rattle.brc_things.specs.Makers.{small_cell, truth_cell, Answered, RefusedTo};
@@ -12,9 +12,8 @@ ghost use Rattle.brc_things.specs.Makers.{small_cell, truth_cell, Answered, Refu
 use brc_biased::Home;
 use brc_block::{Cells, Letters, Pairs, Payload};
 use brc_count::{Frame, Handed, Handle};
-use brc_words::{Fault, Text};
+use brc_words::{Fault, MOST_BIRTHS, MOST_PLACES, Text};
 use std::alloc::Allocator;
-use std::collections::VecDeque;
 
 /// None, which is cell 0. FrameFull, then OutOfMemory; a refusal changes nothing.
 pub fn none<H: Home<A>, A: Allocator>(frame: &mut Frame<H, A>) -> Result<Handle<A>, Fault>
@@ -159,7 +158,22 @@ pub fn new_dict<H: Home<A>, A: Allocator + Copy>(
     }
 }
 
-/// A new empty mailbox. The faults come in the order FrameFull, LedgerFull, OutOfMemory, HeapFull.
+/// Whether an object more is refused before memory for it is asked for: FrameFull, then LedgerFull.
+fn may_be_born<H: Home<A>, A: Allocator>(frame: &Frame<H, A>) -> Result<(), Fault>
+    ensures refused { IfErr result (RefusedMaking frame.now frame.now) }
+    ensures room { OnOk result (frame.now.len < MOST_PLACES) }
+    ensures few { OnOk result ((ledger_seen frame.now).allocs < MOST_BIRTHS) }
+{
+    if frame.len() >= MOST_PLACES as usize {
+        return Err(Fault::FrameFull);
+    }
+    if frame.ledger().allocs >= MOST_BIRTHS {
+        return Err(Fault::LedgerFull);
+    }
+    Ok(())
+}
+
+/// A new empty mailbox, with memory for its queue. The faults come in the order FrameFull, LedgerFull, OutOfMemory, HeapFull.
 pub fn new_mailbox<H: Home<A>, A: Allocator + Copy>(
     alloc: A,
     frame: &mut Frame<H, A>,
@@ -173,7 +187,11 @@ pub fn new_mailbox<H: Home<A>, A: Allocator + Copy>(
     ensures keeps { OnErr result (Keeps frame.old frame.new) }
     ensures unlocked { IsUnlocked frame.new }
 {
-    match frame.born(alloc, Payload::Mailbox(Letters::new(VecDeque::new(alloc)))) {
+    may_be_born(frame)?;
+    let Ok(letters) = Letters::new(alloc) else {
+        return Err(Fault::OutOfMemory);
+    };
+    match frame.born(alloc, Payload::Mailbox(letters)) {
         Ok(handle) => Ok(handle),
         Err(handed) => Err(handed.fault),
     }

@@ -3,6 +3,8 @@ use Rattle.std.specs.Prelude.{◌≡◌, Bool, true, false, Decides}
 use Rattle.std.specs.Ordering.{int_eq}
 use Rattle.std.specs.Str.{bytes_eq}
 use Rattle.std.specs.Cmp.{IsEquivalence, decided}
+use Rattle.std.specs.Hash as fed
+use Rattle.std.specs.Hash.{HashWrites}
 use Rattle.std.proofs.Common.{ap, refl, sym, subst, true≢false}
 use Rattle.std.proofs.lemmas.Bool.Decides.{Decides-int_eq}
 use Rattle.std.proofs.lemmas.Slice.Eq.{bytes_eq-Decides}
@@ -32,3 +34,11 @@ module _ {A : Type 0} where
 
   pub same_key-equiv : IsEquivalence (λ (key other : Key A). same_key key other)
   same_key-equiv = decided same_key same_key-decides
+
+  -- what a key feeds a hasher: its number, or its text
+  abbrev pub fed_of : Key A → HashWrites
+  fed_of (Int number) = fed.i64 number
+  fed_of (Text bytes) = fed.str bytes
+
+  pub same_key-fed : (key other : Key A) → same_key key other ≡ true → fed_of key ≡ fed_of other
+  same_key-fed key other same = ap fed_of (same_key-exact key other same)

@@ -1,6 +1,6 @@
 //! The keys of a dictionary.
 
-ghost use Rattle.std.specs.Prelude.{◌≡◌, ◌↔◌, nat_eq, IsTrue};
+ghost use Rattle.std.specs.Prelude.{◌≡◌, ◌↔◌, nat_eq, IfOk, IsTrue};
 ghost use Rattle.std.specs.String.{string_bytes};
 ghost use Rattle.std.specs.Cmp.{partial_equiv_from_equiv, partial_order_from_own_ties};
 ghost use Rattle.std.specs.Cmp.Lexicographic.{pointwise, slice_cmp};
@@ -9,9 +9,9 @@ ghost use Rattle.std.specs.Hash as fed;
 ghost use Rattle.std.specs.Ordering.{nat_cmp, as_partial_cmp};
 ghost use Rattle.std.proofs.Common.{rules};
 ghost use Rattle.std.proofs.lemmas.Cmp.{nat_list_eq_equiv, nat_list_cmp_total};
-ghost use Rattle.brc_words.specs.Keys.{same_key, same_key-equiv};
+ghost use Rattle.brc_words.specs.Keys.{same_key, same_key-equiv, fed_of, same_key-fed};
 
-use std::alloc::Allocator;
+use std::alloc::{AllocError, Allocator};
 use std::cmp::Ordering;
 use std::hash::{Hash, Hasher};
 use std::marker::Model;
@@ -41,10 +41,18 @@ impl<A: Allocator> Text<A> {
     }
 
     /// The text as a string slice.
+    #[inline(always)]
     pub fn as_str(&self) -> &str
         ensures { result.now ≡ self.now }
     {
         self.text.as_str()
+    }
+
+    /// The same text once more, in memory of its own.
+    pub fn copy(&self, alloc: A) -> Result<Text<A>, AllocError>
+        ensures { IfOk result (λ copy. copy ≡ self.now) }
+    {
+        Ok(Text::new(String::from_str(alloc, self.as_str())?))
     }
 }
 
@@ -100,7 +108,7 @@ impl<A: Allocator> Hash for Text<A> {
 
 /// What a dictionary finds an entry by. Integers come before texts.
 #[derive(Drop)]
-#[derive_where(Debug, PartialOrd, Ord, Hash)]
+#[derive_where(Debug, PartialOrd, Ord)]
 pub enum Key<A: Allocator> {
     Int(i64),
     Text(Text<A>),
@@ -112,6 +120,16 @@ impl<A: Allocator> Key<A> {
         ensures { IsTrue result ↔ (self.now ≡ other.now) }
     {
         self == other
+    }
+
+    /// The same key once more; only a text's asks for memory.
+    pub fn copy(&self, alloc: A) -> Result<Key<A>, AllocError>
+        ensures { IfOk result (λ copy. copy ≡ self.now) }
+    {
+        match self {
+            Key::Int(number) => Ok(Key::Int(*number)),
+            Key::Text(text) => Ok(Key::Text(text.copy(alloc)?)),
+        }
     }
 }
 
@@ -131,4 +149,19 @@ impl<A: Allocator> PartialEq for Key<A> {
 
 impl<A: Allocator> Eq for Key<A> {
     ghost laws = { same_key-equiv };
+}
+
+/// A key is hashed as its number or its text alone. A number and a text that hash alike are told apart by `==`.
+impl<A: Allocator> Hash for Key<A> {
+    ghost hash_input = { fed_of };
+
+    ghost respects_eq = { same_key-fed };
+
+    #[inline(always)]
+    fn hash<H: Hasher>(&self, state: &mut H) {
+        match self {
+            Key::Int(number) => number.hash(state),
+            Key::Text(text) => text.hash(state),
+        }
+    }
 }

@@ -20,7 +20,7 @@ ghost use Rattle.test_table.specs.Parts.{HasTwo, globals_with};
 use crate::comparing::is;
 use crate::ends::end_all;
 use crate::globals::{Held, shows};
-use brc_block::{Block, Cells, Entries, Pairs, Payload};
+use brc_block::{Block, Cells, Entries, KeyRef, Pairs, Payload};
 use brc_table::{HeapTable, RootSeat, ThreadSeat};
 use brc_words::{GLOBALS, Key};
 use std::alloc::Allocator;
@@ -126,7 +126,7 @@ fn put_last<A: Allocator + Copy>(rt: &impl Abort, pairs: &mut Pairs<A>, key: i64
     ensures { pairs.new.items ≡ pairs.old.items ++ (keys.Int key, cell) ∷ [] }
 {
     let key = Key::Int(key);
-    match pairs.find(&key) {
+    match pairs.find(KeyRef::of(&key)) {
         Some(_) => panic!(rt; "the key is there"),
         None => assert!(rt; pairs.put(key, cell).is_ok()),
     }

@@ -1,7 +1,6 @@
 //! A put by a key that is lent: each growth refused in turn, of the dictionary and of the key's copy. A refusal hands the
 //! value back, and the dictionary and the frame are as before. Beside a key that is there it takes no memory.
 
-ghost use Rattle.std.specs.Prelude.{◌≡◌};
 ghost use Rattle.brc_count.specs.Frames.{IsUnlocked};
 ghost use Rattle.test_tools.specs.Calls.{OwnsOne, Stays};
 
@@ -9,6 +8,7 @@ use crate::tests::guards::Way;
 use crate::tests::objects::entries;
 use crate::tests::threads::{a_heap, a_thread, is_empty};
 use brc_biased::Home;
+use brc_block::KeyRef;
 use brc_count::{Frame, Handed, Handle};
 use brc_dicts::{dict_set, try_dict_set};
 use brc_things::none;
@@ -33,8 +33,8 @@ fn sets<R: Abort + Wait, H: Home<A>, A: Allocator + Copy>(
 {
     let value = none(frame).expect(rt, "no None is had");
     let set = match way {
-        Way::AtOnce => try_dict_set(alloc, frame, dict, key, value),
-        Way::Late => dict_set(rt, alloc, frame, dict, key, value),
+        Way::AtOnce => try_dict_set(alloc, frame, dict, KeyRef::of(key), value),
+        Way::Late => dict_set(rt, alloc, frame, dict, KeyRef::of(key), value),
     };
     match set {
         Ok(None) => Ok(true),

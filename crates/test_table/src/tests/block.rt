@@ -4,11 +4,10 @@
 //! the proof less.
 
 use crate::comparing::{holds, same};
-use brc_block::{Block, Cells, Entries, Letters, Pairs, Payload, Worklist};
+use brc_block::{Block, Cells, Entries, KeyRef, Letters, Pairs, Payload, Worklist};
 use brc_words::{Fault, Key};
 use linked_list_allocator::LocalHeap;
 use std::alloc::{Allocator, Global};
-use std::collections::VecDeque;
 use std::process::Abort;
 
 /// Pushes a block that holds the number of its cell, if there is memory for it.
@@ -37,7 +36,7 @@ fn put_new<A: Allocator + Copy>(
     key: Key<A>,
     cell: u32,
 ) -> Result<(), Key<A>> {
-    match pairs.find(&key) {
+    match pairs.find(KeyRef::of(&key)) {
         Some(_) => panic!(rt; "the key is there"),
         None => pairs.put(key, cell),
     }
@@ -103,7 +102,7 @@ fn a_list_without_memory_stays(rt: HostRuntime) {
 #[test]
 fn a_mailbox_without_memory_stays(rt: HostRuntime) {
     let heap = small_heap(&rt, rt.alloc());
-    let mut letters = Letters::new(VecDeque::with_capacity(&heap, 2).expect(&rt, "memory"));
+    let mut letters = Letters::new(&heap).expect(&rt, "memory");
     let _filler = stays(&rt, rt.alloc(), &heap, &mut letters);
     same(&rt, "its front", letters.take(), Some(266));
     holds(&rt, "in its place", letters.put(268).is_ok());
@@ -130,7 +129,7 @@ fn pairs_stay<A: Allocator + Copy>(rt: &impl Abort, pairs: &mut Pairs<A>) {
         pairs.len(),
         refused.saturating_sub(266) as usize,
     );
-    same(rt, "where it was", pairs.find(&Key::Int(267)), Some(1));
+    same(rt, "where it was", pairs.find(KeyRef::Int(267)), Some(1));
     pops_pair(rt, pairs, refused.saturating_sub(1));
     if pairs.len() > 1 {
         pairs.set(1, 400);
@@ -140,7 +139,7 @@ fn pairs_stay<A: Allocator + Copy>(rt: &impl Abort, pairs: &mut Pairs<A>) {
             matches!(pairs.remove(0), (Key::Int(266), 266)),
         );
     }
-    same(rt, "where it is now", pairs.find(&Key::Int(267)), Some(0));
+    same(rt, "where it is now", pairs.find(KeyRef::Int(267)), Some(0));
     same(rt, "its cell", pairs.entry(0), Some(400));
 }
 

@@ -1,8 +1,9 @@
+use Rattle.brc_block.specs.Lent_Keys.{key_of}
 use Rattle.brc_containers.specs.Changing.{Takes, RefusedPlace}
 use Rattle.brc_dicts.specs.Plain.{plain_del}
 use Rattle.brc_dicts.specs.Since.{HasLocked}
 use Rattle.brc_dicts.proofs.Since_Law.{hands_out}
-use Rattle.brc_dicts.proofs.values.try_dict_del.Goals as goal
+use Rattle.brc_dicts.proofs.values.try_dict_del_by.Goals as goal
 
 pub returns-clause-takes : goal.returns-clause-takes
 returns-clause-takes g c =
@@ -10,6 +11,6 @@ returns-clause-takes g c =
     record { began = c.in-Some.ensures.began; keeps = c.begin.ensures.keeps; frame = c.begin.ensures.frame } in
     let up = c.del_locked.ensures in
     hands_out c.args.frame.now c.begin.new.self c.del_locked.new.frame c.args.dict.now.place c.in-Some.block
-    (λ before k given. Takes before c.del_locked.new.frame k (plain_del c.args.key.now) given)
-    (λ before k fault. RefusedPlace before c.del_locked.new.frame k (plain_del c.args.key.now) fault)
+    (λ before k given. Takes before c.del_locked.new.frame k (plain_del (key_of c.args.key)) given)
+    (λ before k fault. RefusedPlace before c.del_locked.new.frame k (plain_del (key_of c.args.key)) fault)
     c.del_locked.result since up.thread up.takes up.places up.refused

@@ -1,0 +1,74 @@
+//! Keys that are lent.
+
+ghost use Rattle.std.specs.Prelude.{◌≡◌, IfOk};
+ghost use Rattle.std.specs.Cmp.Rules.{comparing, hashing};
+ghost use Rattle.std.proofs.Common.{rules};
+ghost use Rattle.brc_words.specs.Keys.{same_key, same_key-equiv};
+ghost use Rattle.brc_block.specs.Lent_Keys.{key_of, lent_fed, lent_alike};
+
+use brc_words::{Key, Text};
+use indexmap::Equivalent;
+use std::alloc::{AllocError, Allocator};
+use std::hash::{Hash, Hasher};
+
+/// A key that is lent: what a dictionary is asked by. Its text stands where it stood.
+#[derive(Clone, Copy, Debug, PartialEq, Eq)]
+pub enum KeyRef<'k> {
+    Int(i64),
+    Text(&'k str),
+}
+
+impl<'k> KeyRef<'k> {
+    /// The key, lent.
+    #[inline(always)]
+    pub fn of<A: Allocator>(key: &'k Key<A>) -> KeyRef<'k>
+        ensures { key_of result ≡ key.now }
+    {
+        match key {
+            Key::Int(number) => KeyRef::Int(*number),
+            Key::Text(text) => KeyRef::Text(text.as_str()),
+        }
+    }
+
+    /// The same key with memory of its own; only a text's asks for it.
+    pub fn copy<A: Allocator>(self, alloc: A) -> Result<Key<A>, AllocError>
+        ensures { IfOk result (λ copy. copy ≡ key_of self.entry) }
+    {
+        match self {
+            KeyRef::Int(number) => Ok(Key::Int(number)),
+            KeyRef::Text(text) => Ok(Key::Text(Text::new(String::from_str(alloc, text)?))),
+        }
+    }
+}
+
+/// As the key that is lent.
+impl<'k> Hash for KeyRef<'k> {
+    ghost hash_input = { lent_fed };
+
+    ghost respects_eq = { Prim.search (hashing, rules) };
+
+    #[inline(always)]
+    fn hash<H: Hasher>(&self, state: &mut H) {
+        match self {
+            KeyRef::Int(number) => number.hash(state),
+            KeyRef::Text(text) => text.hash(state),
+        }
+    }
+}
+
+impl<'k, A: Allocator> Equivalent<Key<A>> for KeyRef<'k> {
+    ghost equivalent = { λ lent. same_key (key_of lent) };
+
+    ghost respects_hash = { lent_alike };
+
+    ghost respects_eq = { λ lent x y. same_key-equiv.congr (key_of lent) x y };
+
+    #[inline(always)]
+    fn equivalent(&self, key: &Key<A>) -> bool {
+        match (self, key) {
+            (KeyRef::Int(number), Key::Int(other)) => number == other,
+            (KeyRef::Text(text), Key::Text(other)) => *text == other.as_str(),
+            _ => false,
+        }
+    }
+}
