@@ -38,7 +38,7 @@ fn make_room<A: Allocator + Copy>(payload: &mut Payload<A>) -> Result<(), Fault>
     ensures refused { IfErr result (RefusedRoom (length (entries_of payload.old))) }
     ensures contents { contents_of payload.new ≡ contents_of payload.old }
 {
-    if payload.len() >= MOST_ENTRIES as usize {
+    if MOST_ENTRIES as usize <= payload.len() {
         return Err(Fault::Full);
     }
     match payload.reserve() {
