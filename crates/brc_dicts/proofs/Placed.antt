@@ -1,7 +1,6 @@
 -- The place of a key: what the plain call answers on a block that has the key, or hasn't.
 use Rattle.std.proofs.Common.{◌≡◌, ◌≢◌, ℕ, zero, suc, List, [], ◌∷◌, Some, None, Ok, Err, refl, sym, ◌∙◌, ap}
 use Rattle.std.specs.Option.{option_map}
-use Rattle.brc_words.specs.declared.fault.Fault.{Fault}
 use Rattle.brc_words.specs.declared.fault.Fault.TheVariants as faults
 use Rattle.brc_words.specs.declared.key.Key.{Key}
 use Rattle.brc_words.specs.declared.kind.Kind.TheVariants as kinds

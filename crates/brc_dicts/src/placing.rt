@@ -36,9 +36,9 @@ fn place_locked<H: Home<A>, A: Allocator>(
     ensures frame { KeepsFrame frame.old frame.new }
     ensures unlocked { IsUnlocked frame.new }
     ensures reads { IfOk result (λ place. Since frame.old block
-        (λ before k. Reads before frame.new k (plain_place (key_lent key.entry)) place)) }
+        (λ before k. Reads before frame.new k (plain_place {A = A} (key_lent key.entry)) place)) }
     ensures refused { IfErr result (λ fault. Since frame.old block
-        (λ before k. RefusedEntry before frame.new k (plain_place (key_lent key.entry)) fault)) }
+        (λ before k. RefusedEntry before frame.new k (plain_place {A = A} (key_lent key.entry)) fault)) }
     ensures waits { IfErr result (λ fault. fault ≢ faults.Busy) }
 {
     let sought = seek(block.payload(), key);

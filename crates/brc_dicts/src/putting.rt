@@ -116,7 +116,7 @@ fn replace_locked<H: Home<A>, A: Allocator>(
     requires found { contents_found frame.old ≡ contents_of block.1 }
     requires value_owned { Owns frame.old value }
     requires apart { place_locked frame.old ≢ Some value.place }
-    requires there { IsThere block.1 (key_lent key.entry) index entry }
+    requires there { IsThere block.1 (key_lent key) index entry }
     ensures thread { KeepsThread frame.old frame.new }
     ensures unlocked { IsUnlocked frame.new }
     ensures put { Since frame.old block
@@ -199,7 +199,7 @@ fn append_copy<H: Home<A>, A: Allocator + Copy>(
     requires found { contents_found frame.old ≡ contents_of block.1 }
     requires value_owned { Owns frame.old value }
     requires apart { place_locked frame.old ≢ Some value.place }
-    requires absent { IsAbsent block.1 (key_lent key.entry) }
+    requires absent { IsAbsent block.1 (key_lent key) }
     ensures thread { KeepsThread frame.old frame.new }
     ensures unlocked { IsUnlocked frame.new }
     ensures put { IfOk result (λ answer. Since frame.old block

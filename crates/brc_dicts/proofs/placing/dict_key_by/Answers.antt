@@ -14,9 +14,9 @@ returns-clause-reads g c =
       late.mid,
       late.waits,
       looked late.mid locked c.place_locked.new.frame k c.begin_late-block.result
-          (λ before j place. Reads before c.place_locked.new.frame j (plain_place (key_lent c.args.key)) place)
+          (λ before j place. Reads before c.place_locked.new.frame j (plain_place {A = g.row.A.Denot} (key_lent c.args.key)) place)
           (λ before j fault. RefusedEntry before c.place_locked.new.frame j
-          (plain_place (key_lent c.args.key)) fault)
+          (plain_place {A = g.row.A.Denot} (key_lent c.args.key)) fault)
           c.place_locked.result (locked_late c.args.frame.now locked k c.begin_late-block.result late) done.thread
           done.frame done.reads done.refused,
     )

@@ -12,7 +12,7 @@ returns-clause-reads g c =
     record { began = c.in-Some.ensures.began; keeps = c.begin.ensures.keeps; frame = c.begin.ensures.frame } in
     let done = c.place_locked.ensures in
     looked c.args.frame.now c.begin.new.self c.place_locked.new.frame c.args.dict.now.place c.in-Some.block
-    (λ before k place. Reads before c.place_locked.new.frame k (plain_place (key_lent c.args.key)) place)
+    (λ before k place. Reads before c.place_locked.new.frame k (plain_place {A = g.row.A.Denot} (key_lent c.args.key)) place)
     (λ before k fault. RefusedEntry before c.place_locked.new.frame k
-    (plain_place (key_lent c.args.key)) fault)
+    (plain_place {A = g.row.A.Denot} (key_lent c.args.key)) fault)
     c.place_locked.result since done.thread done.frame done.reads done.refused
