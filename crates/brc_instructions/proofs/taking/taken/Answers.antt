@@ -1,4 +1,7 @@
-use Rattle.std.proofs.Common.{Some, None, Ok, Err, sym}
+use Rattle.std.proofs.Common.{Some, None, Ok, Err, sym, subst}
+use Rattle.brc_block.specs.Lent_Keys.{key_lent}
+use Rattle.brc_containers.specs.Called.{Late}
+use Rattle.brc_dicts.specs.Calls.{DictPut}
 use Rattle.brc_count.specs.Frames.{HandleSeen}
 use Rattle.brc_lists.specs.Plain.{plain_push, plain_set, plain_send}
 use Rattle.brc_meaning.specs.declared.call.Call.TheVariants as calls
@@ -112,12 +115,13 @@ returns-in-Err-send-clause-asked g c base s reference own means =
 
 pub returns-in-Ok-dict_set-clause-later : goal.returns-in-Ok-dict_set-clause-later
 returns-in-Ok-dict_set-clause-later g c =
-    late_pair_put c.args.frame.now c.dict_set.new.frame c.in-Some.object.now.place c.in-Put.key.now c.args.given
+    late_pair_put c.args.frame.now c.dict_set.new.frame c.in-Some.object.now.place (key_lent c.of.result) c.args.given
     c.dict_set.result c.requires.besides.owned c.dict_set.ensures.put
 
 pub returns-in-Ok-dict_set-clause-asked : goal.returns-in-Ok-dict_set-clause-asked
 returns-in-Ok-dict_set-clause-asked g c base s reference own means =
     let new = c.dict_set.new.frame in
+    let place = c.in-Some.object.now.place in
     let result = Ok c.in-Ok-dict_set.old in
     put_as {V = HandleSeen} c.args.container base new c.args.registers.now s
     c.args.given reference result c.in-Put.is
@@ -125,17 +129,20 @@ returns-in-Ok-dict_set-clause-asked g c base s reference own means =
     c.args.given reference result
     (put_means base c.args.frame.now new c.args.registers.now s own c.args.container c.in-Some.object.now
     (sym c.in-Some.ensures)
-    c.args.given reference means c.requires.besides.apart HandleSeen c.in-Put.key.now result c.in-Ok-dict_set.ensures.put
+    c.args.given reference means c.requires.besides.apart HandleSeen c.in-Put.key.now result
+    (subst (λ key. Late c.args.frame.now place (λ mid. DictPut {V = HandleSeen} mid new place key c.args.given result))
+    c.of.ensures c.in-Ok-dict_set.ensures.put)
     c.in-Ok-dict_set.ensures.waited))
 
 pub returns-in-Err-dict_set-clause-later : goal.returns-in-Err-dict_set-clause-later
 returns-in-Err-dict_set-clause-later g c =
-    late_pair_put c.args.frame.now c.dict_set.new.frame c.in-Some.object.now.place c.in-Put.key.now c.args.given
+    late_pair_put c.args.frame.now c.dict_set.new.frame c.in-Some.object.now.place (key_lent c.of.result) c.args.given
     c.dict_set.result c.requires.besides.owned c.dict_set.ensures.put
 
 pub returns-in-Err-dict_set-clause-asked : goal.returns-in-Err-dict_set-clause-asked
 returns-in-Err-dict_set-clause-asked g c base s reference own means =
     let new = c.dict_set.new.frame in
+    let place = c.in-Some.object.now.place in
     let result = Err c.in-Err-dict_set.handed in
     put_as {V = HandleSeen} c.args.container base new c.args.registers.now s
     c.args.given reference result c.in-Put.is
@@ -143,5 +150,7 @@ returns-in-Err-dict_set-clause-asked g c base s reference own means =
     c.args.given reference result
     (put_means base c.args.frame.now new c.args.registers.now s own c.args.container c.in-Some.object.now
     (sym c.in-Some.ensures)
-    c.args.given reference means c.requires.besides.apart HandleSeen c.in-Put.key.now result c.in-Err-dict_set.ensures.put
+    c.args.given reference means c.requires.besides.apart HandleSeen c.in-Put.key.now result
+    (subst (λ key. Late c.args.frame.now place (λ mid. DictPut {V = HandleSeen} mid new place key c.args.given result))
+    c.of.ensures c.in-Err-dict_set.ensures.put)
     c.in-Err-dict_set.ensures.waited))

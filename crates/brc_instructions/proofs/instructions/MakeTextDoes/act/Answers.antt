@@ -18,7 +18,7 @@ returns-in-Ok-clause-follows g c base s own means =
     it.to c.in-Ok.made
     means c.new_text.ensures.heap c.hold.ensures.heap c.hold.ensures.quiet own c.hold.ensures.means it.text.now
     (subst (λ (bytes : List ℕ). Made c.args.frame.now c.new_text.new.frame (contents.Text bytes) c.in-Ok.made)
-    c.in_ok-copy.ensures.copied c.in-Ok.ensures.made)
+    c.in_ok-copy.ensures c.in-Ok.ensures.made)
 
 pub returns-in_err-copy-clause-why : goal.returns-in_err-copy-clause-why
 returns-in_err-copy-clause-why g c =
