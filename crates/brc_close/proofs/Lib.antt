@@ -4,3 +4,4 @@ mod Held
 mod Listing
 mod Collected
 mod Closed
+mod Ended
