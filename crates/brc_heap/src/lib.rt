@@ -5,7 +5,8 @@
 //! released, and lists, dictionaries and mailboxes read and changed under their locks. A `Handle` is a reference; it
 //! must be given back, by `Frame::release` or by a call that takes it. `Handles` keeps many. A thread ends by
 //! `Mutator::retire`, `end` or `depart`; what it owns is handed over, and once the root gathers it its number is given
-//! again. A heap ends by `close`, with a report of what is left, or by `take_apart` and `give_back`.
+//! again. A heap ends by `close_or_end`, with a report of what is left or why there is none; by `close`, which hands heap
+//! and root back if a thread isn't gathered; or by `take_apart` and `give_back`.
 //!
 //! What contracts of a client cite stands in `specs/Words.antt`: which handles a frame owns before and after a call.
 #![tactic(auto)]
@@ -16,7 +17,7 @@ mod fixed;
 pub use asking::{is_same, truth_of};
 
 // the heap and its threads
-pub use brc_close::{CloseFault, close};
+pub use brc_close::{CloseFault, NoReport, close, close_or_end};
 pub use brc_count::Ledger;
 pub use brc_report::{Cells, Content, Remain, Report, check_report, write_report};
 pub use brc_table::Rest;
