@@ -3,8 +3,7 @@ use Rattle.law_rule.specs.declared.contents.Contents.TheVariants as contents
 use Rattle.brc_count.specs.Making.{Made}
 use Rattle.law_isolation.proofs.Later_Calls.{later_made}
 use Rattle.brc_instructions.proofs.Follows_Of.{later_held, makes_text}
-use Rattle.std.proofs.lemmas.Result.{err_from_is_err_and}
-use Rattle.brc_instructions.proofs.Causes_Of.{caused_making, uncaused_memory}
+use Rattle.brc_instructions.proofs.Causes_Of.{caused_making}
 use Rattle.brc_instructions.proofs.instructions.MakeTextDoes.act.Goals as goal
 
 pub returns-in-Ok-clause-later : goal.returns-in-Ok-clause-later
@@ -19,11 +18,6 @@ returns-in-Ok-clause-follows g c base s own means =
     means c.new_text.ensures.heap c.hold.ensures.heap c.hold.ensures.quiet own c.hold.ensures.means it.text.now
     (subst (λ (bytes : List ℕ). Made c.args.frame.now c.new_text.new.frame (contents.Text bytes) c.in-Ok.made)
     c.in_ok-copy.ensures c.in-Ok.ensures.made)
-
-pub returns-in_err-copy-clause-why : goal.returns-in_err-copy-clause-why
-returns-in_err-copy-clause-why g c =
-    let answer = err_from_is_err_and c.from_residual.result c.from_residual.ensures.1 in
-    rw (answer.1, answer.2) (uncaused_memory c.args.frame.now c.args.frame.now _ c.in_err-copy.ensures.refused)
 
 pub returns-in-Err-clause-why : goal.returns-in-Err-clause-why
 returns-in-Err-clause-why g c = caused_making c.args.frame.now c.new_text.new.frame _ c.in-Err.ensures.refused
