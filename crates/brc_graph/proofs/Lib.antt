@@ -1,0 +1,4 @@
+mod CutLaws
+mod CellLaws
+mod WalkLaws
+mod DrawLaws
