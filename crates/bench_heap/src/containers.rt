@@ -68,6 +68,36 @@ impl<H: Home<A>, A: Allocator + Copy> Source<H, A> for Objects<A> {
     }
 }
 
+/// The value's reference goes beside the key, which is new; where that fails, no reference is left, and the answer is None.
+/// It is a function of its own, so that pushes to lists stay small.
+#[inline(never)]
+fn put_beside<R: Wait, H: Home<A>, A: Allocator + Copy>(
+    rt: &R,
+    frame: &mut Frame<H, A>,
+    dict: &Handle<A>,
+    key: Key<A>,
+    value: Handle<A>,
+) -> Option<()>
+    requires owned { Owns frame.old dict.now }
+    requires value_owned { Owns frame.old value }
+    requires apart { value.place ≢ dict.now.place }
+    requires unlocked { IsUnlocked frame.old }
+    ensures loses { Loses frame.old frame.new value }
+    ensures unlocked { IsUnlocked frame.new }
+{
+    match dict_put(rt, frame, dict, key, value) {
+        Err(handed) => {
+            frame.release(handed.back.1);
+            None
+        }
+        Ok(Some(other)) => {
+            frame.release(other);
+            None
+        }
+        Ok(None) => Some(()),
+    }
+}
+
 /// The value's reference goes into the container; where that fails, no reference is left, and the answer is None.
 #[inline(always)]
 pub fn put_in<R: Wait, H: Home<A>, A: Allocator + Copy>(
@@ -92,17 +122,7 @@ pub fn put_in<R: Wait, H: Home<A>, A: Allocator + Copy>(
             }
             Ok(()) => Some(()),
         },
-        Spot::Beside(key) => match dict_put(rt, frame, container, key, value) {
-            Err(handed) => {
-                frame.release(handed.back.1);
-                None
-            }
-            Ok(Some(other)) => {
-                frame.release(other);
-                None
-            }
-            Ok(None) => Some(()),
-        },
+        Spot::Beside(key) => put_beside(rt, frame, container, key, value),
     }
 }
 

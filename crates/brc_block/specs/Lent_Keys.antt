@@ -10,20 +10,20 @@ use Rattle.brc_block.specs.declared.key_ref.KeyRef.{KeyRef}
 use Rattle.brc_block.specs.declared.key_ref.KeyRef.TheVariants as lent
 
 -- the key that is lent
-abbrev pub key_of : {A : Type 0} → KeyRef → Key A
-key_of (lent.Int number) = Int number
-key_of (lent.Text text) = Text text.now
+abbrev pub key_lent : {A : Type 0} → KeyRef → Key A
+key_lent (lent.Int number) = Int number
+key_lent (lent.Text text) = Text text.now
 
 -- it feeds a hasher as that key does
 abbrev pub lent_fed : KeyRef → HashWrites
 lent_fed (lent.Int number) = fed.i64 number
 lent_fed (lent.Text text) = fed.str text.now
 
-lent_as_key : {A : Type 0} (key : KeyRef) (meant : Key A) → meant ≡ key_of key → lent_fed key ≡ fed_of meant
+lent_as_key : {A : Type 0} (key : KeyRef) (meant : Key A) → meant ≡ key_lent key → lent_fed key ≡ fed_of meant
 lent_as_key (lent.Int number) meant is = ap fed_of (sym is)
 lent_as_key (lent.Text text) meant is = ap fed_of (sym is)
 
 -- a key that it stands for is fed alike
-pub lent_alike : {A : Type 0} (key : KeyRef) (other : Key A) → same_key (key_of key) other ≡ true
+pub lent_alike : {A : Type 0} (key : KeyRef) (other : Key A) → same_key (key_lent key) other ≡ true
     → lent_fed key ≡ fed_of other
-lent_alike key other same = lent_as_key key (key_of key) refl ∙ same_key-fed (key_of key) other same
+lent_alike key other same = lent_as_key key (key_lent key) refl ∙ same_key-fed (key_lent key) other same

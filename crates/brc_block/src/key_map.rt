@@ -5,7 +5,7 @@ ghost use Rattle.std.specs.Prelude.{IfSome, IfNone, is_some, position, slice_get
 ghost use Rattle.std.specs.Map.{lookup};
 ghost use Rattle.std.specs.Option.{option_to_list};
 ghost use Rattle.brc_words.specs.Keys.{same_key};
-ghost use Rattle.brc_block.specs.Lent_Keys.{key_of};
+ghost use Rattle.brc_block.specs.Lent_Keys.{key_lent};
 ghost use Rattle.brc_block.specs.Pairs.{keys_in, cells_in};
 
 use crate::key_ref::KeyRef;
@@ -70,10 +70,10 @@ impl<A: Allocator> KeyMap<A> {
     #[inline(always)]
     pub(crate) fn find(&self, key: KeyRef<'_>) -> Option<usize>
         ensures found { IfSome result
-            (λ index. slice_get (keys_in self.now.items) index ≡ Some (key_of key.entry)) }
+            (λ index. slice_get (keys_in self.now.items) index ≡ Some (key_lent key.entry)) }
         ensures first { IfSome result
-            (λ index. All (λ other. other ≢ key_of key.entry) (take index (keys_in self.now.items))) }
-        ensures none { IfNone result (All (λ other. other ≢ key_of key.entry) (keys_in self.now.items)) }
+            (λ index. All (λ other. other ≢ key_lent key.entry) (take index (keys_in self.now.items))) }
+        ensures none { IfNone result (All (λ other. other ≢ key_lent key.entry) (keys_in self.now.items)) }
     {
         self.index_of(key)
     }
@@ -81,8 +81,8 @@ impl<A: Allocator> KeyMap<A> {
     /// The same, as the first place of the key. A number is compared as one: its hash and its comparison fold.
     #[inline(always)]
     fn index_of(&self, key: KeyRef<'_>) -> Option<usize>
-        ensures first { result ≡ position (same_key (key_of key.entry)) (keys_in self.now.items) }
-        ensures there { is_some result ≡ is_some (lookup (same_key (key_of key.entry)) self.now.items) }
+        ensures first { result ≡ position (same_key (key_lent key.entry)) (keys_in self.now.items) }
+        ensures there { is_some result ≡ is_some (lookup (same_key (key_lent key.entry)) self.now.items) }
     {
         match key {
             KeyRef::Int(number) => self.map.get_index_of(KeyRef::Int(number)),
@@ -93,8 +93,8 @@ impl<A: Allocator> KeyMap<A> {
     /// The same of a text, out of the way of numbers.
     #[inline(never)]
     fn index_of_text(&self, key: KeyRef<'_>) -> Option<usize>
-        ensures first { result ≡ position (same_key (key_of key.entry)) (keys_in self.now.items) }
-        ensures there { is_some result ≡ is_some (lookup (same_key (key_of key.entry)) self.now.items) }
+        ensures first { result ≡ position (same_key (key_lent key.entry)) (keys_in self.now.items) }
+        ensures there { is_some result ≡ is_some (lookup (same_key (key_lent key.entry)) self.now.items) }
     {
         self.map.get_index_of(key)
     }

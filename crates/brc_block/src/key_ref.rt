@@ -4,7 +4,7 @@ ghost use Rattle.std.specs.Prelude.{◌≡◌, IfOk};
 ghost use Rattle.std.specs.Cmp.Rules.{comparing, hashing};
 ghost use Rattle.std.proofs.Common.{rules};
 ghost use Rattle.brc_words.specs.Keys.{same_key, same_key-equiv};
-ghost use Rattle.brc_block.specs.Lent_Keys.{key_of, lent_fed, lent_alike};
+ghost use Rattle.brc_block.specs.Lent_Keys.{key_lent, lent_fed, lent_alike};
 
 use brc_words::{Key, Text};
 use indexmap::Equivalent;
@@ -22,7 +22,7 @@ impl<'k> KeyRef<'k> {
     /// The key, lent.
     #[inline(always)]
     pub fn of<A: Allocator>(key: &'k Key<A>) -> KeyRef<'k>
-        ensures { key_of result ≡ key.now }
+        ensures { key_lent result ≡ key.now }
     {
         match key {
             Key::Int(number) => KeyRef::Int(*number),
@@ -32,7 +32,7 @@ impl<'k> KeyRef<'k> {
 
     /// The same key with memory of its own; only a text's asks for it.
     pub fn copy<A: Allocator>(self, alloc: A) -> Result<Key<A>, AllocError>
-        ensures { IfOk result (λ copy. copy ≡ key_of self.entry) }
+        ensures { IfOk result (λ copy. copy ≡ key_lent self.entry) }
     {
         match self {
             KeyRef::Int(number) => Ok(Key::Int(number)),
@@ -57,11 +57,11 @@ impl<'k> Hash for KeyRef<'k> {
 }
 
 impl<'k, A: Allocator> Equivalent<Key<A>> for KeyRef<'k> {
-    ghost equivalent = { λ lent. same_key (key_of lent) };
+    ghost equivalent = { λ lent. same_key (key_lent lent) };
 
     ghost respects_hash = { lent_alike };
 
-    ghost respects_eq = { λ lent x y. same_key-equiv.congr (key_of lent) x y };
+    ghost respects_eq = { λ lent x y. same_key-equiv.congr (key_lent lent) x y };
 
     #[inline(always)]
     fn equivalent(&self, key: &Key<A>) -> bool {

@@ -3,7 +3,7 @@
 ghost use Rattle.std.specs.Prelude.{◌≡◌, ◌≢◌, ◌+◌, ◌<◌, ◌≤◌, ◌++◌, [], ◌∷◌, length, take, All, Some, None, OnOk, OnErr};
 ghost use Rattle.std.specs.Prelude.{IfOk, IfErr, IfSome, IfNone, slice_get, slice_set, remove};
 ghost use Rattle.std.specs.Option.{option_to_list};
-ghost use Rattle.brc_block.specs.Lent_Keys.{key_of};
+ghost use Rattle.brc_block.specs.Lent_Keys.{key_lent};
 ghost use Rattle.brc_block.specs.Pairs.{keys_in, cells_in};
 
 use crate::key_map::KeyMap;
@@ -91,10 +91,10 @@ impl<A: Allocator> Pairs<A> {
     #[inline(always)]
     pub fn find(&self, key: KeyRef<'_>) -> Option<usize>
         ensures found { IfSome result
-            (λ index. slice_get (keys_in self.now.items) index ≡ Some (key_of key.entry)) }
+            (λ index. slice_get (keys_in self.now.items) index ≡ Some (key_lent key.entry)) }
         ensures first { IfSome result
-            (λ index. All (λ other. other ≢ key_of key.entry) (take index (keys_in self.now.items))) }
-        ensures none { IfNone result (All (λ other. other ≢ key_of key.entry) (keys_in self.now.items)) }
+            (λ index. All (λ other. other ≢ key_lent key.entry) (take index (keys_in self.now.items))) }
+        ensures none { IfNone result (All (λ other. other ≢ key_lent key.entry) (keys_in self.now.items)) }
     {
         match &self.map {
             None => None,

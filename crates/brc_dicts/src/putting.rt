@@ -4,7 +4,7 @@ ghost use Rattle.std.specs.Prelude.{◌≡◌, ◌≢◌, ◌<◌, Some, None, I
 ghost use Rattle.brc_words.specs.declared.fault.Fault.TheVariants as faults;
 ghost use Rattle.brc_words.specs.declared.kind.Kind.TheVariants as kinds;
 ghost use Rattle.brc_words.specs.declared.limits.TheConstants.{MOST_ENTRIES};
-ghost use Rattle.brc_block.specs.Lent_Keys.{key_of};
+ghost use Rattle.brc_block.specs.Lent_Keys.{key_lent};
 ghost use Rattle.brc_block.specs.Payload.{kind_of, entries_of, keys_of, spare_of};
 ghost use Rattle.brc_table.specs.Shown.{contents_of};
 ghost use Rattle.brc_count.specs.Frames.{IsUnlocked, Owns};
@@ -116,11 +116,11 @@ fn replace_locked<H: Home<A>, A: Allocator>(
     requires found { contents_found frame.old ≡ contents_of block.1 }
     requires value_owned { Owns frame.old value }
     requires apart { place_locked frame.old ≢ Some value.place }
-    requires there { IsThere block.1 (key_of key.entry) index entry }
+    requires there { IsThere block.1 (key_lent key.entry) index entry }
     ensures thread { KeepsThread frame.old frame.new }
     ensures unlocked { IsUnlocked frame.new }
     ensures put { Since frame.old block
-        (λ before k. HasPut before frame.new k (key_of key.entry) value (Some result)) }
+        (λ before k. HasPut before frame.new k (key_lent key.entry) value (Some result)) }
     ensures owns { OwnsPut frame.old frame.new value (Some result) }
 {
     let place = index as u32;
@@ -173,7 +173,7 @@ fn put_locked<H: Home<A>, A: Allocator + Copy>(
 
 /// A copy of a key that goes into a dictionary: Full where that has as many pairs as it may, then OutOfMemory.
 fn copy_for<A: Allocator>(alloc: A, payload: &Payload<A>, key: KeyRef<'_>) -> Result<Key<A>, Fault>
-    ensures copy { IfOk result (λ copy. copy ≡ key_of key.entry) }
+    ensures copy { IfOk result (λ copy. copy ≡ key_lent key.entry) }
     ensures refused { IfErr result (RefusedRoom (length (entries_of payload.now))) }
 {
     if payload.len() >= MOST_ENTRIES as usize {
@@ -199,16 +199,16 @@ fn append_copy<H: Home<A>, A: Allocator + Copy>(
     requires found { contents_found frame.old ≡ contents_of block.1 }
     requires value_owned { Owns frame.old value }
     requires apart { place_locked frame.old ≢ Some value.place }
-    requires absent { IsAbsent block.1 (key_of key.entry) }
+    requires absent { IsAbsent block.1 (key_lent key.entry) }
     ensures thread { KeepsThread frame.old frame.new }
     ensures unlocked { IsUnlocked frame.new }
     ensures put { IfOk result (λ answer. Since frame.old block
-        (λ before k. HasPut before frame.new k (key_of key.entry) value answer)) }
+        (λ before k. HasPut before frame.new k (key_lent key.entry) value answer)) }
     ensures owns { IfOk result (OwnsPut frame.old frame.new value) }
     ensures back { IfErr result (λ handed. handed.back ≡ value) }
     ensures frame { IfErr result (λ handed. KeepsFrame frame.old frame.new) }
     ensures refused { IfErr result (λ handed. Since frame.old block
-        (λ before k. RefusedPut before frame.new k (key_of key.entry) value handed.fault)) }
+        (λ before k. RefusedPut before frame.new k (key_lent key.entry) value handed.fault)) }
     ensures waits { IfErr result (λ handed. handed.fault ≢ faults.Busy) }
 {
     match copy_for(alloc, block.payload(), key) {
@@ -245,12 +245,12 @@ fn set_locked<H: Home<A>, A: Allocator + Copy>(
     ensures thread { KeepsThread frame.old frame.new }
     ensures unlocked { IsUnlocked frame.new }
     ensures put { IfOk result (λ answer. Since frame.old block
-        (λ before k. HasPut before frame.new k (key_of key.entry) value answer)) }
+        (λ before k. HasPut before frame.new k (key_lent key.entry) value answer)) }
     ensures owns { IfOk result (OwnsPut frame.old frame.new value) }
     ensures back { IfErr result (λ handed. handed.back ≡ value) }
     ensures frame { IfErr result (λ handed. KeepsFrame frame.old frame.new) }
     ensures refused { IfErr result (λ handed. Since frame.old block
-        (λ before k. RefusedPut before frame.new k (key_of key.entry) value handed.fault)) }
+        (λ before k. RefusedPut before frame.new k (key_lent key.entry) value handed.fault)) }
     ensures waits { IfErr result (λ handed. handed.fault ≢ faults.Busy) }
 {
     match seek(block.payload(), key) {
@@ -339,7 +339,7 @@ pub fn try_dict_set<H: Home<A>, A: Allocator + Copy>(
     requires value_owned { Owns frame.old value }
     requires apart { value.place ≢ dict.now.place }
     requires unlocked { IsUnlocked frame.old }
-    ensures put { DictPut frame.old frame.new dict.now.place (key_of key.entry) value result }
+    ensures put { DictPut frame.old frame.new dict.now.place (key_lent key.entry) value result }
     ensures owns { IfOk result (OwnsPut frame.old frame.new value) }
     ensures keeps { OnErr result (Keeps frame.old frame.new) }
     ensures unlocked { IsUnlocked frame.new }
@@ -369,7 +369,7 @@ pub fn dict_set<H: Home<A>, A: Allocator + Copy>(
     requires value_owned { Owns frame.old value }
     requires apart { value.place ≢ dict.now.place }
     requires unlocked { IsUnlocked frame.old }
-    ensures put { Late frame.old dict.now.place (λ mid. DictPut mid frame.new dict.now.place (key_of key.entry) value result) }
+    ensures put { Late frame.old dict.now.place (λ mid. DictPut mid frame.new dict.now.place (key_lent key.entry) value result) }
     ensures owns { IfOk result (OwnsPut frame.old frame.new value) }
     ensures keeps { OnErr result (Keeps frame.old frame.new) }
     ensures unlocked { IsUnlocked frame.new }

@@ -1,6 +1,6 @@
 //! Where a key stands in an object.
 
-ghost use Rattle.brc_block.specs.Lent_Keys.{key_of};
+ghost use Rattle.brc_block.specs.Lent_Keys.{key_lent};
 ghost use Rattle.brc_dicts.specs.Seeking.{Seeks};
 
 use brc_block::{KeyRef, Payload};
@@ -20,7 +20,7 @@ pub(crate) enum Sought {
 /// Looks for the key, once.
 #[inline(always)]
 pub(crate) fn seek<A: Allocator>(payload: &Payload<A>, key: KeyRef<'_>) -> Sought
-    ensures { Seeks payload.now (key_of key.entry) result }
+    ensures { Seeks payload.now (key_lent key.entry) result }
 {
     let Payload::Dict(pairs) = payload else {
         return Sought::WrongKind;

@@ -2,7 +2,7 @@
 
 ghost use Rattle.std.specs.Prelude.{◌≡◌, ◌≢◌, Some, IfOk, IfErr, OnErr};
 ghost use Rattle.brc_words.specs.declared.fault.Fault.TheVariants as faults;
-ghost use Rattle.brc_block.specs.Lent_Keys.{key_of};
+ghost use Rattle.brc_block.specs.Lent_Keys.{key_lent};
 ghost use Rattle.brc_table.specs.Shown.{contents_of};
 ghost use Rattle.brc_count.specs.Frames.{IsUnlocked, Owns};
 ghost use Rattle.brc_count.specs.Locking.{IsLocked, cell_locked, contents_found, KeepsThread};
@@ -35,11 +35,11 @@ fn find_locked<H: Home<A>, A: Allocator>(
     ensures thread { KeepsThread frame.old frame.new }
     ensures unlocked { IsUnlocked frame.new }
     ensures shares { IfOk result (λ given. Since frame.old block
-        (λ before k. Shares before frame.new k (plain_find (key_of key.entry)) given)) }
+        (λ before k. Shares before frame.new k (plain_find (key_lent key.entry)) given)) }
     ensures gains { IfOk result (Gains frame.old frame.new) }
     ensures places { IfErr result (λ fault. KeepsPlaces frame.old frame.new) }
     ensures refused { IfErr result (λ fault. Since frame.old block
-        (λ before k. RefusedPlace before frame.new k (plain_find (key_of key.entry)) fault)) }
+        (λ before k. RefusedPlace before frame.new k (plain_find (key_lent key.entry)) fault)) }
     ensures waits { IfErr result (λ fault. fault ≢ faults.Busy) }
 {
     let (index, cell) = match seek(block.payload(), key) {
@@ -71,7 +71,7 @@ pub fn try_dict_find_by<H: Home<A>, A: Allocator>(
 ) -> Result<Handle<A>, Fault>
     requires owned { Owns frame.old dict.now }
     requires unlocked { IsUnlocked frame.old }
-    ensures shares { DictFind frame.old frame.new dict.now.place (key_of key.entry) result }
+    ensures shares { DictFind frame.old frame.new dict.now.place (key_lent key.entry) result }
     ensures gains { IfOk result (Gains frame.old frame.new) }
     ensures keeps { OnErr result (Keeps frame.old frame.new) }
     ensures unlocked { IsUnlocked frame.new }
@@ -110,7 +110,7 @@ pub fn dict_find_by<H: Home<A>, A: Allocator>(
 ) -> Result<Handle<A>, Fault>
     requires owned { Owns frame.old dict.now }
     requires unlocked { IsUnlocked frame.old }
-    ensures shares { Late frame.old dict.now.place (λ mid. DictFind mid frame.new dict.now.place (key_of key.entry) result) }
+    ensures shares { Late frame.old dict.now.place (λ mid. DictFind mid frame.new dict.now.place (key_lent key.entry) result) }
     ensures gains { IfOk result (Gains frame.old frame.new) }
     ensures keeps { OnErr result (Keeps frame.old frame.new) }
     ensures unlocked { IsUnlocked frame.new }
@@ -152,11 +152,11 @@ fn del_locked<H: Home<A>, A: Allocator>(
     ensures thread { KeepsThread frame.old frame.new }
     ensures unlocked { IsUnlocked frame.new }
     ensures takes { IfOk result (λ given. Since frame.old block
-        (λ before k. Takes before frame.new k (plain_del (key_of key.entry)) given)) }
+        (λ before k. Takes before frame.new k (plain_del (key_lent key.entry)) given)) }
     ensures gains { IfOk result (Gains frame.old frame.new) }
     ensures places { IfErr result (λ fault. KeepsPlaces frame.old frame.new) }
     ensures refused { IfErr result (λ fault. Since frame.old block
-        (λ before k. RefusedPlace before frame.new k (plain_del (key_of key.entry)) fault)) }
+        (λ before k. RefusedPlace before frame.new k (plain_del (key_lent key.entry)) fault)) }
     ensures waits { IfErr result (λ fault. fault ≢ faults.Busy) }
 {
     let (index, cell) = match seek(block.payload(), key) {
@@ -187,7 +187,7 @@ pub fn try_dict_del_by<H: Home<A>, A: Allocator>(
 ) -> Result<Handle<A>, Fault>
     requires owned { Owns frame.old dict.now }
     requires unlocked { IsUnlocked frame.old }
-    ensures takes { DictDel frame.old frame.new dict.now.place (key_of key.entry) result }
+    ensures takes { DictDel frame.old frame.new dict.now.place (key_lent key.entry) result }
     ensures gains { IfOk result (Gains frame.old frame.new) }
     ensures keeps { OnErr result (Keeps frame.old frame.new) }
     ensures unlocked { IsUnlocked frame.new }
@@ -224,7 +224,7 @@ pub fn dict_del_by<H: Home<A>, A: Allocator>(
 ) -> Result<Handle<A>, Fault>
     requires owned { Owns frame.old dict.now }
     requires unlocked { IsUnlocked frame.old }
-    ensures takes { Late frame.old dict.now.place (λ mid. DictDel mid frame.new dict.now.place (key_of key.entry) result) }
+    ensures takes { Late frame.old dict.now.place (λ mid. DictDel mid frame.new dict.now.place (key_lent key.entry) result) }
     ensures gains { IfOk result (Gains frame.old frame.new) }
     ensures keeps { OnErr result (Keeps frame.old frame.new) }
     ensures unlocked { IsUnlocked frame.new }

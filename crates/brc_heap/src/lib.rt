@@ -32,11 +32,11 @@ pub use fixed::Frame;
 pub use brc_things::{new_dict, new_int, new_list, new_mailbox, new_text, none, truth};
 
 // what they are and hold
+pub use brc_block::KeyRef;
 pub use brc_containers::{
     int_of, kind_of, len_of, text_into, text_of, try_int_of, try_kind_of, try_len_of,
     try_text_into, try_text_of,
 };
-pub use brc_block::KeyRef;
 pub use brc_dicts::{
     dict_del, dict_del_by, dict_find, dict_find_by, dict_key, dict_pair, dict_put, dict_set,
     try_dict_del, try_dict_del_by, try_dict_find, try_dict_find_by, try_dict_key, try_dict_pair,

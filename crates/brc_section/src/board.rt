@@ -4,6 +4,8 @@
 //! that it looks before it does (`tries`), so that a change after its look finds it looking or waiting, and wakes it.
 //! Where each section waits or has ended, and nothing has changed since each looked, nothing can change any more, and
 //! all that wait give up.
+//!
+//! Before a section says that it looks it tries for a while (`waiting.rt`). The board takes it for one that runs.
 
 ghost use Rattle.std.specs.Prelude.{◌≡◌, IfOk, IfErr};
 ghost use Rattle.brc_words.specs.declared.fault.Fault.TheVariants.{OutOfMemory};

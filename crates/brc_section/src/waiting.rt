@@ -10,7 +10,11 @@ use brc_instructions::{Does, Done, Give, GiveGlobal, Giving, Registers};
 use brc_script::Register;
 use brc_words::{Fault, Key};
 use std::alloc::Allocator;
+use std::hint;
 use std::sync::Wait;
+
+/// How many times a section tries before the board is told that it looks.
+const TRIES: u32 = 100;
 
 /// Which section of a board it is, and how much its thread works between two instructions.
 #[derive(Drop)]
@@ -67,8 +71,60 @@ fn is_nothing(tried: &Done) -> bool
     matches!(tried, Err(Fault::NoSuchKey | Fault::NoSuchPlace))
 }
 
-/// One try after another, each after a poll and work: what others dropped meanwhile is this thread's to free, and a
-/// section that waited without it would keep every cell of theirs.
+/// One try, after a poll and work: what others dropped meanwhile is this thread's to free, and a section that waited
+/// without it would keep every cell of theirs. Between two tries the processor pauses, and its time is not given away.
+#[derive(Drop)]
+struct LookNext<'w, A: Allocator> {
+    look: &'w Look<'w, A>,
+    seated: &'w Seated<'w, A>,
+}
+
+impl<'w, R: Wait, H: Home<A>, A: Allocator + Copy> Does<R, H, A> for LookNext<'w, A> {
+    ghost follows = { λ it. FollowsLetter it.look.now.awaited it.look.now.to };
+
+    ghost why = { λ it. WantsForLetter it.look.now.awaited };
+
+    fn act(&self, rt: &R, alloc: A, frame: &mut Frame<H, A>, registers: &mut Registers<A>) -> Done {
+        let _told = frame.poll();
+        let _left = frame.work(self.seated.budget);
+        hint::spin_loop();
+        self.look.act(rt, alloc, frame, registers)
+    }
+}
+
+/// `TRIES` tries, up to the first that finds something or is refused.
+///
+/// A section tries before it sleeps, since to sleep and be woken takes longer than most handovers do. The board
+/// doesn't know of these tries. A change that comes meanwhile wakes nobody, and needn't: the next try finds it, and
+/// after the last comes one that the board knows of (`LookAgain`). A section that waits so still polls and works.
+#[derive(Drop)]
+struct LookSoon<'w, A: Allocator> {
+    look: &'w Look<'w, A>,
+    seated: &'w Seated<'w, A>,
+}
+
+impl<'w, R: Wait, H: Home<A>, A: Allocator + Copy> Does<R, H, A> for LookSoon<'w, A> {
+    ghost follows = { λ it. FollowsLetter it.look.now.awaited it.look.now.to };
+
+    ghost why = { λ it. WantsForLetter it.look.now.awaited };
+
+    fn act(&self, rt: &R, alloc: A, frame: &mut Frame<H, A>, registers: &mut Registers<A>) -> Done {
+        let next = LookNext {
+            look: self.look,
+            seated: self.seated,
+        };
+        for _ in 1..TRIES {
+            let tried = next.act(rt, alloc, frame, registers);
+            if !is_nothing(&tried) {
+                return tried;
+            }
+        }
+        next.act(rt, alloc, frame, registers)
+    }
+}
+
+/// One round after another: tries that the board doesn't know of, then one that it knows of, and then the section
+/// sleeps until something has changed.
 #[derive(Drop)]
 struct LookAgain<'w, A: Allocator> {
     look: &'w Look<'w, A>,
@@ -82,7 +138,15 @@ impl<'w, R: Wait, H: Home<A>, A: Allocator + Copy> Does<R, H, A> for LookAgain<'
 
     fn act(&self, rt: &R, alloc: A, frame: &mut Frame<H, A>, registers: &mut Registers<A>) -> Done {
         let seated = self.seated;
+        let tries = LookSoon {
+            look: self.look,
+            seated,
+        };
         for _ in rt.forever() {
+            let soon = tries.act(rt, alloc, frame, registers);
+            if !is_nothing(&soon) {
+                return soon;
+            }
             let _told = frame.poll();
             let _left = frame.work(seated.budget);
             seated.board.looks(rt, seated.number);

@@ -1,6 +1,6 @@
 use Rattle.std.proofs.Common.{refl, subst, length}
 use Rattle.brc_words.specs.declared.key.Key.{Key}
-use Rattle.brc_block.specs.Lent_Keys.{key_of}
+use Rattle.brc_block.specs.Lent_Keys.{key_lent}
 use Rattle.brc_block.specs.Payload.{entries_of}
 use Rattle.brc_dicts.specs.Putting.{RefusedRoom, RefusedPut}
 use Rattle.brc_dicts.proofs.Locked.{stood, ended_same, refused_append}
@@ -8,7 +8,7 @@ use Rattle.brc_dicts.proofs.putting.append_copy.Goals as goal
 
 pub returns-in-Err-clause-refused : goal.returns-in-Err-clause-refused
 returns-in-Err-clause-refused g c = λ before k since value at.
-    refused_append before c.args.frame.now c.end_keep.new.self k c.args.block (key_of c.args.key) value c.in-Err.fault
+    refused_append before c.args.frame.now c.end_keep.new.self k c.args.block (key_lent c.args.key) value c.in-Err.fault
     (stood before c.args.frame.now k c.args.block since)
     (ended_same c.args.frame.now c.end_keep.new.self _ c.args.block c.args.block.1 c.end_keep.ensures.ended refl)
     c.requires.absent

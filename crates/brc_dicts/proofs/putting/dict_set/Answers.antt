@@ -1,4 +1,4 @@
-use Rattle.brc_block.specs.Lent_Keys.{key_of}
+use Rattle.brc_block.specs.Lent_Keys.{key_lent}
 use Rattle.brc_dicts.specs.Putting.{HasPut, RefusedPut}
 use Rattle.brc_dicts.proofs.Since_Law.{locked_late, takes_in}
 use Rattle.brc_dicts.proofs.putting.dict_set.Goals as goal
@@ -12,8 +12,8 @@ returns-clause-put g c =
       late.mid,
       late.waits,
       takes_in late.mid locked c.set_locked.new.frame k c.begin_late-block.result
-          (λ before j answer. HasPut before c.set_locked.new.frame j (key_of c.args.key) c.args.value answer)
-          (λ before j fault. RefusedPut before c.set_locked.new.frame j (key_of c.args.key) c.args.value fault)
+          (λ before j answer. HasPut before c.set_locked.new.frame j (key_lent c.args.key) c.args.value answer)
+          (λ before j fault. RefusedPut before c.set_locked.new.frame j (key_lent c.args.key) c.args.value fault)
           c.set_locked.result (locked_late c.args.frame.now locked k c.begin_late-block.result late) up.thread up.put
           up.frame up.refused,
     )

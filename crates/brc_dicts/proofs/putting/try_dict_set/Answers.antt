@@ -1,4 +1,4 @@
-use Rattle.brc_block.specs.Lent_Keys.{key_of}
+use Rattle.brc_block.specs.Lent_Keys.{key_lent}
 use Rattle.brc_dicts.specs.Putting.{HasPut, RefusedPut}
 use Rattle.brc_dicts.specs.Since.{HasLocked}
 use Rattle.brc_dicts.proofs.Since_Law.{takes_in}
@@ -10,6 +10,6 @@ returns-clause-put g c =
     record { began = c.in-Some.ensures.began; keeps = c.begin.ensures.keeps; frame = c.begin.ensures.frame } in
     let up = c.set_locked.ensures in
     takes_in c.args.frame.now c.begin.new.self c.set_locked.new.frame c.args.dict.now.place c.in-Some.block
-    (λ before k answer. HasPut before c.set_locked.new.frame k (key_of c.args.key) c.args.value answer)
-    (λ before k fault. RefusedPut before c.set_locked.new.frame k (key_of c.args.key) c.args.value fault)
+    (λ before k answer. HasPut before c.set_locked.new.frame k (key_lent c.args.key) c.args.value answer)
+    (λ before k fault. RefusedPut before c.set_locked.new.frame k (key_lent c.args.key) c.args.value fault)
     c.set_locked.result since up.thread up.put up.frame up.refused

@@ -1,4 +1,4 @@
-use Rattle.brc_block.specs.Lent_Keys.{key_of}
+use Rattle.brc_block.specs.Lent_Keys.{key_lent}
 use Rattle.brc_containers.specs.Changing.{Shares, RefusedPlace}
 use Rattle.brc_dicts.specs.Plain.{plain_find}
 use Rattle.brc_dicts.specs.Since.{HasLocked}
@@ -11,6 +11,6 @@ returns-clause-shares g c =
     record { began = c.in-Some.ensures.began; keeps = c.begin.ensures.keeps; frame = c.begin.ensures.frame } in
     let up = c.find_locked.ensures in
     hands_out c.args.frame.now c.begin.new.self c.find_locked.new.frame c.args.dict.now.place c.in-Some.block
-    (λ before k given. Shares before c.find_locked.new.frame k (plain_find (key_of c.args.key)) given)
-    (λ before k fault. RefusedPlace before c.find_locked.new.frame k (plain_find (key_of c.args.key)) fault)
+    (λ before k given. Shares before c.find_locked.new.frame k (plain_find (key_lent c.args.key)) given)
+    (λ before k fault. RefusedPlace before c.find_locked.new.frame k (plain_find (key_lent c.args.key)) fault)
     c.find_locked.result since up.thread up.shares up.places up.refused
