@@ -1,11 +1,26 @@
 -- One more cell of a cycle, or none.
 use Rattle.std.proofs.Common.{◌≡◌, ◌∙◌, ℕ, zero, suc, ◌+◌, ◌≤◌, List, [], ◌∷◌, ◌++◌, Option, Some, None, refl, sym, ap, add-one}
-use Rattle.std.proofs.Common.{arith}
+use Rattle.std.proofs.Common.{arith, Bor}
+use Rattle.std.specs.Prelude.{MatchOption}
 use Rattle.brc_text.specs.Tokens.{◌>>=◌}
 use Rattle.brc_text.specs.Lines.{cut}
+use Rattle.brc_text.proofs.KeywordLaws.{same_some}
 use Rattle.brc_graph.specs.declared.cells.TheConstants.{HIGHEST_CELL}
 use Rattle.brc_graph.specs.Operands.{within}
 use Rattle.brc_graph.specs.Cells.{followed, cells_from}
+
+-- what is found behind the space is what stands there
+
+pub none_behind : (found : Option (Bor (List ℕ))) (behind : Option (List ℕ))
+    → MatchOption found (behind ≡ None) (λ rest. behind ≡ Some rest.now) → found ≡ None → behind ≡ None
+none_behind None behind h is = h
+none_behind (Some rest) behind h is = absurd cc
+
+pub some_behind : (found : Option (Bor (List ℕ))) (behind : Option (List ℕ)) (later : Bor (List ℕ))
+    → MatchOption found (behind ≡ None) (λ rest. behind ≡ Some rest.now) → found ≡ Some later
+    → behind ≡ Some later.now
+some_behind None behind later h is = absurd cc
+some_behind (Some rest) behind later h is = h ∙ ap (λ (r : Bor (List ℕ)). Some r.now) (same_some is)
 
 -- what one turn does, by the cell that is read
 by_cell : (left next : ℕ) (before bytes word : List ℕ) (cell : Option ℕ) → left ≡ next + 1 → word ≡ (cut 32 bytes).0

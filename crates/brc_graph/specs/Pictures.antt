@@ -29,17 +29,22 @@ object_text cell kind = together (object_parts cell kind)
 abbrev pub remain_text : ℕ → Keyword → ℕ → List ℕ
 remain_text cell kind holder = together (object_parts cell kind ++ link_parts holder cell)
 
--- `  tT [label="thread T STATUS", shape=box]`
-abbrev pub thread_text : ℕ → Keyword → List ℕ
-thread_text thread status =
-    together (codes "  t" ∷ decimal thread ∷ codes " [label=\"thread " ∷ decimal thread ∷ codes " " ∷ keyword status
+-- `  tT [label="thread T STATUS", shape=box]`, of the words in it
+abbrev pub thread_line : List ℕ → List ℕ → List ℕ
+thread_line thread status =
+    together (codes "  t" ∷ thread ∷ codes " [label=\"thread " ∷ thread ∷ codes " " ∷ status
     ∷ codes "\", shape=box]\n" ∷ [])
 
--- `  tT -> CELL [label="frame K"]`
+abbrev pub thread_text : ℕ → Keyword → List ℕ
+thread_text thread status = thread_line (decimal thread) (keyword status)
+
+-- `  tT -> CELL [label="frame K"]`, of the words in it
+abbrev pub frame_line : List ℕ → List ℕ → List ℕ → List ℕ
+frame_line thread place cell =
+    together (codes "  t" ∷ thread ∷ codes " -> " ∷ cell ∷ codes " [label=\"frame " ∷ place ∷ codes "\"]\n" ∷ [])
+
 abbrev pub frame_text : ℕ → ℕ → ℕ → List ℕ
-frame_text thread place cell =
-    together (codes "  t" ∷ decimal thread ∷ codes " -> " ∷ decimal cell ∷ codes " [label=\"frame " ∷ decimal place
-    ∷ codes "\"]\n" ∷ [])
+frame_text thread place cell = frame_line (decimal thread) (decimal place) (decimal cell)
 
 -- `  tT -> CELL [label="WORD"]`
 abbrev pub held_text : ℕ → Keyword → ℕ → List ℕ

@@ -1,8 +1,8 @@
 //! Reading a text: what is drawn for its lines, or the first of them that can't stand there.
 
-ghost use Rattle.std.specs.Prelude.{◌≡◌, ◌≤◌, [], length};
+ghost use Rattle.std.specs.Prelude.{◌≡◌, ◌≤◌, [], length, Some, None, MatchOption};
 ghost use Rattle.brc_words.specs.declared.limits.TheConstants.{MOST_INPUT};
-ghost use Rattle.brc_text.specs.Lines.{pieces};
+ghost use Rattle.brc_text.specs.Lines.{cut, pieces};
 ghost use Rattle.brc_graph.specs.declared.part.Part.TheVariants.{Start};
 ghost use Rattle.brc_graph.specs.Reading.{walk, graph_at, Gives};
 
@@ -13,6 +13,17 @@ use crate::part::{Part, is_whole};
 use crate::undrawn::Undrawn;
 use brc_words::MOST_INPUT;
 use std::alloc::Allocator;
+
+/// The first line without its line feed, and what stands behind it; none if no line feed ends it.
+fn ended_line(text: &[u8]) -> Option<(&[u8], &[u8])>
+    ensures { MatchOption result ((cut 10 text.now).1 ≡ None)
+        (λ found. (found.0.now ≡ (cut 10 text.now).0) × ((cut 10 text.now).1 ≡ Some found.1.now)) }
+{
+    match cut(text, b'\n') {
+        (line, Some(behind)) => Some((line, behind)),
+        (_, None) => None,
+    }
+}
 
 /// What is drawn for the lines.
 fn drawn_of_text<A: Allocator + Copy>(alloc: A, text: &[u8]) -> Result<Vec<Drawn<A>, A>, Undrawn>
@@ -25,7 +36,7 @@ fn drawn_of_text<A: Allocator + Copy>(alloc: A, text: &[u8]) -> Result<Vec<Drawn
     let mut number: u32 = 1;
     let mut rest = text;
     while !rest.is_empty() {
-        let (line, Some(behind)) = cut(rest, b'\n') else {
+        let Some((line, behind)) = ended_line(rest) else {
             return Err(Undrawn::BadLine(number));
         };
         let Some((next, shown)) = step(alloc, part, line)? else {

@@ -2,8 +2,9 @@
 
 ghost use Rattle.std.specs.Prelude.{◌≡◌};
 ghost use Rattle.brc_text.specs.Puts.{Puts};
-ghost use Rattle.brc_graph.specs.Pictures.{object_text, remain_text, thread_text, frame_text, held_text, entry_text};
-ghost use Rattle.brc_graph.specs.Pictures.{ring_head, ring_text, cycle_text, drawn_text, drawn_texts, graph_text};
+ghost use Rattle.brc_graph.specs.Pictures.{object_text, remain_text, thread_line, thread_text, frame_line, frame_text};
+ghost use Rattle.brc_graph.specs.Pictures.{held_text, entry_text, ring_head, ring_text, cycle_text, drawn_text, drawn_texts};
+ghost use Rattle.brc_graph.specs.Pictures.{graph_text};
 
 use crate::drawn::{Drawn, Graph};
 use brc_output::put_parts;
@@ -57,19 +58,53 @@ fn put_remain<W: Write>(
     )
 }
 
-fn put_thread<W: Write>(writer: &mut W, thread: u32, status: Keyword) -> Result<(), Fault>
-    ensures { Puts (W.contents writer.old) (W.contents writer.new) result (thread_text thread status) }
+/// Writes the line of these words.
+fn put_thread_words<W: Write>(writer: &mut W, thread: &[u8], status: &[u8]) -> Result<(), Fault>
+    ensures { Puts (W.contents writer.old) (W.contents writer.new) result (thread_line thread.now status.now) }
 {
     put_parts(
         writer,
         &[
             b"  t",
-            Buffer::new().format(thread).as_bytes(),
+            thread,
             b" [label=\"thread ",
-            Buffer::new().format(thread).as_bytes(),
+            thread,
             b" ",
-            status.text(),
+            status,
             b"\", shape=box]\n",
+        ],
+    )
+}
+
+fn put_thread<W: Write>(writer: &mut W, thread: u32, status: Keyword) -> Result<(), Fault>
+    ensures { Puts (W.contents writer.old) (W.contents writer.new) result (thread_text thread status) }
+{
+    put_thread_words(
+        writer,
+        Buffer::new().format(thread).as_bytes(),
+        status.text(),
+    )
+}
+
+/// Writes the line of these words.
+fn put_frame_words<W: Write>(
+    writer: &mut W,
+    thread: &[u8],
+    place: &[u8],
+    cell: &[u8],
+) -> Result<(), Fault>
+    ensures { Puts (W.contents writer.old) (W.contents writer.new) result (frame_line thread.now place.now cell.now) }
+{
+    put_parts(
+        writer,
+        &[
+            b"  t",
+            thread,
+            b" -> ",
+            cell,
+            b" [label=\"frame ",
+            place,
+            b"\"]\n",
         ],
     )
 }
@@ -77,17 +112,11 @@ fn put_thread<W: Write>(writer: &mut W, thread: u32, status: Keyword) -> Result<
 fn put_frame<W: Write>(writer: &mut W, thread: u32, place: u32, cell: u32) -> Result<(), Fault>
     ensures { Puts (W.contents writer.old) (W.contents writer.new) result (frame_text thread place cell) }
 {
-    put_parts(
+    put_frame_words(
         writer,
-        &[
-            b"  t",
-            Buffer::new().format(thread).as_bytes(),
-            b" -> ",
-            Buffer::new().format(cell).as_bytes(),
-            b" [label=\"frame ",
-            Buffer::new().format(place).as_bytes(),
-            b"\"]\n",
-        ],
+        Buffer::new().format(thread).as_bytes(),
+        Buffer::new().format(place).as_bytes(),
+        Buffer::new().format(cell).as_bytes(),
     )
 }
 
@@ -181,11 +210,20 @@ fn put_all<A: Allocator, W: Write>(writer: &mut W, all: &[Drawn<A>]) -> Result<(
     Ok(())
 }
 
+fn put_graph_lines<A: Allocator, W: Write>(
+    writer: &mut W,
+    graph: &Graph<A>,
+) -> Result<(), Fault>
+    ensures { Puts (W.contents writer.old) (W.contents writer.new) result (drawn_texts graph.now.drawn.items) }
+{
+    put_all(writer, graph.drawn.as_slice())
+}
+
 /// Writes the picture of the graph in DOT: all of it, or Io after a front of it. No memory is taken.
 pub fn write_graph<A: Allocator, W: Write>(graph: &Graph<A>, writer: &mut W) -> Result<(), Fault>
     ensures { Puts (W.contents writer.old) (W.contents writer.new) result (graph_text graph.now.drawn.items) }
 {
     put_bytes(writer, b"digraph brc {\n  265 [label=\"265 globals\"]\n")?;
-    put_all(writer, graph.drawn.as_slice())?;
+    put_graph_lines(writer, graph)?;
     put_bytes(writer, b"}\n")
 }

@@ -24,16 +24,16 @@ returns-in_err-put_bytes g c =
       fails head behind whole (text_is all) c.in_err-put_bytes.ensures.2,
     )
 
-pub returns-in_err-put_all : goal.returns-in_err-put_all
-returns-in_err-put_all g c =
-    let p = err_from_is_err_and c.from_residual-in_err-put_all.result c.from_residual-in_err-put_all.ensures.1 in
+pub returns-in_err-put_graph_lines : goal.returns-in_err-put_graph_lines
+returns-in_err-put_graph_lines g c =
+    let p = err_from_is_err_and c.from_residual-in_err-put_graph_lines.result c.from_residual-in_err-put_graph_lines.ensures.1 in
     let all = c.args.graph.now.drawn.items in
     let whole = starts (g.W.Write.contents c.args.writer.now) (graph_text all) in
     let below = goes_on _ head (drawn_texts all ++ codes "}\n") whole (text_is all) c.in_ok-put_bytes.ensures in
     rw (p.1, p.2) (
-      c.in_err-put_all.ensures.0,
-      c.in_err-put_all.ensures.1 ++ codes "}\n",
-      fails (drawn_texts all) (codes "}\n") below refl c.in_err-put_all.ensures.2,
+      c.in_err-put_graph_lines.ensures.0,
+      c.in_err-put_graph_lines.ensures.1 ++ codes "}\n",
+      fails (drawn_texts all) (codes "}\n") below refl c.in_err-put_graph_lines.ensures.2,
     )
 
 pub returns : goal.returns
@@ -41,5 +41,5 @@ returns g c =
     let all = c.args.graph.now.drawn.items in
     let whole = starts (g.W.Write.contents c.args.writer.now) (graph_text all) in
     let below = goes_on _ head (drawn_texts all ++ codes "}\n") whole (text_is all) c.in_ok-put_bytes.ensures in
-    rest_puts _ c.put_bytes-2.result (goes_on _ (drawn_texts all) (codes "}\n") below refl c.in_ok-put_all.ensures)
+    rest_puts _ c.put_bytes-2.result (goes_on _ (drawn_texts all) (codes "}\n") below refl c.in_ok-put_graph_lines.ensures)
     c.put_bytes-2.ensures
