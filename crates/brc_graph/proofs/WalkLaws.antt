@@ -1,5 +1,5 @@
 -- One turn of the walk over lines.
-use Rattle.std.proofs.Common.{◌≡◌, ◌∙◌, ℕ, ◌+◌, ◌<◌, ◌≤◌, Bool, true, false, List, [], ◌∷◌, ◌++◌, length, Option, Some}
+use Rattle.std.proofs.Common.{◌≡◌, ◌∙◌, ℕ, ◌+◌, ◌<◌, ◌≤◌, true, false, List, [], ◌∷◌, ◌++◌, length, Some}
 use Rattle.std.proofs.Common.{None, Result, Ok, Err, refl, ap, sym, subst, arith}
 use Rattle.std.proofs.lemmas.Bool.{lt-ltb, le-ltb}
 use Rattle.brc_words.specs.declared.limits.TheConstants.{MOST_INPUT}
@@ -11,7 +11,7 @@ use Rattle.brc_graph.specs.declared.part.Part.TheVariants as parts
 use Rattle.brc_graph.specs.declared.undrawn.Undrawn.{Undrawn}
 use Rattle.brc_graph.specs.Lines.{step_at}
 use Rattle.brc_graph.specs.Parts.{is_whole}
-use Rattle.brc_graph.specs.Reading.{ended_step, onward, walk, graph_at, Refuses, Gives}
+use Rattle.brc_graph.specs.Reading.{onward, walk, graph_at, Refuses}
 
 pub no_piece : (text : List ℕ) → length text ≡ 0 → pieces text ≡ []
 unfolding pieces

@@ -9,19 +9,41 @@ use std::alloc::Allocator;
 pub enum Drawn<A: Allocator> {
     Nothing,
     /// An object, with its kind.
-    Object { cell: u32, kind: Keyword },
+    Object {
+        cell: u32,
+        kind: Keyword,
+    },
     /// An object, with its kind, and the link to it from the cell that holds it.
-    Remain { cell: u32, kind: Keyword, holder: u32 },
+    Remain {
+        cell: u32,
+        kind: Keyword,
+        holder: u32,
+    },
     /// A box round the cells of a cycle.
     Cycle(Cells<A>),
     /// A thread, with its status.
-    Thread { thread: u32, status: Keyword },
+    Thread {
+        thread: u32,
+        status: Keyword,
+    },
     /// The link from a thread to the cell in a place of its frame.
-    Frame { thread: u32, place: u32, cell: u32 },
+    Frame {
+        thread: u32,
+        place: u32,
+        cell: u32,
+    },
     /// The link from a thread to a cell that its queue, its popped bits or its hand holds.
-    Held { thread: u32, by: Keyword, cell: u32 },
+    Held {
+        thread: u32,
+        by: Keyword,
+        cell: u32,
+    },
     /// The link from a container to an entry.
-    Entry { cell: u32, index: u32, entry: u32 },
+    Entry {
+        cell: u32,
+        index: u32,
+        entry: u32,
+    },
 }
 
 /// What holds what: what is drawn for each line of a text, in order.

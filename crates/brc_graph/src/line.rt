@@ -234,10 +234,26 @@ fn hand_drawn<A: Allocator>(thread: u32, phase: Keyword, cell: u32) -> Drawn<A>
     ensures { result ≡ hand_drawn thread phase cell }
 {
     match phase {
-        Keyword::Asked => Drawn::Held { thread, by: phase, cell },
-        Keyword::Shut => Drawn::Held { thread, by: phase, cell },
-        Keyword::Taking => Drawn::Held { thread, by: phase, cell },
-        Keyword::Held => Drawn::Held { thread, by: phase, cell },
+        Keyword::Asked => Drawn::Held {
+            thread,
+            by: phase,
+            cell,
+        },
+        Keyword::Shut => Drawn::Held {
+            thread,
+            by: phase,
+            cell,
+        },
+        Keyword::Taking => Drawn::Held {
+            thread,
+            by: phase,
+            cell,
+        },
+        Keyword::Held => Drawn::Held {
+            thread,
+            by: phase,
+            cell,
+        },
         _ => Drawn::Nothing,
     }
 }
@@ -278,7 +294,11 @@ fn plain_of<A: Allocator>(word: FirstWord, rest: &[u8]) -> Option<Drawn<A>>
         }
         FirstWord::Frame => {
             let (thread, place, cell) = placed_of(rest)?;
-            Some(Drawn::Frame { thread, place, cell })
+            Some(Drawn::Frame {
+                thread,
+                place,
+                cell,
+            })
         }
         FirstWord::Queued => {
             let (thread, cell) = lying_of(rest)?;

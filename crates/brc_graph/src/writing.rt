@@ -31,12 +31,7 @@ fn put_object<W: Write>(writer: &mut W, cell: u32, kind: Keyword) -> Result<(), 
     )
 }
 
-fn put_remain<W: Write>(
-    writer: &mut W,
-    cell: u32,
-    kind: Keyword,
-    holder: u32,
-) -> Result<(), Fault>
+fn put_remain<W: Write>(writer: &mut W, cell: u32, kind: Keyword, holder: u32) -> Result<(), Fault>
     ensures { Puts (W.contents writer.old) (W.contents writer.new) result (remain_text cell kind holder) }
 {
     put_parts(
@@ -195,7 +190,11 @@ fn put_drawn<A: Allocator, W: Write>(writer: &mut W, drawn: &Drawn<A>) -> Result
         Drawn::Remain { cell, kind, holder } => put_remain(writer, *cell, *kind, *holder),
         Drawn::Cycle(cells) => put_cycle(writer, cells.as_slice()),
         Drawn::Thread { thread, status } => put_thread(writer, *thread, *status),
-        Drawn::Frame { thread, place, cell } => put_frame(writer, *thread, *place, *cell),
+        Drawn::Frame {
+            thread,
+            place,
+            cell,
+        } => put_frame(writer, *thread, *place, *cell),
         Drawn::Held { thread, by, cell } => put_held(writer, *thread, *by, *cell),
         Drawn::Entry { cell, index, entry } => put_entry(writer, *cell, *index, *entry),
     }
@@ -210,10 +209,7 @@ fn put_all<A: Allocator, W: Write>(writer: &mut W, all: &[Drawn<A>]) -> Result<(
     Ok(())
 }
 
-fn put_graph_lines<A: Allocator, W: Write>(
-    writer: &mut W,
-    graph: &Graph<A>,
-) -> Result<(), Fault>
+fn put_graph_lines<A: Allocator, W: Write>(writer: &mut W, graph: &Graph<A>) -> Result<(), Fault>
     ensures { Puts (W.contents writer.old) (W.contents writer.new) result (drawn_texts graph.now.drawn.items) }
 {
     put_all(writer, graph.drawn.as_slice())

@@ -1,4 +1,4 @@
-use Rattle.std.proofs.Common.{◌≡◌, ◌∙◌, ◌+◌, ◌-◌, ℕ, List, Some, sym, ap, arith}
+use Rattle.std.proofs.Common.{◌∙◌, ◌-◌, ℕ, List, Some, sym, ap, arith}
 use Rattle.brc_graph.specs.Cells.{cells_from}
 use Rattle.brc_graph.proofs.CellLaws.{none_behind, some_behind, bad_cell, last_cell, next_cell, no_cell}
 use Rattle.brc_graph.proofs.cells.cells_of.Goals as goal

@@ -1,4 +1,4 @@
-use Rattle.std.proofs.Common.{◌≡◌, ◌∙◌, ◌+◌, List, length, sym, ap, arith}
+use Rattle.std.proofs.Common.{◌∙◌, ◌+◌, List, length, sym, ap, arith}
 use Rattle.std.proofs.lemmas.Bool.{eqb-true}
 use Rattle.brc_text.specs.Lines.{pieces}
 use Rattle.brc_text.proofs.NumberLaws.{above_zero}
