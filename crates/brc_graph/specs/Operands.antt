@@ -20,10 +20,14 @@ word_among those bytes = find (λ word. bytes_eq (keyword word) bytes) those
 unfoldable pub local_at : List ℕ → Option ℕ
 local_at bytes = if bytes_eq (keyword words.Dash) bytes then Some 0 else within 0 (2 ^ 32 - 1) bytes
 
+-- how far below 0 a count is
+unfoldable pub below_at : List ℕ → Option ℕ
+below_at digits = number_at digits >>= λ n. if nat_le 1 n then Some n else None
+
 -- how far a count is from 0; `-` stands before one below 0
 unfoldable pub count_at : List ℕ → Option ℕ
 count_at [] = None
-count_at (first ∷ digits) = if first == 45 then number_at digits else number_at (first ∷ digits)
+count_at (first ∷ digits) = if first == 45 then below_at digits else number_at (first ∷ digits)
 
 -- what is read before a space, and what stands behind it
 unfoldable pub ahead : {X : Type 0} → (List ℕ → Option X) → List ℕ → Option (X × List ℕ)

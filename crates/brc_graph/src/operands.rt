@@ -2,7 +2,7 @@
 
 ghost use Rattle.std.specs.Prelude.{◌≡◌, Some, None, MatchOption};
 ghost use Rattle.brc_text.specs.Numbers.{number_at};
-ghost use Rattle.brc_graph.specs.Operands.{within, word_among, local_at, count_at, ahead};
+ghost use Rattle.brc_graph.specs.Operands.{within, word_among, local_at, below_at, count_at, ahead};
 
 use crate::cutting::cut;
 use brc_text::{Keyword, number_of};
@@ -39,6 +39,17 @@ fn local_of(bytes: &[u8]) -> Option<u32>
     number_within(bytes, 0, u32::MAX)
 }
 
+/// How far below 0 a count is.
+#[tactic(auto, unfolding(crate::specs::Operands::below_at))]
+fn below_of(digits: &[u8]) -> Option<u64>
+    ensures { result ≡ below_at digits.now }
+{
+    match number_of(digits) {
+        Some(number) if 1 <= number => Some(number),
+        _ => None,
+    }
+}
+
 /// How far a count is from 0.
 #[tactic(auto, unfolding(crate::specs::Operands::count_at))]
 pub(crate) fn count_of(bytes: &[u8]) -> Option<u64>
@@ -48,7 +59,7 @@ pub(crate) fn count_of(bytes: &[u8]) -> Option<u64>
         [] => None,
         [first, digits @ ..] => {
             if *first == b'-' {
-                number_of(digits)
+                below_of(digits)
             } else {
                 number_of(bytes)
             }
