@@ -2,3 +2,4 @@ mod CutLaws
 mod CellLaws
 mod WalkLaws
 mod DrawLaws
+mod ReportAgain

@@ -7,3 +7,4 @@ pub mod Lines
 pub mod Reading
 pub mod Pictures
 pub mod Draws
+pub mod Reports

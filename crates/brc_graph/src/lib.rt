@@ -9,6 +9,7 @@ mod cells;
 mod cutting;
 mod drawn;
 mod first_word;
+mod laws;
 mod line;
 mod names;
 mod operands;
@@ -19,6 +20,7 @@ mod whole;
 mod writing;
 
 pub use drawn::{Drawn, Graph};
+pub use laws::reports_are_read;
 pub use reading::read_graph;
 pub use undrawn::Undrawn;
 pub use whole::draw;
