@@ -37,7 +37,8 @@ use Rattle.brc_graph.specs.Names.{is_printed}
 use Rattle.brc_graph.specs.Parts.{after, may_be_printed, is_whole}
 use Rattle.brc_graph.specs.Lines.{remain_at, ledger_at, drawn_at, worded_at, step_at}
 use Rattle.brc_graph.specs.Reading.{onward, walk, graph_at}
-use Rattle.brc_graph.specs.Reports.{IsOfHeap, AreOfHeap, IsHeapReport, remain_drawn, cycle_drawn, report_drawn}
+use Rattle.brc_graph.specs.Reports.{IsOfHeap, AreOfHeap, IsHeapReport, IsPrinted, printed_text, printed_drawn}
+use Rattle.brc_graph.specs.Reports.{remain_drawn, cycle_drawn, report_drawn}
 use Rattle.brc_graph.proofs.WalkLaws.{short_text}
 
 -- ---- bytes that aren't in a number
@@ -183,19 +184,26 @@ module _ {A : Type 0} where
       (cycle_drawn (cell ∷ cells)) refl refl stands
       (rw (cells_again MOST_CELLS [] cell cells is.few is.each) refl))
 
-  ledger_step : (ledger : Ledger) (live : ℕ) → ledger.allocs < 2 ^ 64 → ledger.frees < 2 ^ 64 → live < 2 ^ 64
-      → step_at {A = A} parts.Start (codes "ledger" ++ (32 ∷ ledger_rest ledger live))
+  ledger_step : (part : Part) (ledger : Ledger) (live : ℕ) → may_be_printed part ≡ true
+      → after part words.Ledger ≡ Some parts.Remains
+      → ledger.allocs < 2 ^ 64 → ledger.frees < 2 ^ 64 → live < 2 ^ 64
+      → step_at {A = A} part (codes "ledger" ++ (32 ∷ ledger_rest ledger live))
       ≡ Some (parts.Remains, drawn.Nothing)
   unfolding step_at first_word_at is_printed
-  ledger_step ledger live allocs frees lives =
+  ledger_step part ledger live may stands allocs frees lives =
       let no_colon : lacks 58 (codes "ledger" ++ (32 ∷ ledger_rest ledger live)) ≡ true =
       lacks-append 58 (decimal ledger.allocs) _ (colon_lacks ledger.allocs allocs)
       (lacks-append 58 (decimal ledger.frees) _ (colon_lacks ledger.frees frees)
       (lacks-append 58 (decimal live) [] (colon_lacks live lives) refl)) in
-      rw (cut_whole 58 (codes "ledger" ++ (32 ∷ ledger_rest ledger live)) no_colon) (
-      worded_again parts.Start parts.Remains words.Ledger (ledger_rest ledger live) drawn.Nothing refl refl refl
+      rw (may, cut_whole 58 (codes "ledger" ++ (32 ∷ ledger_rest ledger live)) no_colon) (
+      worded_again part parts.Remains words.Ledger (ledger_rest ledger live) drawn.Nothing refl refl stands
       (rw (ledger_again ledger live allocs frees lives) refl)
       )
+
+  printed_step : (part : Part) (line : List ℕ) → may_be_printed part ≡ true → is_printed line ≡ true
+      → step_at {A = A} part line ≡ Some (parts.Printed, drawn.Nothing)
+  unfolding step_at
+  printed_step part line may named = rw (may, named) refl
 
   -- ---- one line after another
 
@@ -253,18 +261,43 @@ module _ {A : Type 0} where
       ∙ ap (λ (l : List (Drawn A)). Ok l)
       (append_assoc before (shown ∷ []) (map remain_drawn remains ++ map cycle_drawn cycles))
 
-  pub report_again : (ledger : Ledger) (live : ℕ) (remains : List Remain) (cycles : List (List ℕ))
-      → IsHeapReport ledger live remains cycles
-      → length (report_text ledger live remains cycles) ≤ MOST_INPUT
-      → graph_at {A = A} (report_text ledger live remains cycles) ≡ Ok (report_drawn remains cycles)
-  report_again ledger live remains cycles is short =
+  printed_again : (part : Part) (before : List (Drawn A)) (number : ℕ) (printed : List (List ℕ)) (ledger : Ledger)
+      (live : ℕ) (remains : List Remain) (cycles : List (List ℕ))
+      → may_be_printed part ≡ true → after part words.Ledger ≡ Some parts.Remains
+      → AllByRecursion IsPrinted printed → IsHeapReport ledger live remains cycles
+      → walk part before number (pieces (printed_text printed ++ report_text ledger live remains cycles))
+      ≡ Ok (before ++ (printed_drawn printed ++ report_drawn remains cycles))
+  printed_again part before number [] ledger live remains cycles may stands all is =
       let line = codes "ledger" ++ (32 ∷ ledger_rest ledger live) in
       let more = remains_text remains ++ cycles_text cycles in
-      short_text (report_text ledger live remains cycles) short
-      ∙ ap (λ (t : List ℕ). walk {A = A} parts.Start [] 1 (pieces t)) (ledger_first ledger live remains cycles)
-      ∙ line_again parts.Start parts.Remains [] drawn.Nothing 1 line more
+      ap (λ (t : List ℕ). walk {A = A} part before number (pieces t)) (ledger_first ledger live remains cycles)
+      ∙ line_again part parts.Remains before drawn.Nothing number line more
       (lacks-append 10 (decimal ledger.allocs) _ (feed_lacks ledger.allocs is.allocs)
       (lacks-append 10 (decimal ledger.frees) _ (feed_lacks ledger.frees is.frees)
       (lacks-append 10 (decimal live) [] (feed_lacks live is.lives) refl)))
-      (ledger_step ledger live is.allocs is.frees is.lives)
-      ∙ remains_again (drawn.Nothing ∷ []) (1 + 1) remains cycles is.remain is.cycle
+      (ledger_step part ledger live may stands is.allocs is.frees is.lives)
+      ∙ remains_again (before ++ (drawn.Nothing ∷ [])) (number + 1) remains cycles is.remain is.cycle
+      ∙ ap (λ (l : List (Drawn A)). Ok l)
+      (append_assoc before (drawn.Nothing ∷ []) (map remain_drawn remains ++ map cycle_drawn cycles))
+  printed_again part before number (line ∷ printed) ledger live remains cycles may stands all is =
+      let report = report_text ledger live remains cycles in
+      let more = printed_text printed ++ report in
+      let split : printed_text (line ∷ printed) ++ report ≡ line ++ (10 ∷ more) =
+      append_assoc (line ++ (10 ∷ [])) (printed_text printed) report ∙ append_assoc line (10 ∷ []) more in
+      ap (λ (t : List ℕ). walk {A = A} part before number (pieces t)) split
+      ∙ line_again part parts.Printed before drawn.Nothing number line more all.0.no_feed
+      (printed_step part line may all.0.named)
+      ∙ printed_again parts.Printed (before ++ (drawn.Nothing ∷ [])) (number + 1) printed ledger live remains cycles refl
+      refl all.1 is
+      ∙ ap (λ (l : List (Drawn A)). Ok l)
+      (append_assoc before (drawn.Nothing ∷ []) (printed_drawn printed ++ report_drawn remains cycles))
+
+  pub report_again : (printed : List (List ℕ)) (ledger : Ledger) (live : ℕ) (remains : List Remain)
+      (cycles : List (List ℕ))
+      → AllByRecursion IsPrinted printed → IsHeapReport ledger live remains cycles
+      → length (printed_text printed ++ report_text ledger live remains cycles) ≤ MOST_INPUT
+      → graph_at {A = A} (printed_text printed ++ report_text ledger live remains cycles)
+      ≡ Ok (printed_drawn printed ++ report_drawn remains cycles)
+  report_again printed ledger live remains cycles all is short =
+      short_text (printed_text printed ++ report_text ledger live remains cycles) short
+      ∙ printed_again parts.Start [] 1 printed ledger live remains cycles refl refl all is

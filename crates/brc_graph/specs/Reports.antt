@@ -1,13 +1,15 @@
--- What is drawn of the report of a heap.
-use Rattle.std.specs.Prelude.{◌≡◌, ◌≤◌, ◌<◌, ◌^◌, ◌++◌, ℕ, true, List, ◌∷◌, length, map}
-use Rattle.std.specs.List.{AllByRecursion}
+-- What is drawn of the report of a heap, and of what sections printed above it.
+use Rattle.std.specs.Prelude.{◌≡◌, ◌≤◌, ◌<◌, ◌^◌, ◌++◌, ℕ, true, List, [], ◌∷◌, length, map}
+use Rattle.std.specs.List.{flat_map, AllByRecursion}
 use Rattle.brc_words.specs.Kinds.{is_mortal}
 use Rattle.brc_words.specs.declared.limits.TheConstants.{FIRST_MORTAL, MOST_CELLS}
+use Rattle.brc_text.specs.Lines.{lacks}
 use Rattle.brc_report.specs.declared.content.Remain.{Remain}
 use Rattle.brc_report.specs.declared.report.Ledger.{Ledger}
 use Rattle.brc_report.specs.Texts.{kind_word}
 use Rattle.brc_graph.specs.declared.drawn.Drawn.{Drawn}
 use Rattle.brc_graph.specs.declared.drawn.Drawn.TheVariants as drawn
+use Rattle.brc_graph.specs.Names.{is_printed}
 
 -- a mortal object in a cell of the largest heap, and a holder there
 pub record IsOfHeap (remain : Remain) : Type 0 where
@@ -30,12 +32,25 @@ pub record IsHeapReport (ledger : Ledger) (live : ℕ) (remains : List Remain) (
   pub remain : AllByRecursion IsOfHeap remains
   pub cycle : AllByRecursion AreOfHeap cycles
 
+-- a line that a section printed
+pub record IsPrinted (line : List ℕ) : Type 0 where
+  pub no_feed : lacks 10 line ≡ true
+  pub named : is_printed line ≡ true
+
+-- the lines, each with its line feed
+abbrev pub printed_text : List (List ℕ) → List ℕ
+printed_text lines = flat_map (λ line. line ++ (10 ∷ [])) lines
+
 module _ {A : Type 0} where
   abbrev pub remain_drawn : Remain → Drawn A
   remain_drawn remain = drawn.Remain remain.cell (kind_word remain.kind) remain.held_by
 
   abbrev pub cycle_drawn : List ℕ → Drawn A
   cycle_drawn cells = drawn.Cycle cells
+
+  -- nothing is drawn for what sections printed
+  abbrev pub printed_drawn : List (List ℕ) → List (Drawn A)
+  printed_drawn lines = map (λ line. drawn.Nothing) lines
 
   -- nothing for the ledger, then each remain, and then each cycle
   abbrev pub report_drawn : List Remain → List (List ℕ) → List (Drawn A)
