@@ -2,8 +2,8 @@
 //! it; each script is run as its first line says, and its output compared; two texts are drawn, and the pictures compared.
 
 use crate::asked::{SCRIPTS, read_script, tell};
-use crate::programs::running;
 use crate::library::count_and_holders;
+use crate::programs::running;
 use brc_program::program;
 use brc_trace::run_replay;
 use brc_words::{Fault, Reason};

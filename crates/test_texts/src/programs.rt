@@ -44,7 +44,14 @@ pub(crate) fn drawn<R: AllocGlobal + Threads + Wait + Sync>(
     let words = words_of(alloc, "brc run")?;
     let mut output = Vec::new(alloc);
     let mut errors = Vec::new(alloc);
-    let _status = program(rt, alloc, words.as_slice(), script, &mut output, &mut errors);
+    let _status = program(
+        rt,
+        alloc,
+        words.as_slice(),
+        script,
+        &mut output,
+        &mut errors,
+    );
     running(rt, "brc graph", output.as_slice(), out)
 }
 
