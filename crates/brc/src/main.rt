@@ -1,5 +1,6 @@
 //! `brc run`: a script on standard input, what its sections print, on threads of their own, and the report of their
-//! heap on standard output. `brc replay`: a trace of atomic steps, and the world that it leads to.
+//! heap on standard output. `brc replay`: a trace of atomic steps, and the world that it leads to. `brc graph`: a
+//! report or a world, and what holds what in it.
 //!
 //! What is done, its statuses and its error lines are `brc_program`; here are the words and the streams of the process.
 #![tactic(auto)]

@@ -8,8 +8,10 @@ use Rattle.brc_words.specs.Faults.{number_of, name_of}
 use Rattle.brc_text.specs.Puts.{PutsUpTo}
 use Rattle.brc_trace.specs.declared.explaining.Unreplayed.{Unreplayed}
 use Rattle.brc_trace.specs.declared.explaining.Why.{Why}
+use Rattle.brc_program.specs.declared.failed.Failed.{Failed}
+use Rattle.brc_program.specs.declared.failed.Failed.TheVariants as fails
 use Rattle.brc_program.specs.Explanations.{together, why_line}
-use Rattle.brc_program.specs.Statuses.{status_of}
+use Rattle.brc_program.specs.Statuses.{status_of_failed}
 
 -- a line of the text is not this
 abbrev pub bad_line : ℕ → List ℕ → List ℕ
@@ -32,11 +34,17 @@ abbrev pub with_why : List ℕ → Option Why → List ℕ
 with_why line None = line
 with_why line (Some why) = line ++ why_line why
 
-abbrev pub told_text : Unreplayed → List ℕ
-told_text failed = with_why (fault_line failed.fault) failed.why
+abbrev pub unreplayed_text : Unreplayed → List ℕ
+unreplayed_text failed = with_why (fault_line failed.fault) failed.why
 
--- all of it stands behind what was there, and the status is the fault's; or a front of it does, and the status is 5
-abbrev pub Tells : Option (List ℕ) → Option (List ℕ) → Unreplayed → ℕ → Type 0
+-- a fault by its line, and that of why it came; a text without a graph by the line that can't stand there
+abbrev pub told_text : Failed → List ℕ
+told_text (fails.Fault unreplayed) = unreplayed_text unreplayed
+told_text (fails.NoGraph line) = bad_line line (codes "a report or world line")
+
+-- all of it stands behind what was there, and the status is that of what failed; or a front of it does, and the status
+-- is 5
+abbrev pub Tells : Option (List ℕ) → Option (List ℕ) → Failed → ℕ → Type 0
 Tells old new failed status =
-    (Appends old new (told_text failed) × (status ≡ status_of failed.fault))
+    (Appends old new (told_text failed) × (status ≡ status_of_failed failed))
     ⊎ ((rest : List ℕ) × PutsUpTo old new (told_text failed) rest × (status ≡ 5))

@@ -14,7 +14,12 @@ use Rattle.brc_trace.specs.Replaying.{Replays}
 use Rattle.brc_run_text.specs.declared.ended.Ended.{Ended}
 use Rattle.brc_run_text.specs.Scripts_Run.{Runs}
 use Rattle.brc_program.specs.declared.command.Invocation.{Invocation}
-use Rattle.brc_program.specs.declared.command.Invocation.TheVariants.{Help, Replay, Run}
+use Rattle.brc_graph.specs.declared.undrawn.Undrawn.{Undrawn}
+use Rattle.brc_graph.specs.declared.undrawn.Undrawn.TheVariants as undrawn
+use Rattle.brc_graph.specs.Draws.{Draws}
+use Rattle.brc_program.specs.declared.failed.Failed.{Failed}
+use Rattle.brc_program.specs.declared.failed.Failed.TheVariants as fails
+use Rattle.brc_program.specs.declared.command.Invocation.TheVariants.{Help, Replay, Run, Graph}
 use Rattle.brc_program.specs.Errors.{Tells}
 
 -- ---- one invocation
@@ -29,17 +34,19 @@ abbrev pub status_of_run : Ended → ℕ
 status_of_run ended = if ended.faulted then 4 else status_of_world ended.lives
 
 -- a fault of which no reason is known
-abbrev pub unexplained : Fault → Unreplayed
-unexplained fault = record { fault = fault; why = None }
+abbrev pub unexplained : Fault → Failed
+unexplained fault = fails.Fault (record { fault = fault; why = None })
 
-abbrev pub without_reason : {T : Type 0} → Result T Fault → Result T Unreplayed
-without_reason (Ok found) = Ok found
-without_reason (Err fault) = Err (unexplained fault)
+-- why there is no picture
+abbrev pub failed_of : Undrawn → Failed
+failed_of (undrawn.BadLine line) = fails.NoGraph line
+failed_of undrawn.OutOfMemory = unexplained faults.OutOfMemory
+failed_of undrawn.Io = unexplained faults.Io
 
--- the status of what was found; a fault stays one
-abbrev pub by_status : {T : Type 0} → (T → ℕ) → Result T Unreplayed → Result ℕ Unreplayed
-by_status status (Ok found) = Ok (status found)
-by_status status (Err failed) = Err failed
+-- the status of what was found; what failed is told so
+abbrev pub by_status : {T E : Type 0} → (T → ℕ) → (E → Failed) → Result T E → Result ℕ Failed
+by_status status tell (Ok found) = Ok (status found)
+by_status status tell (Err failed) = Err (tell failed)
 
 -- no line of a section is held up
 abbrev pub nowhere : ℕ → ℕ → Type 0
@@ -51,56 +58,59 @@ IsReason input fault why = (fault ≡ fault_of_why why)
     × IfSome input (λ bytes. Explains (take (MOST_INPUT + 1) bytes) (Some why))
 
 -- By the input's bytes, and those of the output before and after, where they are known: help is written as it stands,
--- status 0; a trace is replayed, or a script is run, as the contract of each says, and its answer is the status. A reason
--- is told of a replay alone, and only where it is asked for.
+-- status 0; a trace is replayed, or a script is run, as the contract of each says, and its answer is the status; a graph
+-- is drawn as the contract says, status 0. A reason is told of a replay alone, and only where it is asked for.
 abbrev pub Performs :
-    Invocation → Option (List ℕ) → Option (List ℕ) → Option (List ℕ) → Result ℕ Unreplayed → Type 0
+    Invocation → Option (List ℕ) → Option (List ℕ) → Option (List ℕ) → Result ℕ Failed → Type 0
 Performs (Help text) input old new answer =
     (told : Result (Unit {0}) Fault) × Puts old new told (string_bytes text)
-    × (answer ≡ by_status (λ _. 0) (without_reason told))
+    × (answer ≡ by_status (λ _. 0) unexplained told)
 Performs (Replay false) input old new answer =
     (found : Result Bool Fault) × Replays input old new found
-    × (answer ≡ by_status status_of_world (without_reason found))
+    × (answer ≡ by_status status_of_world unexplained found)
 Performs (Replay true) input old new answer =
     (found : Result Bool Unreplayed) × Replays input old new (without_why found)
     × IfErr found (λ failed. IfSome failed.why (IsReason input failed.fault))
-    × (answer ≡ by_status status_of_world found)
+    × (answer ≡ by_status status_of_world (λ failed. fails.Fault failed) found)
 Performs (Run options) input old new answer =
     (found : Result Ended Fault) × Runs options nowhere input old new found
-    × (answer ≡ by_status status_of_run (without_reason found))
+    × (answer ≡ by_status status_of_run unexplained found)
+Performs Graph input old new answer =
+    (found : Result (Unit {0}) Undrawn) × Draws input old new found
+    × (answer ≡ by_status (λ _. 0) failed_of found)
 
 -- ---- a command line
 
 -- what was done stands once it is flushed; Io where that fails
-abbrev pub Flushed : Result ℕ Unreplayed → Result ℕ Unreplayed → Type 0
+abbrev pub Flushed : Result ℕ Failed → Result ℕ Failed → Type 0
 Flushed (Ok status) answer = (answer ≡ Ok status) ⊎ (answer ≡ Err (unexplained faults.Io))
 Flushed (Err failed) answer = answer ≡ Err failed
 
 -- this is done; what is written is flushed, and no byte of it changes by that
-pub record IsDone (asked : Invocation) (input old new : Option (List ℕ)) (answer : Result ℕ Unreplayed) : Type 0 where
-  pub done : Result ℕ Unreplayed
+pub record IsDone (asked : Invocation) (input old new : Option (List ℕ)) (answer : Result ℕ Failed) : Type 0 where
+  pub done : Result ℕ Failed
   pub written : Option (List ℕ)
   pub performed : Performs asked input old written done
   pub kept : Keeps written new
   pub flushed : Flushed done answer
 
 -- the words ask for nothing, or memory to read them is missing; nothing is written
-pub record IsRefused (old new : Option (List ℕ)) (answer : Result ℕ Unreplayed) : Type 0 where
+pub record IsRefused (old new : Option (List ℕ)) (answer : Result ℕ Failed) : Type 0 where
   pub kept : Keeps old new
   pub fault : (answer ≡ Err (unexplained faults.BadOptions)) ⊎ (answer ≡ Err (unexplained faults.OutOfMemory))
 
 -- some invocation is done, whichever it is, or none
-abbrev pub Answers : Option (List ℕ) → Option (List ℕ) → Option (List ℕ) → Result ℕ Unreplayed → Type 0
+abbrev pub Answers : Option (List ℕ) → Option (List ℕ) → Option (List ℕ) → Result ℕ Failed → Type 0
 Answers input old new answer = ((asked : Invocation) × IsDone asked input old new answer) ⊎ IsRefused old new answer
 
 -- an answer's status, and nothing stands on standard error for it; or the fault is told there
-abbrev pub EndsBy : Option (List ℕ) → Option (List ℕ) → Result ℕ Unreplayed → ℕ → Type 0
+abbrev pub EndsBy : Option (List ℕ) → Option (List ℕ) → Result ℕ Failed → ℕ → Type 0
 EndsBy old new (Ok status) ended = (new ≡ old) × (ended ≡ status)
 EndsBy old new (Err failed) ended = Tells old new failed ended
 
 -- there is an answer of which this is so, and by it what standard error had and has, and the status
-pub record Ends (IsSo : Result ℕ Unreplayed → Type 0) (errors_old errors_new : Option (List ℕ))
+pub record Ends (IsSo : Result ℕ Failed → Type 0) (errors_old errors_new : Option (List ℕ))
     (status : ℕ) : Type 0 where
-  pub answer : Result ℕ Unreplayed
+  pub answer : Result ℕ Failed
   pub is : IsSo answer
   pub by : EndsBy errors_old errors_new answer status

@@ -3,12 +3,14 @@
 ghost use Rattle.std.specs.Prelude.{◌≡◌, ◌≤◌, false, codes, IfOk};
 ghost use Rattle.brc_program.specs.Command.{AreWords};
 ghost use Rattle.brc_program.specs.Errors.{Tells};
-ghost use Rattle.brc_program.specs.Performing.{status_of_world, unexplained, Performs, IsDone, Answers, Ends};
-ghost use Rattle.brc_program.specs.Statuses.{status_of};
+ghost use Rattle.brc_program.specs.Performing.{status_of_world, unexplained, failed_of, Performs, IsDone, Answers, Ends};
+ghost use Rattle.brc_program.specs.Statuses.{status_of, status_of_failed};
 
 use crate::command::{Invocation, read_words};
+use crate::failed::Failed;
 use crate::gate::Open;
 use crate::telling::put_told;
+use brc_graph::{Undrawn, draw};
 use brc_run_text::{RunOptions, run_script};
 use brc_text::put_bytes;
 use brc_trace::{Unreplayed, run_replay, run_replay_explained};
@@ -24,7 +26,7 @@ const NOTHING_LIVE: u8 = 0;
 const SOMETHING_LIVE: u8 = 1;
 /// The command line is bad.
 const BAD_WORDS: u8 = 2;
-/// The trace or the script is bad.
+/// The text that was read is bad.
 const BAD_TEXT: u8 = 3;
 /// A growth was refused, or a fault ended a section.
 const FAULTED: u8 = 4;
@@ -34,7 +36,7 @@ const STREAM: u8 = 5;
 /// Does what the words ask for, and returns the status. Of several statuses the highest counts.
 ///
 /// For `brc replay` the output, the error line and the status come of `run_replay`; for `brc run`, of `run_script` with
-/// the usual options. For other words they come of some invocation: which options or which help they ask for isn't
+/// the usual options; for `brc graph`, of `draw`. For other words they come of some invocation: which options or which help they ask for isn't
 /// promised. A fault's status is 5 if it can't be told; the first write that fails is the last.
 pub fn program<T: Threads + Wait + Sync, R: Read + Drop, W: Write, E: Write>(
     rt: &T,
@@ -48,13 +50,17 @@ pub fn program<T: Threads + Wait + Sync, R: Read + Drop, W: Write, E: Write>(
     ensures came { Ends (Answers (R.remaining reader) (W.contents writer.old) (W.contents writer.new))
         (E.contents errors.old) (E.contents errors.new) result }
 
-    // The two command lines without an option.
+    // The command lines without an option.
     ensures replay { AreWords words.now (codes "replay") →
         Ends (IsDone (Invocation.Replay false) (R.remaining reader)
         (W.contents writer.old) (W.contents writer.new))
         (E.contents errors.old) (E.contents errors.new) result }
     ensures run { AreWords words.now (codes "run") →
         Ends (IsDone (Invocation.Run RunOptions.USUAL) (R.remaining reader)
+        (W.contents writer.old) (W.contents writer.new))
+        (E.contents errors.old) (E.contents errors.new) result }
+    ensures graph { AreWords words.now (codes "graph") →
+        Ends (IsDone Invocation.Graph (R.remaining reader)
         (W.contents writer.old) (W.contents writer.new))
         (E.contents errors.old) (E.contents errors.new) result }
 {
@@ -73,21 +79,32 @@ pub fn refuse<E: Write>(errors: &mut E, fault: Fault) -> u8
 }
 
 /// Tells of a fault, and of why it came where that is known, and answers its status.
-fn refuse_with_why<E: Write>(errors: &mut E, failed: &Unreplayed) -> u8
+fn refuse_with_why<E: Write>(errors: &mut E, failed: &Failed) -> u8
     ensures within { result ≤ 5 }
     ensures tells { Tells (E.contents errors.old) (E.contents errors.new) failed.now result }
 {
     match put_told(errors, failed) {
-        Ok(()) => status_of(failed.fault),
+        Ok(()) => status_of_failed(failed),
         Err(_) => STREAM,
     }
 }
 
 /// A fault that is told without a reason.
-fn unexplained(fault: Fault) -> Unreplayed
+fn unexplained(fault: Fault) -> Failed
     ensures { result ≡ unexplained fault }
 {
-    Unreplayed { fault, why: None }
+    Failed::Fault(Unreplayed { fault, why: None })
+}
+
+/// Why there is no picture.
+fn failed_of(undrawn: Undrawn) -> Failed
+    ensures { result ≡ failed_of undrawn }
+{
+    match undrawn {
+        Undrawn::BadLine(line) => Failed::NoGraph(line),
+        Undrawn::OutOfMemory => unexplained(Fault::OutOfMemory),
+        Undrawn::Io => unexplained(Fault::Io),
+    }
 }
 
 /// The status of a world, by whether something lives in it.
@@ -107,7 +124,7 @@ fn perform<T: Threads + Wait + Sync, R: Read + Drop, W: Write>(
     asked: Invocation,
     reader: R,
     writer: &mut W,
-) -> Result<u8, Unreplayed>
+) -> Result<u8, Failed>
     ensures within { IfOk result (λ status. status ≤ 4) }
     ensures performs { Performs asked (R.remaining reader) (W.contents writer.old) (W.contents writer.new)
         result }
@@ -123,12 +140,16 @@ fn perform<T: Threads + Wait + Sync, R: Read + Drop, W: Write>(
         },
         Invocation::Replay { explain: true } => match run_replay_explained(alloc, reader, writer) {
             Ok(lives) => Ok(status_of_world(lives)),
-            Err(failed) => Err(failed),
+            Err(failed) => Err(Failed::Fault(failed)),
         },
         Invocation::Run(options) => match run_script(rt, alloc, options, reader, writer, &Open) {
             Ok(ended) if ended.faulted => Ok(FAULTED),
             Ok(ended) => Ok(status_of_world(ended.lives)),
             Err(fault) => Err(unexplained(fault)),
+        },
+        Invocation::Graph => match draw(alloc, reader, writer) {
+            Ok(()) => Ok(NOTHING_LIVE),
+            Err(undrawn) => Err(failed_of(undrawn)),
         },
     }
 }
@@ -140,7 +161,7 @@ fn carry_out<T: Threads + Wait + Sync, R: Read + Drop, W: Write>(
     asked: Invocation,
     reader: R,
     writer: &mut W,
-) -> Result<u8, Unreplayed>
+) -> Result<u8, Failed>
     ensures within { IfOk result (λ status. status ≤ 4) }
     ensures done { IsDone asked (R.remaining reader) (W.contents writer.old) (W.contents writer.new) result }
 {
@@ -161,7 +182,7 @@ fn answer<T: Threads + Wait + Sync, R: Read + Drop, W: Write>(
     words: &[String],
     reader: R,
     writer: &mut W,
-) -> Result<u8, Unreplayed>
+) -> Result<u8, Failed>
     ensures within { IfOk result (λ status. status ≤ 4) }
     ensures answers { Answers (R.remaining reader) (W.contents writer.old) (W.contents writer.new) result }
     ensures replay { AreWords words.now (codes "replay") →
@@ -169,6 +190,9 @@ fn answer<T: Threads + Wait + Sync, R: Read + Drop, W: Write>(
         (W.contents writer.old) (W.contents writer.new) result }
     ensures run { AreWords words.now (codes "run") →
         IsDone (Invocation.Run RunOptions.USUAL) (R.remaining reader)
+        (W.contents writer.old) (W.contents writer.new) result }
+    ensures graph { AreWords words.now (codes "graph") →
+        IsDone Invocation.Graph (R.remaining reader)
         (W.contents writer.old) (W.contents writer.new) result }
 {
     match read_words(alloc, words) {
@@ -188,5 +212,16 @@ fn status_of(fault: Fault) -> u8
         Fault::BadScript { .. } => BAD_TEXT,
         Fault::Io => STREAM,
         _ => FAULTED,
+    }
+}
+
+/// The status of what failed.
+fn status_of_failed(failed: &Failed) -> u8
+    ensures within { result ≤ 5 }
+    ensures status { result ≡ status_of_failed failed.now }
+{
+    match failed {
+        Failed::Fault(unreplayed) => status_of(unreplayed.fault),
+        Failed::NoGraph(_) => BAD_TEXT,
     }
 }

@@ -7,7 +7,7 @@ ghost use Rattle.brc_text.specs.Numbers.{number_at};
 ghost use Rattle.brc_program.specs.Command.{AreWords, IfRun};
 ghost use Rattle.brc_run_text.specs.Words.{AreRunOptions};
 
-use crate::help::{ABOUT, MORE, OF_REPLAY, OF_RUN};
+use crate::help::{ABOUT, MORE, OF_GRAPH, OF_REPLAY, OF_RUN};
 use brc_run_text::{MOST_TURNS, RunOptions};
 use brc_text::number_of;
 use brc_words::{FEWEST_CELLS, Fault, MOST_CELLS, MOST_LOCAL};
@@ -24,6 +24,8 @@ pub enum Invocation {
     Replay { explain: bool },
     /// To run the script on standard input, its sections on threads.
     Run(RunOptions),
+    /// To draw what holds what in the report or the world on standard input.
+    Graph,
 }
 
 /// The number of an option, by the word given for it: the usual one where none is, else what the word spells, from
@@ -101,6 +103,14 @@ fn run_command<'a>(alloc: Global) -> Result<Command<'a>, AllocError> {
         .arg(local_limit)
 }
 
+/// `graph`, which has no option.
+fn graph_command<'a>(alloc: Global) -> Command<'a> {
+    Command::new(alloc, "graph")
+        .about("Draws what holds what in the report or world on standard input")
+        .override_usage("brc graph")
+        .after_help(OF_GRAPH)
+}
+
 /// Whether the words are the program's name, whatever that is, and this one.
 fn are_words(words: &[String], said: &str) -> bool
     ensures { IsTrue result ↔ AreWords words.now said.now }
@@ -123,45 +133,55 @@ fn read_any(alloc: Global, words: &[String]) -> Result<Invocation, Fault>
     };
     let brc = Command::new(alloc, "brc")
         .about(ABOUT)
+        .version("0.1.0")
         .no_binary_name(true)
         .after_help(MORE)
-        .disable_help_subcommand(true)
         .subcommand_required(true)
         .subcommand(replay_command(alloc)?)?
-        .subcommand(run_command(alloc)?)?;
+        .subcommand(run_command(alloc)?)?
+        .subcommand(graph_command(alloc))?;
     match brc.try_get_matches_from(asked) {
         Ok(matches) => match matches.subcommand() {
             Some(("replay", options)) => Ok(Invocation::Replay {
                 explain: options.get_flag("explain"),
             }),
             Some(("run", options)) => Ok(Invocation::Run(run_options(options)?)),
+            Some(("graph", _)) => Ok(Invocation::Graph),
             _ => Err(Fault::BadOptions),
         },
         Err(error) => match error.kind() {
-            ErrorKind::DisplayHelp => Ok(Invocation::Help(error.to_string(alloc)?)),
+            ErrorKind::DisplayHelp | ErrorKind::DisplayVersion => {
+                Ok(Invocation::Help(error.to_string(alloc)?))
+            }
             ErrorKind::OutOfMemory => Err(Fault::OutOfMemory),
             _ => Err(Fault::BadOptions),
         },
     }
 }
 
-/// Reads the words; the first is the program's name. If `replay` or `run` is the only other one, that command without an
-/// option is returned, whatever memory there is. Which options or which help other words ask for isn't promised.
+/// Reads the words; the first is the program's name. If `replay`, `run` or `graph` is the only other one, that command
+/// without an option is returned, whatever memory there is. Which options or which help other words ask for isn't
+/// promised.
 pub fn read_words(alloc: Global, words: &[String]) -> Result<Invocation, Fault>
     ensures within { IfOk result (λ asked. IfRun asked AreRunOptions) }
     ensures refused { IfErr result (λ fault. (fault ≡ Fault.BadOptions) ⊎ (fault ≡ Fault.OutOfMemory)) }
 
-    // The two command lines without an option.
+    // The command lines without an option.
     ensures replay { AreWords words.now (codes "replay") →
         result ≡ Ok (Invocation.Replay false) }
     ensures run { AreWords words.now (codes "run") →
         result ≡ Ok (Invocation.Run RunOptions.USUAL) }
+    ensures graph { AreWords words.now (codes "graph") →
+        result ≡ Ok Invocation.Graph }
 {
     if are_words(words, "replay") {
         return Ok(Invocation::Replay { explain: false });
     }
     if are_words(words, "run") {
         return Ok(Invocation::Run(RunOptions::USUAL));
+    }
+    if are_words(words, "graph") {
+        return Ok(Invocation::Graph);
     }
     read_any(alloc, words)
 }

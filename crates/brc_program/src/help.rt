@@ -1,4 +1,4 @@
-//! What help says: of the program, of traces, and of scripts. Each line fits 80 columns.
+//! What help says: of the program, of traces, of scripts, and of pictures. Each line fits 80 columns.
 
 /// Of the program.
 pub(crate) const ABOUT: &str = "\
@@ -10,11 +10,12 @@ what its counts come to.";
 /// What the whole program has in common.
 pub(crate) const MORE: &str = "\
 brc run --help teaches the language of scripts, brc replay --help that of
-traces. Both read standard input, at most 16777216 bytes.
+traces; brc graph --help says what a picture shows. All read standard input, at
+most 16777216 bytes.
 
 Statuses: 0 no object is live at the end, 1 some are, 2 bad command line, 3 bad
-trace or script, 4 want of memory or a section that a fault ended, 5 input or
-output. Of several the highest counts.
+trace or script, or a text that is no report or world, 4 want of memory or a
+section that a fault ended, 5 input or output. Of several the highest counts.
 ";
 
 /// Of traces.
@@ -195,4 +196,44 @@ can serve another, and all of these end, with fault 6 or 7.
 Statuses: 0 no object is left, 1 some are, 2 bad command line, 3 bad script, 4 a
 fault ended a section, or want of memory, 5 input or output. Of several the
 highest counts.
+";
+
+/// Of pictures.
+pub(crate) const OF_GRAPH: &str = "\
+The input is the report with which the output of brc run ends, that whole
+output, or the world that brc replay writes. The output is a graph in DOT, the
+language of graphviz:
+
+    brc run < SCRIPT | brc graph | dot -Tsvg > PICTURE.svg
+
+A node is an object, with its cell and kind; 265 are the globals. Each further
+cell that something holds is an immortal.
+
+Of a report a link goes to each object that is left from the cell that holds it,
+the lowest one, and a box is drawn round the cells of each cycle:
+
+    ledger 2 0 2           digraph brc {
+    remain 266 list 267      265 [label=\"265 globals\"]
+    remain 267 list 266      266 [label=\"266 list\"]
+    cycle 266 267            267 -> 266
+                             267 [label=\"267 list\"]
+                             266 -> 267
+                             subgraph cluster_266 {
+                               label=\"cycle\"
+                               266 267
+                             }
+                           }
+
+Of a world each thread T is a box tT. Links go from it to what the places of its
+frame hold, its merge queue, its popped bits, and its hand if that is asked,
+shut, taking or held; and from each container to each entry, with the index. In
+a world no cycles are looked for.
+
+What sections printed, `NAME: ..`, is passed over above a report. Bad is the
+first line that can't stand where it is: `brc: line 7: not a report or world
+line`. If the text ends too early that is the line behind its last one; line 0
+says that the input has more than 16777216 bytes.
+
+Statuses: 0 the picture is written, 2 bad command line, 3 bad report or world, 4
+want of memory, 5 input or output.
 ";

@@ -1,9 +1,10 @@
 //! Error lines: what a fault is, and where it is known why it came.
 
 ghost use Rattle.brc_text.specs.Puts.{Puts};
-ghost use Rattle.brc_program.specs.Errors.{bad_line, numbered_line, fault_line, told_text};
+ghost use Rattle.brc_program.specs.Errors.{bad_line, numbered_line, fault_line, unreplayed_text, told_text};
 
 use crate::explanations::put_why;
+use crate::failed::Failed;
 use brc_output::put_parts;
 use brc_text::put_bytes;
 use brc_trace::Unreplayed;
@@ -63,12 +64,22 @@ fn put_fault<E: Write>(errors: &mut E, fault: Fault) -> Result<(), Fault>
 }
 
 /// Writes the line of a fault, and where it is known why it came, the line that says so.
-pub(crate) fn put_told<E: Write>(errors: &mut E, failed: &Unreplayed) -> Result<(), Fault>
-    ensures { Puts (E.contents errors.old) (E.contents errors.new) result (told_text failed.now) }
+fn put_unreplayed<E: Write>(errors: &mut E, failed: &Unreplayed) -> Result<(), Fault>
+    ensures { Puts (E.contents errors.old) (E.contents errors.new) result (unreplayed_text failed.now) }
 {
     let Some(why) = &failed.why else {
         return put_fault(errors, failed.fault);
     };
     put_fault(errors, failed.fault)?;
     put_why(errors, why)
+}
+
+/// Writes why nothing came of what was asked for.
+pub(crate) fn put_told<E: Write>(errors: &mut E, failed: &Failed) -> Result<(), Fault>
+    ensures { Puts (E.contents errors.old) (E.contents errors.new) result (told_text failed.now) }
+{
+    match failed {
+        Failed::Fault(unreplayed) => put_unreplayed(errors, unreplayed),
+        Failed::NoGraph(line) => put_bad_line(errors, *line, b"a report or world line"),
+    }
 }

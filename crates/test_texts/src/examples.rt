@@ -1,8 +1,9 @@
 //! The examples, run: each trace of `data/examples/` is replayed, and its world compared with the text that stands beside
-//! it; each script is run as its first line says, and its output compared.
+//! it; each script is run as its first line says, and its output compared; two texts are drawn, and the pictures compared.
 
 use crate::asked::{SCRIPTS, read_script, tell};
 use crate::library::count_and_holders;
+use crate::programs::running;
 use brc_program::program;
 use brc_trace::run_replay;
 use brc_words::{Fault, Reason};
@@ -31,6 +32,9 @@ const NAMES: [&str; 15] = [
     "stale_owner",
     "yielded",
 ];
+
+/// The texts that are drawn: the name, and what it ends with.
+const PICTURES: [(&str, &str); 2] = [("leak_by_a_cycle", "out"), ("asked_and_waiting", "world")];
 
 /// Whether the example's text for its world is this one.
 fn is_as_written<R: AllocGlobal + Files>(rt: &R, name: &str, world: &[u8]) -> io::Result<bool> {
@@ -87,6 +91,27 @@ fn run_script<R: AllocGlobal + Files + Print + Threads + Wait + Sync>(
     tell(rt, name, status, output.as_slice(), errors.as_slice())
 }
 
+/// Draws one text, and prints whether that is the picture that stands beside it.
+fn draw_example<R: AllocGlobal + Files + Print + Threads + Wait + Sync>(
+    rt: &R,
+    name: &str,
+    ending: &str,
+) -> io::Result<()> {
+    let path = format!(in rt.alloc(); "examples/{name}.{ending}")?;
+    let text = fs::read(rt, path.as_str())?;
+    let path = format!(in rt.alloc(); "examples/{name}.dot")?;
+    let mut written = fs::read(rt, path.as_str())?;
+    written.extend_from_slice(b"status 0\n")?;
+    let mut picture = Vec::new(rt.alloc());
+    running(rt, "brc graph", text.as_slice(), &mut picture)?;
+    let is = if written.as_slice() == picture.as_slice() {
+        "as written"
+    } else {
+        "ANOTHER"
+    };
+    println!(rt; "{name}: its picture is {is}")
+}
+
 /// Runs all, and the library by hand.
 pub(crate) fn run_examples<R: AllocGlobal + Files + Print + Threads + Wait + Sync>(
     rt: &R,
@@ -96,6 +121,9 @@ pub(crate) fn run_examples<R: AllocGlobal + Files + Print + Threads + Wait + Syn
     }
     for name in SCRIPTS {
         run_script(rt, name)?;
+    }
+    for (name, ending) in PICTURES {
+        draw_example(rt, name, ending)?;
     }
     match count_and_holders(rt.alloc()) {
         Ok((total, holders)) => println!(rt; "by the library: total {total}, {holders} holders"),

@@ -26,7 +26,7 @@ use std::{fs, io, str};
 use ways::come_of;
 
 /// The files, by name.
-const FILES: [&str; 12] = [
+const FILES: [&str; 13] = [
     "traces",
     "worked_runs",
     "editions",
@@ -39,6 +39,7 @@ const FILES: [&str; 12] = [
     "explanations",
     "instructions",
     "runs",
+    "graphs",
 ];
 
 /// Whether the case comes out so by this way. What came of it else is printed.

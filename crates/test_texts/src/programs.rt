@@ -34,6 +34,27 @@ pub(crate) fn running<R: AllocGlobal + Threads + Wait + Sync>(
     Ok(out.extend_from_slice(errors.as_slice())?)
 }
 
+/// What comes of the output of `brc run` on this script, as `brc graph` reads it.
+pub(crate) fn drawn<R: AllocGlobal + Threads + Wait + Sync>(
+    rt: &R,
+    script: &[u8],
+    out: &mut Vec<u8>,
+) -> io::Result<()> {
+    let alloc = rt.alloc();
+    let words = words_of(alloc, "brc run")?;
+    let mut output = Vec::new(alloc);
+    let mut errors = Vec::new(alloc);
+    let _status = program(
+        rt,
+        alloc,
+        words.as_slice(),
+        script,
+        &mut output,
+        &mut errors,
+    );
+    running(rt, "brc graph", output.as_slice(), out)
+}
+
 /// The lines but the one that the option `--explain` adds.
 fn without_why(alloc: Global, lines: &[u8]) -> Result<Vec<u8>, AllocError> {
     let mut rest = Vec::new(alloc);

@@ -1,6 +1,6 @@
 //! The ways by which something comes of a text.
 
-use crate::programs::{compare_meaning, explained, options, running};
+use crate::programs::{compare_meaning, drawn, explained, options, running};
 use crate::scripts::{meaning, parsing};
 use crate::traces::{
     explaining, explaining_whole, in_both_editions, reading, replaying, replaying_explained,
@@ -31,6 +31,7 @@ pub(crate) fn come_of<R: AllocGlobal + Threads + Wait + Sync>(
         "mean" => meaning(alloc, bytes, out),
         "options" => options(alloc, text, out),
         "brc replay --explain, or without" => explained(rt, bytes, out),
+        "brc run | brc graph" => drawn(rt, bytes, out),
         "brc run, as meant" => {
             running(rt, "brc run", bytes, out)?;
             compare_meaning(alloc, bytes, out)

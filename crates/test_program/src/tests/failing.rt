@@ -16,7 +16,7 @@ const IO: &str = "brc: fault 15 Io\n";
 type Answer = (&'static str, &'static str, u8, &'static str, &'static str);
 
 /// Inputs that have an answer.
-const ANSWERS: [Answer; 2] = [
+const ANSWERS: [Answer; 3] = [
     (
         "brc replay",
         "heap 512 4294967294\n0 register 1\n1 claim 266\n1 local 266\n1 shared 266\n1 born 266 list 0\n1 down f0\n1 see 266\n1 free 266\n",
@@ -31,10 +31,17 @@ const ANSWERS: [Answer; 2] = [
         "a: list 1\nledger 1 0 1\nremain 266 list 266\ncycle 266\n",
         "",
     ),
+    (
+        "brc graph",
+        "a: list 1\nledger 1 0 1\nremain 266 list 266\ncycle 266\n",
+        0,
+        "digraph brc {\n  265 [label=\"265 globals\"]\n  266 [label=\"266 list\"]\n  266 -> 266\n  subgraph cluster_266 {\n    label=\"cycle\"\n    266\n  }\n}\n",
+        "",
+    ),
 ];
 
 /// Inputs that are refused.
-const REFUSALS: [Answer; 5] = [
+const REFUSALS: [Answer; 6] = [
     (
         "brc replay",
         "heap 511 1\n",
@@ -56,12 +63,26 @@ const REFUSALS: [Answer; 5] = [
         "",
         "brc: line 2: not a script line\n",
     ),
+    (
+        "brc graph",
+        "ledger 1 0 1\nremain 266 list\n",
+        3,
+        "",
+        "brc: line 2: not a report or world line\n",
+    ),
     ("brc run --cells 511", "", 2, "", "brc: bad command line\n"),
     ("brc", "", 2, "", "brc: bad command line\n"),
 ];
 
 /// Command lines that are answered by help.
-const HELPS: [&str; 3] = ["brc --help", "brc replay --help", "brc run --help"];
+const HELPS: [&str; 6] = [
+    "brc --help",
+    "brc help",
+    "brc replay --help",
+    "brc run --help",
+    "brc graph --help",
+    "brc help graph",
+];
 
 /// The program with these streams: its status, and what is on standard error.
 fn ends<R: Abort + AllocGlobal + Threads + Wait + Sync>(
@@ -267,7 +288,7 @@ fn help_that_cannot_be_written(rt: HostRuntime) -> Result<(), Fail> {
 /// Of an input without end one byte more is read than an input may have.
 #[test]
 fn an_input_without_end(rt: HostRuntime) -> Result<(), Fail> {
-    for line in ["brc replay", "brc run"] {
+    for line in ["brc replay", "brc run", "brc graph"] {
         let given = AtomicU64::new(0);
         let input = Endless { given: &given };
         let mut output = Vec::new(rt.alloc());
@@ -286,6 +307,7 @@ fn an_input_that_is_too_long(rt: HostRuntime) -> Result<(), Fail> {
     const CASES: &[(&str, &str)] = &[
         ("brc replay", "brc: line 0: not a trace line\n"),
         ("brc run", "brc: line 0: not a script line\n"),
+        ("brc graph", "brc: line 0: not a report or world line\n"),
     ];
     let mut input = Vec::new(rt.alloc());
     input.resize(16_777_217, b'\n')?;

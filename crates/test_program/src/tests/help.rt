@@ -16,6 +16,24 @@ fn help<R: Abort + AllocGlobal + Threads + Wait + Sync>(
     Ok(String::from_utf8(text)?)
 }
 
+/// Help by its option and by the word `help` is the same text.
+#[test]
+fn help_is_asked_for_in_three_ways(rt: HostRuntime) -> Result<(), Fail> {
+    const SAME: &[(&str, &str)] = &[
+        ("brc --help", "brc -h"),
+        ("brc --help", "brc help"),
+        ("brc replay --help", "brc help replay"),
+        ("brc run --help", "brc help run"),
+        ("brc graph --help", "brc help graph"),
+    ];
+    for &(line, other) in SAME {
+        let text = help(&rt, line)?;
+        let same = help(&rt, other)?;
+        assert_eq!(rt; same.as_str(), text.as_str(), "{other}");
+    }
+    Ok(())
+}
+
 /// The text says this, or the test ends and names it.
 fn says(rt: &impl Abort, text: &str, said: &str) {
     assert!(rt; text.contains(said), "{said}");
@@ -41,6 +59,9 @@ fn each_command_has_its_help(rt: HostRuntime) -> Result<(), Fail> {
         ("brc run --help", "--local-limit <L>"),
         ("brc run --help", "fetch R NAME"),
         ("brc run --help", "buyer: 1000"),
+        ("brc --help", "graph"),
+        ("brc graph --help", "Usage: brc graph"),
+        ("brc graph --help", "subgraph cluster_266 {"),
     ];
     for &(line, said) in SAYS {
         let text = help(&rt, line)?;

@@ -1,26 +1,11 @@
-use Rattle.std.proofs.Common.{◌++◌, ap}
-use Rattle.std.proofs.lemmas.Result.{err_from_is_err_and}
-use Rattle.brc_text.proofs.PutLaws.{starts, goes_on, fails, rest_puts}
-use Rattle.brc_program.specs.Errors.{fault_line, with_why, told_text}
-use Rattle.brc_program.specs.Explanations.{why_line}
+use Rattle.std.proofs.Common.{sym, subst}
+use Rattle.brc_text.specs.Puts.{Puts}
+use Rattle.brc_program.specs.declared.failed.Failed.{Failed}
+use Rattle.brc_program.specs.Errors.{told_text}
 use Rattle.brc_program.proofs.telling.put_told.Goals as goal
 
-pub returns-in_err-put_fault : goal.returns-in_err-put_fault
-returns-in_err-put_fault g c =
-    let p = err_from_is_err_and c.from_residual.result c.from_residual.ensures.1 in
-    let line = fault_line c.args.failed.now.fault in
-    let behind = why_line c.in-Some.why in
-    let whole = starts (g.E.Write.contents c.args.errors.now) (told_text c.args.failed.now) in
-    rw (p.1, p.2) (
-      c.in_err-put_fault.ensures.0,
-      c.in_err-put_fault.ensures.1 ++ behind,
-      fails line behind whole (ap (with_why line) c.in-Some.is) c.in_err-put_fault.ensures.2,
-    )
-
-pub returns : goal.returns
-returns g c =
-    let line = fault_line c.args.failed.now.fault in
-    let whole = starts (g.E.Write.contents c.args.errors.now) (told_text c.args.failed.now) in
-    rest_puts _ c.put_why.result
-    (goes_on _ line (why_line c.in-Some.why) whole (ap (with_why line) c.in-Some.is) c.in_ok-put_fault.ensures)
-    c.put_why.ensures
+pub returns-in-NoGraph : goal.returns-in-NoGraph
+returns-in-NoGraph g c =
+    let P : Failed → Type 0 = λ failed. Puts (g.E.Write.contents c.args.errors.now)
+    (g.E.Write.contents c.put_bad_line.new.errors) c.put_bad_line.result (told_text failed) in
+    subst P (sym c.in-NoGraph.is) c.put_bad_line.ensures

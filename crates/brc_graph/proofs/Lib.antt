@@ -1,0 +1,5 @@
+mod CutLaws
+mod CellLaws
+mod WalkLaws
+mod DrawLaws
+mod ReportAgain

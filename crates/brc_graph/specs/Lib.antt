@@ -1,0 +1,10 @@
+pub mod FirstWords
+pub mod Operands
+pub mod Cells
+pub mod Names
+pub mod Parts
+pub mod Lines
+pub mod Reading
+pub mod Pictures
+pub mod Draws
+pub mod Reports
