@@ -1,11 +1,13 @@
 -- What becomes of many handles where one comes or goes.
 use Rattle.std.proofs.Common.{arith, ◌≡◌, ◌≢◌, ℕ, zero, suc, ◌+◌, ◌<◌, List, [], ◌∷◌, ◌++◌, Option, Some, None, length}
-use Rattle.std.proofs.Common.{get_or, replicate, slice_set, refl, sym, ◌∙◌, ap, ◌⊎◌}
+use Rattle.std.proofs.Common.{get_or, replicate, slice_set, refl, sym, ◌∙◌, ap, ◌⊎◌, inl, inr, subst}
 use Rattle.std.specs.Prelude.{IfSome, IfNone}
+use Rattle.std.specs.List.{SwappedAt}
+use Rattle.std.proofs.lemmas.Bool.{cases_eq}
 use Rattle.std.proofs.lemmas.Grind.{common_steps}
 use Rattle.std.proofs.Math.Seq.{get_or-append_seam}
 use Rattle.brc_count.specs.Frames.{HandleSeen}
-use Rattle.brc_handles.specs.Handles.{slot, filled, IsApart, AreApart, ComesIn, ComesOut, Exchanges, IsBare}
+use Rattle.brc_handles.specs.Handles.{slot, filled, IsApart, AreApart, ComesIn, ComesOut, Exchanges, Swapped, IsBare}
 
 -- ---- how many are there
 
@@ -220,3 +222,60 @@ pub apart_still : (old new : List (Option HandleSeen)) (h : HandleSeen)
     → ((k : ℕ) → (slot new k ≡ slot old k) ⊎ (slot new k ≡ None))
     → IsApart h old → IsApart h new
 apart_still old new h places apart = λ k. grind (arith, places k, apart k)
+
+-- ---- two places, each with what the other had
+
+pub swapped_with : (now hs new : List (Option HandleSeen)) (i j : ℕ) → hs ≡ now → i < length hs → j < length hs
+    → SwappedAt hs new i j
+    → Swapped now new i j
+swapped_with now hs new i j view i_in j_in at = rw (← view) (record {
+  count =
+      let mid : List (Option HandleSeen) = slice_set hs i (slot hs j) in
+      let j_mid : j < length mid = grind (arith, common_steps) in
+      let had : slot mid j ≡ slot hs j = grind (arith, common_steps) in
+      let at_i = filled-set hs i (slot hs j) i_in in
+      let at_j = filled-set mid j (slot hs i) j_mid in
+      omega (arith, at_i, at_j, ap one had, ap filled (at.3 None));
+  first = at.0 None;
+  second = at.1 None;
+  rest = λ k not_i not_j. at.2 k None not_i not_j;
+})
+
+-- what is so of each that was there is so of each that is
+pub each_swapped : (P : HandleSeen → Type 0) (old new : List (Option HandleSeen)) (i j : ℕ) → Swapped old new i j
+    → ((k : ℕ) → IfSome (slot old k) P) → (k : ℕ) → IfSome (slot new k) P
+each_swapped P old new i j swapped all k = elim (cases_eq k i) [
+  | inl is_i ↦ subst (λ (o : Option HandleSeen). IfSome o P) (sym (ap (slot new) is_i ∙ swapped.first)) (all j)
+  | inr not_i ↦ elim (cases_eq k j) [
+    | inl is_j ↦ subst (λ (o : Option HandleSeen). IfSome o P) (sym (ap (slot new) is_j ∙ swapped.second)) (all i)
+    | inr not_j ↦ subst (λ (o : Option HandleSeen). IfSome o P) (sym (swapped.rest k not_i not_j)) (all k)
+  ]
+]
+
+pub apart_swapped : (old new : List (Option HandleSeen)) (i j : ℕ) → Swapped old new i j → AreApart old → AreApart new
+apart_swapped old new i j swapped are a b g h else is_g is_h =
+    let from_i : (k : ℕ) (x : HandleSeen) → k ≡ i → slot new k ≡ Some x → slot old j ≡ Some x
+        = λ k x is_i is. sym swapped.first ∙ sym (ap (slot new) is_i) ∙ is in
+    let from_j : (k : ℕ) (x : HandleSeen) → k ≡ j → slot new k ≡ Some x → slot old i ≡ Some x
+        = λ k x is_j is. sym swapped.second ∙ sym (ap (slot new) is_j) ∙ is in
+    let stays : (k : ℕ) (x : HandleSeen) → k ≢ i → k ≢ j → slot new k ≡ Some x → slot old k ≡ Some x
+        = λ k x not_i not_j is. sym (swapped.rest k not_i not_j) ∙ is in
+    elim (cases_eq a i) [
+      | inl a_i ↦ elim (cases_eq b j) [
+        | inl b_j ↦ are j i g h (omega arith) (from_i a g a_i is_g) (from_j b h b_j is_h)
+        | inr b_not ↦ are j b g h (omega arith) (from_i a g a_i is_g) (stays b h (omega arith) b_not is_h)
+      ]
+      | inr a_not ↦ elim (cases_eq a j) [
+        | inl a_j ↦ elim (cases_eq b i) [
+          | inl b_i ↦ are i j g h (omega arith) (from_j a g a_j is_g) (from_i b h b_i is_h)
+          | inr b_not ↦ are i b g h (omega arith) (from_j a g a_j is_g) (stays b h b_not (omega arith) is_h)
+        ]
+        | inr a_else ↦ elim (cases_eq b i) [
+          | inl b_i ↦ are a j g h (omega arith) (stays a g a_not a_else is_g) (from_i b h b_i is_h)
+          | inr b_not ↦ elim (cases_eq b j) [
+            | inl b_j ↦ are a i g h (omega arith) (stays a g a_not a_else is_g) (from_j b h b_j is_h)
+            | inr b_else ↦ are a b g h else (stays a g a_not a_else is_g) (stays b h b_not b_else is_h)
+          ]
+        ]
+      ]
+    ]

@@ -44,6 +44,13 @@ pub record Exchanges (old new : List (Option HandleSeen)) (i : ℕ) (handle gone
   pub places : (k : ℕ) → (slot new k ≡ slot old k) ⊎ (slot new k ≡ Some handle)
   pub apart : IsApart gone new
 
+-- Two places have what the other had: there are as many handles, and every other place has what it had.
+pub record Swapped (old new : List (Option HandleSeen)) (i j : ℕ) : Type 0 where
+  pub count : filled new ≡ filled old
+  pub first : slot new i ≡ slot old j
+  pub second : slot new j ≡ slot old i
+  pub rest : (k : ℕ) → k ≢ i → k ≢ j → slot new k ≡ slot old k
+
 -- no handle is there
 pub record IsBare (handles : List (Option HandleSeen)) : Type 0 where
   pub count : filled handles ≡ 0

@@ -1,6 +1,6 @@
 //! Many handles: by number, and the last one first.
 
-ghost use Rattle.std.specs.Prelude.{◌≡◌, ◌<◌, ℕ, Some, None, [], ◌∷◌, ◌++◌, ◌⊎◌, length, replicate, IfOk, IfErr, OnOk};
+ghost use Rattle.std.specs.Prelude.{◌≡◌, ◌<◌, ℕ, Some, None, [], ◌∷◌, ◌++◌, length, replicate, IfOk, IfErr, OnOk};
 ghost use Rattle.std.specs.Prelude.{OnErr, IfSome, IfNone, slice_set};
 ghost use Rattle.std.specs.Option.{option_copied};
 ghost use Rattle.brc_words.specs.declared.fault.Fault.TheVariants.{OutOfMemory};
@@ -91,17 +91,17 @@ impl<A: Allocator> Handles<A> {
         Ok(())
     }
 
-    /// The last place goes. The answer is the handle that was in it; None where it was empty, or there is no place.
+    /// The last place goes. The answer is what was in it: a handle, or nothing. None where there is no place.
     #[inline(always)]
-    pub fn pop(&mut self) -> Option<Handle<A>>
-        ensures popped { IfSome result (λ handle. self.old ≡ self.new ++ Some handle ∷ []) }
-        ensures none { IfNone result ((self.old ≡ self.new ++ None ∷ []) ⊎ ((self.old ≡ []) × (self.new ≡ []))) }
-        ensures comes { IfSome result (ComesOut self.old self.new (length self.new)) }
+    pub fn pop(&mut self) -> Option<Option<Handle<A>>>
+        ensures popped { IfSome result (λ last. self.old ≡ self.new ++ last ∷ []) }
+        ensures none { IfNone result ((self.old ≡ []) × (self.new ≡ [])) }
+        ensures comes { IfSome result (λ last. IfSome last (ComesOut self.old self.new (length self.new))) }
     {
         let Some(last) = self.slots.pop() else {
             return None;
         };
-        last
+        Some(last)
     }
 
     /// The handle out of this place, which is empty then; None where it was empty before.

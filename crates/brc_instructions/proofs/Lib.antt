@@ -1,5 +1,5 @@
 mod Few
-mod Gained
+mod Beside
 mod Follows_Of
 mod Looks
 mod Sums_Read

@@ -2,7 +2,7 @@ use Rattle.law_living.proofs.Earlier.{later_both}
 use Rattle.law_isolation.proofs.Later_Calls.{later_given}
 use Rattle.brc_count.proofs.Quiet.{let_go_quietly}
 use Rattle.brc_instructions.proofs.Follows_Of.{later_as_before, later_held}
-use Rattle.brc_instructions.proofs.Gained.{owns_after}
+use Rattle.brc_handles.proofs.Gained.{owns_after}
 use Rattle.brc_instructions.proofs.globals.given_by_globals.Goals as goal
 
 pub returns-in_err-globals-clause-later : goal.returns-in_err-globals-clause-later

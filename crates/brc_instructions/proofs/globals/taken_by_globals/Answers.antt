@@ -3,7 +3,7 @@ use Rattle.law_living.proofs.Earlier.{later_both}
 use Rattle.law_isolation.proofs.Later_Calls.{later_given}
 use Rattle.brc_count.proofs.Quiet.{let_go_quietly}
 use Rattle.brc_instructions.proofs.Follows_Of.{later_as_before, later_held, late_pair_put}
-use Rattle.brc_instructions.proofs.Gained.{owns_beside}
+use Rattle.brc_instructions.proofs.Beside.{owns_beside}
 use Rattle.brc_instructions.proofs.globals.taken_by_globals.Goals as goal
 
 pub returns-in-Err-clause-later : goal.returns-in-Err-clause-later

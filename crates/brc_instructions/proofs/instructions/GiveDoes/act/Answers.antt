@@ -1,7 +1,7 @@
 use Rattle.std.proofs.Common.{sym, subst}
 use Rattle.std.proofs.lemmas.Result.{err_from_is_err_and}
 use Rattle.brc_instructions.specs.Calls.{given_by}
-use Rattle.brc_instructions.proofs.Gained.{gains_besides}
+use Rattle.brc_handles.proofs.Gained.{gains_besides}
 use Rattle.brc_instructions.proofs.Follows_Of.{Led, later_held, own_before, called_gives}
 use Rattle.brc_instructions.proofs.Stands_For.{after_gives, gives_refused}
 use Rattle.brc_instructions.proofs.instructions.GiveDoes.act.Goals as goal
