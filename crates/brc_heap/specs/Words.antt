@@ -4,3 +4,4 @@ pub use Rattle.brc_count.specs.Frames.{FrameSeen, HandleSeen, Owns, IsUnlocked}
 pub use Rattle.brc_count.specs.Owned.{Keeps, Gains, Loses, Trades, GoesOn}
 -- and which of the many handles that a client keeps it owns
 pub use Rattle.brc_handles.specs.Handles.{Holds, OwnsEach, IsApart, filled, slot}
+pub use Rattle.brc_handles.specs.Standing.{Stands, Besides, KeepsStanding}

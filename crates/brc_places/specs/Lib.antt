@@ -1,3 +1,4 @@
 pub mod Placing
 pub mod Calls
 pub mod Reading
+pub mod Stacking

@@ -116,8 +116,13 @@ pub fn give_at<H: Home<A>, A: Allocator>(
     if !is_there(handles, to) {
         return Err(Fault::NoSuchPlace);
     }
-    let given = gave(rt, frame, object, by)?;
-    place(frame, handles, to, given)
+    match gave(rt, frame, object, by) {
+        Err(fault) => Err(fault),
+        Ok(given) => match place(frame, handles, to, given) {
+            Ok(()) => Ok(()),
+            Err(fault) => Err(fault),
+        },
+    }
 }
 
 /// The same without waiting: Busy, where another thread has the container locked, comes after NoSuchPlace and before
@@ -144,6 +149,11 @@ pub fn try_give_at<H: Home<A>, A: Allocator>(
     if !is_there(handles, to) {
         return Err(Fault::NoSuchPlace);
     }
-    let given = try_gave(frame, object, by)?;
-    place(frame, handles, to, given)
+    match try_gave(frame, object, by) {
+        Err(fault) => Err(fault),
+        Ok(given) => match place(frame, handles, to, given) {
+            Ok(()) => Ok(()),
+            Err(fault) => Err(fault),
+        },
+    }
 }

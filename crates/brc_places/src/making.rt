@@ -40,7 +40,7 @@ pub enum Make<'t> {
 }
 
 /// A copy of the text, as an object.
-fn made_text<H: Home<A>, A: Allocator>(
+fn made_text<H: Home<A>, A: Allocator + Copy>(
     alloc: A,
     frame: &mut Frame<H, A>,
     text: &str,
@@ -106,6 +106,11 @@ pub fn make_at<H: Home<A>, A: Allocator + Copy>(
     if !is_there(handles, to) {
         return Err(Fault::NoSuchPlace);
     }
-    let given = made(alloc, frame, make)?;
-    place(frame, handles, to, given)
+    match made(alloc, frame, make) {
+        Err(fault) => Err(fault),
+        Ok(given) => match place(frame, handles, to, given) {
+            Ok(()) => Ok(()),
+            Err(fault) => Err(fault),
+        },
+    }
 }
