@@ -1,12 +1,13 @@
 -- What the frame owns after a call that may have given it one handle more, which is in no place of the many.
-use Rattle.std.proofs.Common.{List, Option, Some, None, Result, Ok, Err, IfOk, arith, ℕ}
-use Rattle.std.specs.Prelude.{OnErr}
+use Rattle.std.proofs.Common.{◌≡◌, List, [], ◌∷◌, ◌++◌, Option, Some, None, Result, Ok, Err, IfOk, arith, ℕ, length, ◌∙◌}
+use Rattle.std.specs.Prelude.{OnErr, MatchOption}
 use Rattle.std.specs.Option.{IfSome}
 use Rattle.brc_words.specs.declared.fault.Fault.{Fault}
 use Rattle.brc_count.specs.Frames.{FrameSeen, HandleSeen, IsUnlocked, Owns}
 use Rattle.brc_count.specs.Owned.{Gains, Keeps}
-use Rattle.brc_handles.specs.Handles.{slot}
+use Rattle.brc_handles.specs.Handles.{slot, ComesOut, Swapped}
 use Rattle.brc_handles.specs.Standing.{Stands, Besides, KeepsStanding}
+use Rattle.brc_handles.proofs.Places.{counted_less, each_at, each_less, each_swapped}
 
 -- what is so of each that is there stays so as another thing
 each : {P Q : HandleSeen → Type 0} → ((h : HandleSeen) → P h → Q h) → (found : Option HandleSeen) → IfSome found P
@@ -33,6 +34,19 @@ module _ {A : Type 0} where
   owns_after old new h (Ok given) gains keeps owns = gains.owns h owns
   owns_after old new h (Err fault) gains keeps owns = keeps.owns h owns
 
+  -- from one call to the next
+  pub stands_on : (old mid new : FrameSeen A) (before between after : List (Option HandleSeen))
+      → KeepsStanding old mid before between → KeepsStanding mid new between after
+      → KeepsStanding old new before after
+  stands_on old mid new before between after first second = record {
+    each = second.each;
+    count = omega (arith, first.count, second.count);
+    heap = second.heap ∙ first.heap;
+    unlocked = second.unlocked;
+    owns = λ h owns apart. second.owns h (first.owns h owns apart) (first.apart h owns apart);
+    apart = λ h owns apart. second.apart h (first.owns h owns apart) (first.apart h owns apart);
+  }
+
   -- as many others stand beside the handles as before
   pub still_stands : (others : ℕ) (old new : FrameSeen A) (before after : List (Option HandleSeen))
       → KeepsStanding old new before after → Stands others old before → Stands others new after
@@ -49,4 +63,38 @@ module _ {A : Type 0} where
     owned = keeps.owns loose besides.owned besides.apart;
     apart = keeps.apart loose besides.owned besides.apart;
     unlocked = keeps.unlocked;
+  }
+
+  -- the last place went, and what was in it is loose
+  pub popped_stands : (others : ℕ) (frame : FrameSeen A) (old new : List (Option HandleSeen))
+      (popped : Option (Option HandleSeen)) → IfSome popped (λ last. old ≡ new ++ last ∷ [])
+      → IfSome popped (λ last. IfSome last (ComesOut old new (length new))) → Stands others frame old
+      → IfSome popped (λ last. MatchOption last (Stands others frame new) (Besides others frame new))
+  popped_stands others frame old new None is comes stands = tt
+  popped_stands others frame old new (Some None) is comes stands = record {
+    holds = record {
+      owned = each_less (Owns frame) old new None is stands.holds.owned;
+      count = omega (arith, counted_less old new None is, stands.holds.count);
+    };
+    unlocked = stands.unlocked;
+  }
+  popped_stands others frame old new (Some (Some h)) is comes stands = record {
+    holds = record {
+      owned = each_less (Owns frame) old new (Some h) is stands.holds.owned;
+      count = omega (arith, comes.count, stands.holds.count);
+    };
+    owned = each_at (Owns frame) old (length new) h comes.was stands.holds.owned;
+    apart = comes.apart;
+    unlocked = stands.unlocked;
+  }
+
+  -- two places have what the other had
+  pub swapped_stands : (others : ℕ) (frame : FrameSeen A) (old new : List (Option HandleSeen)) (i j : ℕ)
+      → Swapped old new i j → Stands others frame old → Stands others frame new
+  swapped_stands others frame old new i j swapped stands = record {
+    holds = record {
+      owned = each_swapped (Owns frame) old new i j swapped stands.holds.owned;
+      count = omega (arith, swapped.count, stands.holds.count);
+    };
+    unlocked = stands.unlocked;
   }

@@ -1,7 +1,7 @@
 -- What becomes of many handles where one comes or goes.
 use Rattle.std.proofs.Common.{arith, ◌≡◌, ◌≢◌, ℕ, zero, suc, ◌+◌, ◌<◌, List, [], ◌∷◌, ◌++◌, Option, Some, None, length}
 use Rattle.std.proofs.Common.{get_or, replicate, slice_set, refl, sym, ◌∙◌, ap, ◌⊎◌, inl, inr, subst}
-use Rattle.std.specs.Prelude.{IfSome, IfNone}
+use Rattle.std.specs.Prelude.{IfSome, IfNone, MatchOption}
 use Rattle.std.specs.List.{SwappedAt}
 use Rattle.std.proofs.lemmas.Bool.{cases_eq}
 use Rattle.std.proofs.lemmas.Grind.{common_steps}
@@ -279,3 +279,40 @@ apart_swapped old new i j swapped are a b g h else is_g is_h =
         ]
       ]
     ]
+
+-- ---- the last place went, whatever was in it
+
+-- how many are there then
+pub counted_less : (old new : List (Option HandleSeen)) (last : Option HandleSeen) → old ≡ new ++ last ∷ []
+    → MatchOption last (filled new ≡ filled old) (λ h. filled new + 1 ≡ filled old)
+unfolding one
+counted_less old new None is = omega (arith, ap filled is, filled-append new None)
+counted_less old new (Some h) is = omega (arith, ap filled is, filled-append new (Some h))
+
+pub popped_count : (old new : List (Option HandleSeen)) (popped : Option (Option HandleSeen))
+    → IfSome popped (λ last. old ≡ new ++ last ∷ [])
+    → IfSome popped (λ last. MatchOption last (filled new ≡ filled old) (λ h. filled new + 1 ≡ filled old))
+popped_count old new None is = tt
+popped_count old new (Some last) is = counted_less old new last is
+
+-- what is so of each that was there is so of each that is
+pub each_less : (P : HandleSeen → Type 0) (old new : List (Option HandleSeen)) (last : Option HandleSeen)
+    → old ≡ new ++ last ∷ [] → ((k : ℕ) → IfSome (slot old k) P) → (k : ℕ) → IfSome (slot new k) P
+each_less P old new last is all k = if_there (slot new k) P (λ h there.
+    subst (λ (o : Option HandleSeen). IfSome o P)
+    (ap (λ (l : List (Option HandleSeen)). slot l k) is ∙ slot_before new last k h there) (all k))
+
+-- what is so of each is so of the one in this place
+pub each_at : (P : HandleSeen → Type 0) (hs : List (Option HandleSeen)) (k : ℕ) (h : HandleSeen) → slot hs k ≡ Some h
+    → ((j : ℕ) → IfSome (slot hs j) P) → P h
+each_at P hs k h is all = subst (λ (o : Option HandleSeen). IfSome o P) is (all k)
+
+-- what is apart from all that were there is apart from what was in the last place
+pub beside_last : (old new : List (Option HandleSeen)) (popped : Option (Option HandleSeen))
+    → IfSome popped (λ last. old ≡ new ++ last ∷ [])
+    → IfSome popped (λ last. IfSome last (λ handle. (h : HandleSeen) → IsApart h old → h.place ≢ handle.place))
+beside_last old new None is = tt
+beside_last old new (Some None) is = tt
+beside_last old new (Some (Some handle)) is = λ h apart.
+    each_at (λ (g : HandleSeen). h.place ≢ g.place) old (length new) handle
+    (ap (λ (l : List (Option HandleSeen)). slot l (length new)) is ∙ get_or-append_seam new (Some handle) [] None) apart

@@ -91,6 +91,8 @@ impl<A: Allocator> Handles<A> {
         ensures count { IfSome result (λ last. MatchOption last (filled self.new ≡ filled self.old)
             (λ handle. filled self.new + 1 ≡ filled self.old)) }
         ensures apart { (h : HandleSeen) → IsApart h self.old → IsApart h self.new }
+        ensures beside { IfSome result (λ last. IfSome last (λ handle.
+            (h : HandleSeen) → IsApart h self.old → h.place ≢ handle.place)) }
 
         ensures popped { IfSome result (λ last. self.old ≡ self.new ++ last ∷ []) }
         ensures none { IfNone result ((self.old ≡ []) × (self.new ≡ [])) }

@@ -39,7 +39,7 @@ module _ {A : Type 0} where
   pub data Lacks (to : To) (call : FrameSeen A → Result HandleSeen Fault → Type 0) (old new : FrameSeen A)
       (before : List (Option HandleSeen)) (fault : Fault) : Type 0 where
     NoPlace : fault ≡ faults.NoSuchPlace → (IsThere to before → ⊥) → new ≡ old → Lacks to call old new before fault
-    Refused : IsThere to before → call new (Err fault) → Lacks to call old new before fault
+    CallRefused : IsThere to before → call new (Err fault) → Lacks to call old new before fault
     NoRoom : fault ≡ faults.OutOfMemory → to ≡ tos.Last → (given : HandleSeen) (between : FrameSeen A)
         → call between (Ok given) → Loses between new given → Lacks to call old new before fault
 
@@ -78,6 +78,6 @@ module _ {A : Type 0} where
     NoHandle : fault ≡ faults.NoSuchPlace
         → (slot before value ≡ None) ⊎ (slot before container ≡ None) ⊎ (container ≡ value) → new ≡ old
         → TakesNot call old new before container value fault
-    Refused : (object given : HandleSeen) (handed : Handed HandleSeen) → slot before container ≡ Some object
+    ValueRefused : (object given : HandleSeen) (handed : Handed HandleSeen) → slot before container ≡ Some object
         → slot before value ≡ Some given → container ≢ value → handed.fault ≡ fault → handed.back ≡ given
         → call new object.place given (Err handed) → TakesNot call old new before container value fault

@@ -15,12 +15,19 @@ module _ {A : Type 0} where
     pub set : after ≡ slice_set rest i (Some handle)
     pub gone : MatchOption (slot rest i) (new ≡ old) (Loses old new)
 
-  -- The handle on top went by the call into the container below it, and its place is gone. What came out for it is
-  -- released.
+  -- the last place is gone, and what was in it is released
+  pub record DropsLast (old new : FrameSeen A) (before after : List (Option HandleSeen)) : Type 0 where
+    pub last : Option HandleSeen
+    pub popped : before ≡ after ++ last ∷ []
+    pub gone : MatchOption last (new ≡ old) (Loses old new)
+
+  -- The handle on top went by the call into the container below it. Then its place is gone, and what was in it, which is
+  -- what came out, is released.
   pub record TakesTop (call : FrameSeen A → ℕ → HandleSeen → Result (Option HandleSeen) (Handed HandleSeen) → Type 0)
       (new : FrameSeen A) (before after : List (Option HandleSeen)) : Type 0 where
     pub between : FrameSeen A
     pub places : List (Option HandleSeen)
     pub took : Takes call between before places (length before - 2) (length before - 1)
-    pub popped : places ≡ after ++ took.answer ∷ []
-    pub gone : MatchOption took.answer (new ≡ between) (Loses between new)
+    pub last : Option HandleSeen
+    pub popped : places ≡ after ++ last ∷ []
+    pub gone : MatchOption last (new ≡ between) (Loses between new)

@@ -1,6 +1,6 @@
 //! A stack of handles, whose last place is its top.
 
-ghost use Rattle.std.specs.Prelude.{◌≡◌, ◌≢◌, ◌+◌, ◌-◌, ◌⊎◌, ℕ, [], ◌∷◌, ◌++◌, Some, None, Err, IfOk, IfErr, IfSome, IfNone};
+ghost use Rattle.std.specs.Prelude.{◌≡◌, ◌≢◌, ◌+◌, ◌-◌, ◌<◌, ◌⊎◌, ℕ, [], ◌∷◌, ◌++◌, Some, None, Err, IfOk, IfErr, IfSome, IfNone};
 ghost use Rattle.std.specs.Prelude.{OnOk, OnErr, MatchOption, length};
 ghost use Rattle.std.specs.Option.{option_copied};
 ghost use Rattle.brc_words.specs.declared.fault.Fault.TheVariants as faults;
@@ -15,11 +15,11 @@ ghost use Rattle.brc_places.specs.declared.making.Make.TheVariants as makes;
 ghost use Rattle.brc_places.specs.Calls.{MadeBy, GaveLate, TookLate};
 ghost use Rattle.brc_places.specs.Placing.{Comes, Lacks, Gives, GivesNot};
 ghost use Rattle.brc_places.specs.Reading.{Reads};
-ghost use Rattle.brc_places.specs.Stacking.{Stores, TakesTop};
+ghost use Rattle.brc_places.specs.Stacking.{DropsLast, Stores, TakesTop};
 
 use crate::giving::{GiveBy, give_at};
 use crate::making::{Make, make_at};
-use crate::placing::To;
+use crate::placing::{To, place};
 use crate::reading::int_at;
 use crate::taking::{TakeBy, take_at};
 use brc_biased::Home;
@@ -29,6 +29,22 @@ use brc_words::Fault;
 use std::alloc::{Allocator, Global};
 use std::marker::Model;
 use std::sync::Wait;
+
+/// The last place goes, and what is in it is released.
+#[inline(always)]
+fn drop_last<H: Home<A>, A: Allocator>(frame: &mut Frame<H, A>, handles: &mut Handles<A>)
+    requires each { OwnsEach frame.old handles.old }
+    requires unlocked { IsUnlocked frame.old }
+    requires some { 0 < length handles.old }
+    ensures stands { KeepsStanding frame.old frame.new handles.old handles.new }
+    ensures drops { DropsLast frame.old frame.new handles.old handles.new }
+{
+    match handles.pop_out(frame) {
+        None => unreachable!(),
+        Some(None) => {}
+        Some(Some(handle)) => frame.release(handle),
+    }
+}
 
 /// Handles, each in a place with a number; the last place is the top. They must be spent, by `release_all`.
 pub struct Stack<A: Allocator = Global> {
@@ -134,6 +150,7 @@ impl<A: Allocator> Stack<A> {
         ensures count { MatchOption result (filled self.new ≡ filled self.old)
             (λ handle. filled self.new + 1 ≡ filled self.old) }
         ensures apart { (h : HandleSeen) → IsApart h self.old → IsApart h self.new }
+        ensures beside { IfSome result (λ handle. (h : HandleSeen) → IsApart h self.old → h.place ≢ handle.place) }
 
         ensures popped { IfSome result (λ handle. self.old ≡ self.new ++ Some handle ∷ []) }
         ensures none { IfNone result ((self.old ≡ self.new ++ None ∷ []) ⊎ ((self.old ≡ []) × (self.new ≡ []))) }
@@ -256,11 +273,13 @@ impl<A: Allocator> Stack<A> {
         if len < 2 {
             return Err(Fault::NoSuchPlace);
         }
-        take_at(rt, alloc, frame, &mut self.handles, len - 2, by, len - 1)?;
-        if let Some(old) = self.pop(frame) {
-            frame.release(old);
+        match take_at(rt, alloc, frame, &mut self.handles, len - 2, by, len - 1) {
+            Err(fault) => Err(fault),
+            Ok(()) => {
+                drop_last(frame, &mut self.handles);
+                Ok(())
+            }
         }
-        Ok(())
     }
 
     /// The top goes into this place, counted from the first, and what was there is released. NoSuchPlace where there is
@@ -279,10 +298,10 @@ impl<A: Allocator> Stack<A> {
         let Some(handle) = self.pop(frame) else {
             return Err(Fault::NoSuchPlace);
         };
-        if let Some(old) = self.handles.put(index, handle) {
-            frame.release(old);
+        match place(frame, &mut self.handles, To::Place(index), handle) {
+            Ok(()) => Ok(()),
+            Err(_fault) => unreachable!(),
         }
-        Ok(())
     }
 
     /// The number of the integer on top, which stays; it is refused as `int_at` is.
