@@ -255,11 +255,11 @@ each_swapped P old new i j swapped all k = elim (cases_eq k i) [
 pub apart_swapped : (old new : List (Option HandleSeen)) (i j : ℕ) → Swapped old new i j → AreApart old → AreApart new
 apart_swapped old new i j swapped are a b g h else is_g is_h =
     let from_i : (k : ℕ) (x : HandleSeen) → k ≡ i → slot new k ≡ Some x → slot old j ≡ Some x
-        = λ k x is_i is. sym swapped.first ∙ sym (ap (slot new) is_i) ∙ is in
+    = λ k x is_i is. sym swapped.first ∙ sym (ap (slot new) is_i) ∙ is in
     let from_j : (k : ℕ) (x : HandleSeen) → k ≡ j → slot new k ≡ Some x → slot old i ≡ Some x
-        = λ k x is_j is. sym swapped.second ∙ sym (ap (slot new) is_j) ∙ is in
+    = λ k x is_j is. sym swapped.second ∙ sym (ap (slot new) is_j) ∙ is in
     let stays : (k : ℕ) (x : HandleSeen) → k ≢ i → k ≢ j → slot new k ≡ Some x → slot old k ≡ Some x
-        = λ k x not_i not_j is. sym (swapped.rest k not_i not_j) ∙ is in
+    = λ k x not_i not_j is. sym (swapped.rest k not_i not_j) ∙ is in
     elim (cases_eq a i) [
       | inl a_i ↦ elim (cases_eq b j) [
         | inl b_j ↦ are j i g h (omega arith) (from_i a g a_i is_g) (from_j b h b_j is_h)

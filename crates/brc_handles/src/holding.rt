@@ -1,12 +1,13 @@
 //! A frame and many of its handles: each call tells that the frame owns them afterwards, and how many others.
 
 ghost use Rattle.std.specs.Prelude.{◌≡◌, ◌≢◌, ◌+◌, ◌<◌, ◌⊎◌, Some, None, [], ◌∷◌, ◌++◌, OnOk, OnErr, IfErr, IsSome};
-ghost use Rattle.std.specs.Prelude.{length, slice_set};
+ghost use Rattle.std.specs.Prelude.{ℕ, length, slice_set};
 ghost use Rattle.brc_words.specs.declared.fault.Fault.TheVariants.{OutOfMemory};
 ghost use Rattle.law_living.specs.Quiet.{Quietly};
 ghost use Rattle.brc_count.specs.Frames.{HandleSeen, IsUnlocked, Owns, Refused};
 ghost use Rattle.brc_count.specs.Owned.{Keeps, Loses};
 ghost use Rattle.brc_handles.specs.Handles.{slot, filled, IsApart, OwnsEach, ComesIn, Retains};
+ghost use Rattle.brc_handles.specs.Standing.{Stands, Besides};
 
 use crate::handles::Handles;
 use brc_biased::Home;
@@ -27,6 +28,8 @@ impl<A: Allocator> Handles<A> {
         requires apart { IsApart handle self.old }
         requires unlocked { IsUnlocked frame.old }
 
+        ensures stands { (others : ℕ) → Besides others frame.old self.old handle
+            → Stands others frame.new self.new }
         ensures each { OwnsEach frame.new self.new }
         ensures count { frame.new.len + filled self.old + 1 ≡ frame.old.len + filled self.new }
         ensures heap { frame.new.heap ≡ frame.old.heap }
@@ -56,6 +59,7 @@ impl<A: Allocator> Handles<A> {
         requires there { IsSome (slot self.old index) }
         requires unlocked { IsUnlocked frame.old }
 
+        ensures stands { (others : ℕ) → Stands others frame.old self.old → Stands others frame.new self.new }
         ensures each { OwnsEach frame.new self.new }
         ensures count { frame.new.len + filled self.old ≡ frame.old.len + filled self.new }
         ensures heap { frame.new.heap ≡ frame.old.heap }
@@ -84,6 +88,7 @@ impl<A: Allocator> Handles<A> {
         requires inside { index < length self.old }
         requires unlocked { IsUnlocked frame.old }
 
+        ensures stands { (others : ℕ) → Stands others frame.old self.old → Stands others frame.new self.new }
         ensures each { OwnsEach frame.new self.new }
         ensures count { frame.new.len + filled self.old ≡ frame.old.len + filled self.new }
         ensures heap { frame.new.heap ≡ frame.old.heap }

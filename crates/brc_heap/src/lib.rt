@@ -49,8 +49,9 @@ pub use brc_lists::{
 
 // by place, and from the top of a stack
 pub use brc_places::{
-    GiveBy, Make, Stack, Step, TakeBy, To, Turn, give_at, int_at, kind_at, len_at, make_at, run_steps,
-    take_at, text_at, try_give_at, try_int_at, try_kind_at, try_len_at, try_take_at, try_text_at,
+    GiveBy, Make, Stack, Step, TakeBy, To, Turn, give_at, int_at, kind_at, len_at, make_at,
+    run_steps, take_at, text_at, try_give_at, try_int_at, try_kind_at, try_len_at, try_take_at,
+    try_text_at,
 };
 
 // plain values

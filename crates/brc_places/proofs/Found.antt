@@ -47,7 +47,7 @@ found_beside before mid i k object emptied is =
     in elim (cases_eq k i) [
       | inl same ↦
           let none : Some object ≡ None
-              = there ∙ ap (slot (slice_set before i None)) same ∙ set_here before i in
+          = there ∙ ap (slot (slice_set before i None)) same ∙ set_here before i in
           absurd (let no : ⊥ = cc in no)
       | inr other ↦ (other, sym (there ∙ set_else before i k other))
     ]

@@ -13,7 +13,7 @@ ghost use Rattle.brc_handles.specs.Standing.{KeepsStanding};
 ghost use Rattle.brc_places.specs.declared.placing.To.TheVariants as tos;
 ghost use Rattle.brc_places.specs.declared.making.Make.TheVariants as makes;
 ghost use Rattle.brc_places.specs.Calls.{MadeBy, GaveLate, TookLate};
-ghost use Rattle.brc_places.specs.Placing.{Comes, Lacks, Gives, GivesNot};
+ghost use Rattle.brc_places.specs.Placing.{Comes, Lacks, Gives, GivesNot, TakesNot};
 ghost use Rattle.brc_places.specs.Reading.{Reads};
 ghost use Rattle.brc_places.specs.Stacking.{DropsLast, Stores, TakesTop};
 
@@ -161,7 +161,7 @@ impl<A: Allocator> Stack<A> {
         }
     }
 
-    /// The top goes, and what was in it is released. NoSuchPlace where nothing was, or there is none.
+    /// The top goes, and what was in it is released. NoSuchPlace where no handle was in it, or there is none.
     #[inline(always)]
     pub fn release<H: Home<A>>(&mut self, frame: &mut Frame<H, A>) -> Result<(), Fault>
         requires each { OwnsEach frame.old self.old }
@@ -206,6 +206,8 @@ impl<A: Allocator> Stack<A> {
         requires unlocked { IsUnlocked frame.old }
         ensures stands { KeepsStanding frame.old frame.new self.old self.new }
         ensures more { OnOk result (Retains frame.old frame.new self.old self.new (length self.old - 1)) }
+        ensures refused { IfErr result (λ fault. (fault ≡ faults.NoSuchPlace) ⊎ (fault ≡ faults.OutOfMemory)
+            ⊎ Refused frame.old fault) }
         ensures unchanged { OnErr result (self.new ≡ self.old) }
     {
         let top = self.len().saturating_sub(1);
@@ -267,6 +269,8 @@ impl<A: Allocator> Stack<A> {
         requires unlocked { IsUnlocked frame.old }
         ensures stands { KeepsStanding frame.old frame.new self.old self.new }
         ensures took { OnOk result (TakesTop (TookLate by.entry frame.old) frame.new self.old self.new) }
+        ensures refused { IfErr result (TakesNot (TookLate by.entry frame.old) frame.old frame.new self.old
+            (length self.old - 2) (length self.old - 1)) }
         ensures unchanged { OnErr result (self.new ≡ self.old) }
     {
         let len = self.len();
@@ -283,7 +287,7 @@ impl<A: Allocator> Stack<A> {
     }
 
     /// The top goes into this place, counted from the first, and what was there is released. NoSuchPlace where there is
-    /// no handle on top, or no such place below it.
+    /// no such place below the top, then where no handle is on top: its place is gone.
     #[inline(always)]
     pub fn store<H: Home<A>>(&mut self, frame: &mut Frame<H, A>, index: usize) -> Result<(), Fault>
         requires each { OwnsEach frame.old self.old }

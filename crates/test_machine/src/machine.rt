@@ -48,11 +48,7 @@ impl<'p> Machine<'p> {
     {
         let second = self.number(rt, frame, stack)?;
         let first = self.number(rt, frame, stack)?;
-        stack.make(
-            self.alloc,
-            frame,
-            Make::Int(first.saturating_add(second)),
-        )
+        stack.make(self.alloc, frame, Make::Int(first.saturating_add(second)))
     }
 
     /// An instruction after which the next one follows.

@@ -1,8 +1,8 @@
 //! What the machines run.
 
 use crate::instruction::Instruction::{
-    self, Add, Append, Delete, Dict, Drop, Duplicate, Find, Get, Globals, Int, Jump, JumpIfZero, Last,
-    List, Load, Mailbox, Put, Receive, Send, Store, Swap, Tell, Text, True,
+    self, Add, Append, Delete, Dict, Drop, Duplicate, Find, Get, Globals, Int, Jump, JumpIfZero,
+    Last, List, Load, Mailbox, Put, Receive, Send, Store, Swap, Tell, Text, True,
 };
 
 /// A mailbox goes into the globals, for the others to find.

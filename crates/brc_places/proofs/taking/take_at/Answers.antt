@@ -11,7 +11,7 @@ returns-in_default-get-clause-unchanged g c =
 pub returns-in-Ok-Some-clause-took : goal.returns-in-Ok-Some-clause-took
 returns-in-Ok-Some-clause-took g c =
     let beside = found_beside c.args.handles.now c.take_out.new.self c.args.value c.args.container
-        c.in-Some-get.object.now c.in-Some.ensures.set c.in-Some-get.ensures in
+    c.in-Some-get.object.now c.in-Some.ensures.set c.in-Some-get.ensures in
     record {
       object = c.in-Some-get.object.now;
       there = beside.1;
@@ -27,7 +27,7 @@ returns-in-Ok-Some-clause-took g c =
 pub returns-in-Err-clause-refused : goal.returns-in-Err-clause-refused
 returns-in-Err-clause-refused g c =
     let beside = found_beside c.args.handles.now c.take_out.new.self c.args.value c.args.container
-        c.in-Some-get.object.now c.in-Some.ensures.set c.in-Some-get.ensures in
+    c.in-Some-get.object.now c.in-Some.ensures.set c.in-Some-get.ensures in
     ValueRefused c.in-Some-get.object.now c.in-Some.given c.in-Err.handed beside.1
     (was_there c.args.handles.now c.args.value c.in-Some.given c.in-Some.ensures.taken) beside.0 refl c.in-Err.ensures.back c.in-Err.ensures.did
 

@@ -16,7 +16,7 @@ returns-clause-count g c =
     let one_in : c.args.one < length c.self.inside.slots.items = search rules in
     let other_in : c.args.other < length c.self.inside.slots.items = search rules in
     let swapped = swapped_with c.args.self.now c.self.inside.slots.items c.swap.new.self.items c.args.one c.args.other
-        c.self.view_is one_in other_in c.swap.ensures.by_index in
+    c.self.view_is one_in other_in c.swap.ensures.by_index in
     swapped.count
 
 pub returns-clause-stands : goal.returns-clause-stands
