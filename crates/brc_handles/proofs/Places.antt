@@ -316,3 +316,10 @@ beside_last old new (Some None) is = tt
 beside_last old new (Some (Some handle)) is = λ h apart.
     each_at (λ (g : HandleSeen). h.place ≢ g.place) old (length new) handle
     (ap (λ (l : List (Option HandleSeen)). slot l (length new)) is ∙ get_or-append_seam new (Some handle) [] None) apart
+
+pub each_popped : (P : HandleSeen → Type 0) (old new : List (Option HandleSeen)) (popped : Option (Option HandleSeen))
+    → IfSome popped (λ last. old ≡ new ++ last ∷ []) → IfNone popped ((old ≡ []) × (new ≡ []))
+    → ((k : ℕ) → IfSome (slot old k) P) → (k : ℕ) → IfSome (slot new k) P
+each_popped P old new None is none all k =
+    subst (λ (l : List (Option HandleSeen)). IfSome (slot l k) P) (sym none.1) tt
+each_popped P old new (Some last) is none all k = each_less P old new last is all k

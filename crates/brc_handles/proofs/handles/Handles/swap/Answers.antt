@@ -1,5 +1,4 @@
 use Rattle.std.proofs.Common.{rules, ◌<◌, length}
-use Rattle.brc_handles.specs.Handles.{Swapped}
 use Rattle.brc_handles.proofs.Gained.{swapped_stands}
 use Rattle.brc_handles.proofs.Places.{swapped_with}
 use Rattle.brc_handles.proofs.handles.Handles.swap.Goals as goal
