@@ -3,4 +3,5 @@ pub mod Shown
 pub mod Locked
 pub mod Sharing
 pub mod Indexed
+mod Placed
 mod Since_Law

@@ -7,7 +7,7 @@ use Rattle.brc_count.specs.Frames.{FrameSeen, HandleSeen}
 use Rattle.brc_containers.specs.Called.{Looked, HandsOut, TakesIn}
 use Rattle.brc_containers.specs.Changing.{Shares, Takes, RefusedEntry, RefusedPlace}
 use Rattle.brc_dicts.specs.Indexing.{Reads, SharesPair}
-use Rattle.brc_dicts.specs.Plain.{plain_find, plain_del, plain_key_at, plain_value_at}
+use Rattle.brc_dicts.specs.Plain.{plain_find, plain_del, plain_place, plain_key_at, plain_value_at}
 use Rattle.brc_dicts.specs.Putting.{HasPut, RefusedPut}
 
 module _ {A : Type 0} where
@@ -27,6 +27,11 @@ module _ {A : Type 0} where
   abbrev pub DictDel : FrameSeen A → FrameSeen A → ℕ → Key A → Result HandleSeen Fault → Type 0
   DictDel old new k key result = HandsOut old new (Takes old new k (plain_del key))
       (RefusedPlace old new k (plain_del key)) result
+
+  -- at which place the key stands
+  abbrev pub DictPlace : FrameSeen A → FrameSeen A → ℕ → Key A → Result ℕ Fault → Type 0
+  DictPlace old new k key result = Looked old new (Reads old new k (plain_place key))
+      (RefusedEntry old new k (plain_place key)) result
 
   -- the key at the place, of which memory for a copy may be missing
   abbrev pub DictKey : FrameSeen A → FrameSeen A → ℕ → ℕ → Result (Key A) Fault → Type 0

@@ -1,11 +1,13 @@
 -- The calls on dictionaries as calls on plain data: those of `brc_plain`, on the pairs of an object's contents.
-use Rattle.std.specs.Prelude.{ℕ, List, map, Option, Result, Ok, Err}
+use Rattle.std.specs.Prelude.{ℕ, suc, List, [], ◌∷◌, map, Option, Some, None, Result, Ok, Err, if◌then◌else◌}
+use Rattle.std.specs.Option.{option_map}
 use Rattle.brc_words.specs.declared.fault.Fault.{Fault}
 use Rattle.brc_words.specs.declared.fault.Fault.TheVariants as faults
 use Rattle.brc_words.specs.declared.key.Key.{Key}
 use Rattle.brc_words.specs.declared.key.Key.TheVariants as keys
 use Rattle.brc_plain.specs.Dicts as dicts
-use Rattle.brc_plain.specs.Outcomes.{leaving}
+use Rattle.brc_words.specs.Keys.{same_key}
+use Rattle.brc_plain.specs.Outcomes.{leaving, or_fault}
 use Rattle.law_rule.specs.declared.contents.PlainKey.{PlainKey}
 use Rattle.law_rule.specs.declared.contents.PlainKey.TheVariants as plain
 use Rattle.law_rule.specs.declared.contents.Contents.{Contents}
@@ -45,6 +47,15 @@ module _ {A : Type 0} where
   abbrev pub plain_del : Key A → PlainCall ℕ
   plain_del key (Dict shown) = leaving_dict (dicts.delete (pairs_of shown) key)
   plain_del key _ = Err faults.WrongKind
+
+  -- at which place the key stands, in the order in which the keys came
+  abbrev pub place_of : Key A → List (Key A × ℕ) → Option ℕ
+  place_of key [] = None
+  place_of key (pair ∷ pairs) = if same_key pair.0 key then Some 0 else option_map suc (place_of key pairs)
+
+  abbrev pub plain_place : Key A → PlainCall ℕ
+  plain_place key (Dict shown) = leaving (Dict shown) (or_fault faults.NoSuchKey (place_of key (pairs_of shown)))
+  plain_place key _ = Err faults.WrongKind
 
   -- the first, and the second, of what comes out
   abbrev pub first_of : Result (Key A × ℕ) Fault → Result (Key A) Fault

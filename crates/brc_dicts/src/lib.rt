@@ -8,11 +8,13 @@
 #![tactic(auto)]
 
 mod indexing;
+mod placing;
 mod putting;
 mod seeking;
 mod values;
 
 pub use indexing::{dict_key, dict_pair, try_dict_key, try_dict_pair};
+pub use placing::{dict_key_by, try_dict_key_by};
 pub use putting::{dict_put, dict_set, try_dict_put, try_dict_set};
 pub use values::{
     dict_del, dict_del_by, dict_find, dict_find_by, try_dict_del, try_dict_del_by, try_dict_find,

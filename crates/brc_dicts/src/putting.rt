@@ -38,7 +38,7 @@ fn make_room<A: Allocator + Copy>(payload: &mut Payload<A>) -> Result<(), Fault>
     ensures refused { IfErr result (RefusedRoom (length (entries_of payload.old))) }
     ensures contents { contents_of payload.new ≡ contents_of payload.old }
 {
-    if payload.len() >= MOST_ENTRIES as usize {
+    if MOST_ENTRIES as usize <= payload.len() {
         return Err(Fault::Full);
     }
     match payload.reserve() {
@@ -116,7 +116,7 @@ fn replace_locked<H: Home<A>, A: Allocator>(
     requires found { contents_found frame.old ≡ contents_of block.1 }
     requires value_owned { Owns frame.old value }
     requires apart { place_locked frame.old ≢ Some value.place }
-    requires there { IsThere block.1 (key_lent key.entry) index entry }
+    requires there { IsThere block.1 (key_lent key) index entry }
     ensures thread { KeepsThread frame.old frame.new }
     ensures unlocked { IsUnlocked frame.new }
     ensures put { Since frame.old block
@@ -199,7 +199,7 @@ fn append_copy<H: Home<A>, A: Allocator + Copy>(
     requires found { contents_found frame.old ≡ contents_of block.1 }
     requires value_owned { Owns frame.old value }
     requires apart { place_locked frame.old ≢ Some value.place }
-    requires absent { IsAbsent block.1 (key_lent key.entry) }
+    requires absent { IsAbsent block.1 (key_lent key) }
     ensures thread { KeepsThread frame.old frame.new }
     ensures unlocked { IsUnlocked frame.new }
     ensures put { IfOk result (λ answer. Since frame.old block

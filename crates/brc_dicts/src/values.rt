@@ -35,11 +35,11 @@ fn find_locked<H: Home<A>, A: Allocator>(
     ensures thread { KeepsThread frame.old frame.new }
     ensures unlocked { IsUnlocked frame.new }
     ensures shares { IfOk result (λ given. Since frame.old block
-        (λ before k. Shares before frame.new k (plain_find (key_lent key.entry)) given)) }
+        (λ before k. Shares before frame.new k (plain_find {A = A} (key_lent key.entry)) given)) }
     ensures gains { IfOk result (Gains frame.old frame.new) }
     ensures places { IfErr result (λ fault. KeepsPlaces frame.old frame.new) }
     ensures refused { IfErr result (λ fault. Since frame.old block
-        (λ before k. RefusedPlace before frame.new k (plain_find (key_lent key.entry)) fault)) }
+        (λ before k. RefusedPlace before frame.new k (plain_find {A = A} (key_lent key.entry)) fault)) }
     ensures waits { IfErr result (λ fault. fault ≢ faults.Busy) }
 {
     let (index, cell) = match seek(block.payload(), key) {
@@ -152,11 +152,11 @@ fn del_locked<H: Home<A>, A: Allocator>(
     ensures thread { KeepsThread frame.old frame.new }
     ensures unlocked { IsUnlocked frame.new }
     ensures takes { IfOk result (λ given. Since frame.old block
-        (λ before k. Takes before frame.new k (plain_del (key_lent key.entry)) given)) }
+        (λ before k. Takes before frame.new k (plain_del {A = A} (key_lent key.entry)) given)) }
     ensures gains { IfOk result (Gains frame.old frame.new) }
     ensures places { IfErr result (λ fault. KeepsPlaces frame.old frame.new) }
     ensures refused { IfErr result (λ fault. Since frame.old block
-        (λ before k. RefusedPlace before frame.new k (plain_del (key_lent key.entry)) fault)) }
+        (λ before k. RefusedPlace before frame.new k (plain_del {A = A} (key_lent key.entry)) fault)) }
     ensures waits { IfErr result (λ fault. fault ≢ faults.Busy) }
 {
     let (index, cell) = match seek(block.payload(), key) {

@@ -38,9 +38,9 @@ pub use brc_containers::{
     try_text_into, try_text_of,
 };
 pub use brc_dicts::{
-    dict_del, dict_del_by, dict_find, dict_find_by, dict_key, dict_pair, dict_put, dict_set,
-    try_dict_del, try_dict_del_by, try_dict_find, try_dict_find_by, try_dict_key, try_dict_pair,
-    try_dict_put, try_dict_set,
+    dict_del, dict_del_by, dict_find, dict_find_by, dict_key, dict_key_by, dict_pair, dict_put,
+    dict_set, try_dict_del, try_dict_del_by, try_dict_find, try_dict_find_by, try_dict_key,
+    try_dict_key_by, try_dict_pair, try_dict_put, try_dict_set,
 };
 pub use brc_lists::{
     list_get, list_pop, list_push, list_set, list_take, recv, send, try_list_get, try_list_pop,

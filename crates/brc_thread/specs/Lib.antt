@@ -7,3 +7,4 @@ pub mod Handed
 pub mod Emptied
 pub mod Retiring
 pub mod Clearing
+pub mod Apart

@@ -13,7 +13,7 @@ ghost use Rattle.brc_thread.specs.Clearing.{Takes, HandsSome, Looks, TakesAll, C
 use crate::mutator::Mutator;
 use brc_biased::Home;
 use brc_count::{Frame, Handle};
-use brc_words::{Fault, GLOBALS, MOST_ENTRIES};
+use brc_words::{Fault, MOST_ENTRIES};
 use std::alloc::Allocator;
 
 /// The last entry's reference of an object becomes a handle's; None where it has no entry. Busy where another thread
@@ -100,7 +100,7 @@ impl<H: Home<A>, A: Allocator> Mutator<H, A> {
         ensures keeps { Keeps self.old self.new }
         ensures unlocked { IsUnlocked self.new }
     {
-        let globals = self.frame.immortal(GLOBALS)?;
+        let globals = self.frame.globals()?;
         let cleared = take_all(&mut self.frame, &globals);
         self.frame.release(globals);
         cleared

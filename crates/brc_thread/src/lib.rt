@@ -7,6 +7,7 @@
 //! taken apart.
 #![tactic(auto)]
 
+mod apart;
 mod clearing;
 mod ends;
 mod heap;

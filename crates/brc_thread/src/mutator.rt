@@ -14,7 +14,7 @@ ghost use Rattle.brc_count.specs.Owned.{Keeps, Gains};
 use crate::leaving::Leaving;
 use brc_biased::Home;
 use brc_count::{Frame, Handle, Ledger};
-use brc_words::{Fault, GLOBALS};
+use brc_words::Fault;
 use std::alloc::Allocator;
 use std::marker::Model;
 
@@ -80,7 +80,7 @@ impl<H: Home<A>, A: Allocator> Mutator<H, A> {
         ensures keeps { OnErr result (Keeps self.old self.new) }
         ensures unlocked { IsUnlocked self.new }
     {
-        self.frame.immortal(GLOBALS)
+        self.frame.globals()
     }
 
     /// From now on the thread's claims begin with the 64 cells that have this one, go on to the heap's end, and then

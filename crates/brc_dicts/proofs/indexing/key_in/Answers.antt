@@ -3,11 +3,11 @@ use Rattle.brc_table.specs.Shown.{contents_of}
 use Rattle.brc_dicts.proofs.Indexed.{key_there, key_may}
 use Rattle.brc_dicts.proofs.indexing.key_in.Goals as goal
 
-pub returns-in-Some-clause-found : goal.returns-in-Some-clause-found
-returns-in-Some-clause-found g c =
+pub returns-in-Ok-clause-found : goal.returns-in-Ok-clause-found
+returns-in-Ok-clause-found g c =
     key_there c.args.payload.now c.args.index c.in_ok-key.key.now c.in_ok-key._cell c.in_ok-key.ensures.there
-    ∙ ap (λ key. Ok (key, contents_of c.args.payload.now)) (sym c.in-Some.ensures)
+    ∙ ap (λ key. Ok (key, contents_of c.args.payload.now)) (sym c.in-Ok.ensures)
 
-pub returns-in-None-clause-refused : goal.returns-in-None-clause-refused
-returns-in-None-clause-refused g c =
+pub returns-in-Err-clause-refused : goal.returns-in-Err-clause-refused
+returns-in-Err-clause-refused g c =
     key_may c.args.payload.now c.args.index c.in_ok-key.key.now c.in_ok-key._cell c.in_ok-key.ensures.there

@@ -13,7 +13,7 @@ use Rattle.brc_dicts.proofs.values.del_locked.Goals as goal
 pub returns-in-Absent-clause-refused : goal.returns-in-Absent-clause-refused
 returns-in-Absent-clause-refused g c = λ before k since.
     let absent = subst (λ p. IsAbsent p (key_lent c.args.key)) c.payload.ensures c.in-Absent.ensures in
-    refused_plainly before c.args.frame.now c.end_keep.new.self k c.args.block (plain_del (key_lent c.args.key)) _
+    refused_plainly before c.args.frame.now c.end_keep.new.self k c.args.block (plain_del {A = g.row.A.Denot} (key_lent c.args.key)) _
     (stood before c.args.frame.now k c.args.block since) c.end_keep.ensures.ended
     (del_absent (key_lent c.args.key) c.args.block.1 absent)
 
@@ -22,9 +22,9 @@ returns-in-Err-clause-refused g c = λ before k since.
     let there = subst (λ p. IsThere p (key_lent c.args.key) c.in-There.index c.in-There.cell) c.payload.ensures
     c.in-There.ensures in
     let was = stood_placed before c.args.frame.now c.place.new.self k c.args.block since c.place.ensures.same in
-    refused_place before c.args.frame.now c.end_keep-in-Err.new.self k (plain_del (key_lent c.args.key)) c.in-Err.fault
+    refused_place before c.args.frame.now c.end_keep-in-Err.new.self k (plain_del {A = g.row.A.Denot} (key_lent c.args.key)) c.in-Err.fault
     since.frame.len c.in-Err.ensures.refused
-    (refused_for_want before c.place.new.self c.end_keep-in-Err.new.self k c.args.block (plain_del (key_lent c.args.key)) was
+    (refused_for_want before c.place.new.self c.end_keep-in-Err.new.self k c.args.block (plain_del {A = g.row.A.Denot} (key_lent c.args.key)) was
     c.end_keep-in-Err.ensures.ended
     (del_may (key_lent c.args.key) c.args.block.1 c.in-There.index c.in-There.cell there))
 
@@ -72,7 +72,7 @@ returns-clause-takes g c = λ before k since.
     let was = stood_placed before c.args.frame.now c.place.new.self k c.args.block since c.place.ensures.same in
     let lent = c.payload_mut.ensures.value in
     takes_since before c.place.new.self c.end_take.new.self k c.args.block c.remove-cell.new.self
-    (plain_del (key_lent c.args.key)) c.in-There.index c.in-There.cell c.end_take.result
+    (plain_del {A = g.row.A.Denot} (key_lent c.args.key)) c.in-There.index c.in-There.cell c.end_take.result
     was c.end_take.ensures.ended
     (entry_there c.args.block.1 (key_lent c.args.key) c.in-There.index c.in-There.cell there)
     (del_there (key_lent c.args.key) c.args.block.1 c.remove-cell.new.self c.in-There.index c.in-There.cell there

@@ -13,8 +13,8 @@ returns-clause-takes g c =
       late.mid,
       late.waits,
       hands_out late.mid locked c.del_locked.new.frame k c.begin_late-block.result
-          (λ before j given. Takes before c.del_locked.new.frame j (plain_del (key_lent c.args.key)) given)
-          (λ before j fault. RefusedPlace before c.del_locked.new.frame j (plain_del (key_lent c.args.key)) fault)
+          (λ before j given. Takes before c.del_locked.new.frame j (plain_del {A = g.row.A.Denot} (key_lent c.args.key)) given)
+          (λ before j fault. RefusedPlace before c.del_locked.new.frame j (plain_del {A = g.row.A.Denot} (key_lent c.args.key)) fault)
           c.del_locked.result (locked_late c.args.frame.now locked k c.begin_late-block.result late) up.thread up.takes
           up.places up.refused,
     )

@@ -13,8 +13,8 @@ returns-clause-shares g c =
       late.mid,
       late.waits,
       hands_out late.mid locked c.find_locked.new.frame k c.begin_late-block.result
-          (λ before j given. Shares before c.find_locked.new.frame j (plain_find (key_lent c.args.key)) given)
-          (λ before j fault. RefusedPlace before c.find_locked.new.frame j (plain_find (key_lent c.args.key)) fault)
+          (λ before j given. Shares before c.find_locked.new.frame j (plain_find {A = g.row.A.Denot} (key_lent c.args.key)) given)
+          (λ before j fault. RefusedPlace before c.find_locked.new.frame j (plain_find {A = g.row.A.Denot} (key_lent c.args.key)) fault)
           c.find_locked.result (locked_late c.args.frame.now locked k c.begin_late-block.result late) up.thread
           up.shares up.places up.refused,
     )

@@ -11,7 +11,7 @@ use Rattle.brc_dicts.proofs.values.find_locked.Goals as goal
 pub returns-in-Absent-clause-refused : goal.returns-in-Absent-clause-refused
 returns-in-Absent-clause-refused g c = λ before k since.
     let absent = subst (λ p. IsAbsent p (key_lent c.args.key)) c.payload.ensures c.in-Absent.ensures in
-    refused_plainly before c.args.frame.now c.end_keep.new.self k c.args.block (plain_find (key_lent c.args.key)) _
+    refused_plainly before c.args.frame.now c.end_keep.new.self k c.args.block (plain_find {A = g.row.A.Denot} (key_lent c.args.key)) _
     (stood before c.args.frame.now k c.args.block since) c.end_keep.ensures.ended
     (find_absent (key_lent c.args.key) c.args.block.1 absent)
 
@@ -20,9 +20,9 @@ returns-in-Err-clause-refused g c = λ before k since.
     let there = subst (λ p. IsThere p (key_lent c.args.key) c.in-There.index c.in-There.cell) c.payload.ensures
     c.in-There.ensures in
     let was = stood_placed before c.args.frame.now c.place.new.self k c.args.block since c.place.ensures.same in
-    refused_place before c.args.frame.now c.end_keep-in-Err.new.self k (plain_find (key_lent c.args.key)) c.in-Err.fault
+    refused_place before c.args.frame.now c.end_keep-in-Err.new.self k (plain_find {A = g.row.A.Denot} (key_lent c.args.key)) c.in-Err.fault
     since.frame.len c.in-Err.ensures.refused
-    (refused_for_want before c.place.new.self c.end_keep-in-Err.new.self k c.args.block (plain_find (key_lent c.args.key)) was
+    (refused_for_want before c.place.new.self c.end_keep-in-Err.new.self k c.args.block (plain_find {A = g.row.A.Denot} (key_lent c.args.key)) was
     c.end_keep-in-Err.ensures.ended
     (ap is_ok (find_there (key_lent c.args.key) c.args.block.1 c.in-There.index c.in-There.cell there)))
 
@@ -50,7 +50,7 @@ returns-clause-shares g c = λ before k since.
     c.in-There.ensures in
     let was = stood_placed before c.args.frame.now c.place.new.self k c.args.block since c.place.ensures.same in
     shares_since before c.place.new.self c.up_entry-given.new.self c.end_keep-2.new.self k c.args.block
-    (plain_find (key_lent c.args.key)) c.in-There.index c.in-There.cell c.up_entry-given.result
+    (plain_find {A = g.row.A.Denot} (key_lent c.args.key)) c.in-There.index c.in-There.cell c.up_entry-given.result
     was c.up_entry-given.ensures.given c.up_entry-given.ensures.heap c.end_keep-2.ensures.ended
     c.end_keep-2.ensures.frame
     (entry_there c.args.block.1 (key_lent c.args.key) c.in-There.index c.in-There.cell there)

@@ -11,6 +11,6 @@ returns-clause-takes g c =
     record { began = c.in-Some.ensures.began; keeps = c.begin.ensures.keeps; frame = c.begin.ensures.frame } in
     let up = c.del_locked.ensures in
     hands_out c.args.frame.now c.begin.new.self c.del_locked.new.frame c.args.dict.now.place c.in-Some.block
-    (λ before k given. Takes before c.del_locked.new.frame k (plain_del (key_lent c.args.key)) given)
-    (λ before k fault. RefusedPlace before c.del_locked.new.frame k (plain_del (key_lent c.args.key)) fault)
+    (λ before k given. Takes before c.del_locked.new.frame k (plain_del {A = g.row.A.Denot} (key_lent c.args.key)) given)
+    (λ before k fault. RefusedPlace before c.del_locked.new.frame k (plain_del {A = g.row.A.Denot} (key_lent c.args.key)) fault)
     c.del_locked.result since up.thread up.takes up.places up.refused

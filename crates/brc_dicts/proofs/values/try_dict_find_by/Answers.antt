@@ -11,6 +11,6 @@ returns-clause-shares g c =
     record { began = c.in-Some.ensures.began; keeps = c.begin.ensures.keeps; frame = c.begin.ensures.frame } in
     let up = c.find_locked.ensures in
     hands_out c.args.frame.now c.begin.new.self c.find_locked.new.frame c.args.dict.now.place c.in-Some.block
-    (λ before k given. Shares before c.find_locked.new.frame k (plain_find (key_lent c.args.key)) given)
-    (λ before k fault. RefusedPlace before c.find_locked.new.frame k (plain_find (key_lent c.args.key)) fault)
+    (λ before k given. Shares before c.find_locked.new.frame k (plain_find {A = g.row.A.Denot} (key_lent c.args.key)) given)
+    (λ before k fault. RefusedPlace before c.find_locked.new.frame k (plain_find {A = g.row.A.Denot} (key_lent c.args.key)) fault)
     c.find_locked.result since up.thread up.shares up.places up.refused
