@@ -21,18 +21,31 @@ use Rattle.brc_places.specs.declared.giving.GiveBy.TheVariants as gives
 use Rattle.brc_places.specs.declared.taking.TakeBy.{TakeBy}
 use Rattle.brc_places.specs.declared.taking.TakeBy.TheVariants as takes
 
+-- so of a call that answers nothing; and of one that answers what the value came for
+abbrev pub AnswersNone : (Result (Unit {0}) (Handed HandleSeen) → Type 0)
+    → Result (Option HandleSeen) (Handed HandleSeen) → Type 0
+AnswersNone call (Ok None) = call (Ok tt)
+AnswersNone call (Ok (Some given)) = ⊥
+AnswersNone call (Err handed) = call (Err handed)
+
+abbrev pub AnswersOld : (Result HandleSeen (Handed HandleSeen) → Type 0)
+    → Result (Option HandleSeen) (Handed HandleSeen) → Type 0
+AnswersOld call (Ok None) = ⊥
+AnswersOld call (Ok (Some given)) = call (Ok given)
+AnswersOld call (Err handed) = call (Err handed)
+
+-- a handle of which this was done, or why there is none
+pub record HandleOr (done : HandleSeen → Type 0) (why : Fault → Type 0) (result : Result HandleSeen Fault)
+    : Type 0 where
+  pub made : IfOk result done
+  pub refused : IfErr result why
+
 module _ {A : Type 0} where
   -- a handle to the immortal in this cell, or why there is none
   pub record ToImmortal (c : ℕ) (old new : FrameSeen A) (result : Result HandleSeen Fault) : Type 0 where
     pub given : IfOk result (Given old new (sources.Immortal c) c)
     pub refused : IfErr result (Refused old)
     pub unchanged : OnErr result (IsAsBefore old new)
-
-  -- a handle of which this was done, or why there is none
-  pub record HandleOr (done : HandleSeen → Type 0) (why : Fault → Type 0) (result : Result HandleSeen Fault)
-      : Type 0 where
-    pub made : IfOk result done
-    pub refused : IfErr result why
 
   -- why a text wasn't made: memory for a copy was missing, and nothing was done; or an object wasn't to be had
   abbrev pub RefusedText : FrameSeen A → FrameSeen A → Fault → Type 0
@@ -63,19 +76,6 @@ module _ {A : Type 0} where
   -- that call, once no other thread has the object locked
   abbrev pub GaveLate : GiveBy → FrameSeen A → FrameSeen A → ℕ → Result HandleSeen Fault → Type 0
   GaveLate by old new k result = Late old k (λ mid. GaveBy by mid new k result)
-
-  -- so of a call that answers nothing; and of one that answers what the value came for
-  abbrev pub AnswersNone : (Result (Unit {0}) (Handed HandleSeen) → Type 0)
-      → Result (Option HandleSeen) (Handed HandleSeen) → Type 0
-  AnswersNone call (Ok None) = call (Ok tt)
-  AnswersNone call (Ok (Some given)) = ⊥
-  AnswersNone call (Err handed) = call (Err handed)
-
-  abbrev pub AnswersOld : (Result HandleSeen (Handed HandleSeen) → Type 0)
-      → Result (Option HandleSeen) (Handed HandleSeen) → Type 0
-  AnswersOld call (Ok None) = ⊥
-  AnswersOld call (Ok (Some given)) = call (Ok given)
-  AnswersOld call (Err handed) = call (Err handed)
 
   -- a call that takes a value's handle
   abbrev pub TookBy : TakeBy → FrameSeen A → FrameSeen A → ℕ → HandleSeen
