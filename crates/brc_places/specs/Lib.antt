@@ -1,0 +1,4 @@
+pub mod Placing
+pub mod Calls
+pub mod Reading
+pub mod Stacking

@@ -1,0 +1,159 @@
+//! What a container gives: the reference of an entry goes into a place.
+
+ghost use Rattle.std.specs.Prelude.{◌≡◌, ◌≢◌, IfOk, IfErr, OnOk, OnErr};
+ghost use Rattle.brc_words.specs.declared.fault.Fault.TheVariants as faults;
+ghost use Rattle.brc_count.specs.Frames.{IsUnlocked, Owns};
+ghost use Rattle.brc_count.specs.Owned.{Keeps, Gains};
+ghost use Rattle.brc_handles.specs.Handles.{OwnsEach};
+ghost use Rattle.brc_handles.specs.Standing.{KeepsStanding};
+ghost use Rattle.brc_places.specs.Calls.{GaveBy, GaveLate};
+ghost use Rattle.brc_places.specs.Placing.{Gives, GivesNot};
+
+use crate::placing::{To, is_there, place};
+use brc_biased::Home;
+use brc_block::KeyRef;
+use brc_count::{Frame, Handle};
+use brc_dicts::{dict_del_by, dict_find_by, try_dict_del_by, try_dict_find_by};
+use brc_handles::Handles;
+use brc_lists::{
+    list_get, list_pop, list_take, recv, try_list_get, try_list_pop, try_list_take, try_recv,
+};
+use brc_words::Fault;
+use std::alloc::Allocator;
+use std::sync::Wait;
+
+/// By which call a container gives a reference.
+#[derive(Clone, Copy, Debug, PartialEq, Eq)]
+pub enum GiveBy<'k> {
+    /// `list_pop`: a list's last entry comes out.
+    Pop,
+    /// `list_get`: the entry of a list at this index stays.
+    Get(u32),
+    /// `list_take`: it comes out, and later ones close up.
+    Take(u32),
+    /// `recv`: a mailbox's first letter comes out.
+    Receive,
+    /// `dict_find_by`: a dictionary's value beside the key stays.
+    Find(KeyRef<'k>),
+    /// `dict_del_by`: it comes out, and its pair goes.
+    Delete(KeyRef<'k>),
+}
+
+/// What the object's call gives.
+#[inline(always)]
+fn gave<H: Home<A>, A: Allocator>(
+    rt: &impl Wait,
+    frame: &mut Frame<H, A>,
+    object: &Handle<A>,
+    by: GiveBy<'_>,
+) -> Result<Handle<A>, Fault>
+    requires owned { Owns frame.old object.now }
+    requires unlocked { IsUnlocked frame.old }
+    ensures did { GaveLate by.entry frame.old frame.new object.now.place result }
+    ensures gains { IfOk result (Gains frame.old frame.new) }
+    ensures keeps { OnErr result (Keeps frame.old frame.new) }
+    ensures unlocked { IsUnlocked frame.new }
+    ensures waited { IfErr result (λ fault. fault ≢ faults.Busy) }
+{
+    match by {
+        GiveBy::Pop => list_pop(rt, frame, object),
+        GiveBy::Get(index) => list_get(rt, frame, object, index),
+        GiveBy::Take(index) => list_take(rt, frame, object, index),
+        GiveBy::Receive => recv(rt, frame, object),
+        GiveBy::Find(key) => dict_find_by(rt, frame, object, key),
+        GiveBy::Delete(key) => dict_del_by(rt, frame, object, key),
+    }
+}
+
+/// The same in the form that never waits.
+#[inline(always)]
+fn try_gave<H: Home<A>, A: Allocator>(
+    frame: &mut Frame<H, A>,
+    object: &Handle<A>,
+    by: GiveBy<'_>,
+) -> Result<Handle<A>, Fault>
+    requires owned { Owns frame.old object.now }
+    requires unlocked { IsUnlocked frame.old }
+    ensures did { GaveBy by.entry frame.old frame.new object.now.place result }
+    ensures gains { IfOk result (Gains frame.old frame.new) }
+    ensures keeps { OnErr result (Keeps frame.old frame.new) }
+    ensures unlocked { IsUnlocked frame.new }
+{
+    match by {
+        GiveBy::Pop => try_list_pop(frame, object),
+        GiveBy::Get(index) => try_list_get(frame, object, index),
+        GiveBy::Take(index) => try_list_take(frame, object, index),
+        GiveBy::Receive => try_recv(frame, object),
+        GiveBy::Find(key) => try_dict_find_by(frame, object, key),
+        GiveBy::Delete(key) => try_dict_del_by(frame, object, key),
+    }
+}
+
+/// What the container in a place gives goes where it is to go, once no other thread has the container locked.
+/// NoSuchPlace where no handle is in that place, or the one to be filled isn't there; then what the call answers
+/// (`brc_lists`, `brc_dicts`); then OutOfMemory for a new place, and what was given is released.
+pub fn give_at<H: Home<A>, A: Allocator>(
+    rt: &impl Wait,
+    frame: &mut Frame<H, A>,
+    handles: &mut Handles<A>,
+    container: usize,
+    by: GiveBy<'_>,
+    to: To,
+) -> Result<(), Fault>
+    requires each { OwnsEach frame.old handles.old }
+    requires unlocked { IsUnlocked frame.old }
+
+    ensures stands { KeepsStanding frame.old frame.new handles.old handles.new }
+    ensures gave { OnOk result (Gives to (GaveLate by.entry frame.old) frame.new handles.old handles.new container) }
+    ensures refused { IfErr result
+        (GivesNot to (GaveLate by.entry frame.old) frame.old frame.new handles.old container) }
+    ensures unchanged { OnErr result (handles.new ≡ handles.old) }
+    ensures waited { IfErr result (λ fault. fault ≢ faults.Busy) }
+{
+    let Some(object) = handles.get(container) else {
+        return Err(Fault::NoSuchPlace);
+    };
+    if !is_there(handles, to) {
+        return Err(Fault::NoSuchPlace);
+    }
+    match gave(rt, frame, object, by) {
+        Err(fault) => Err(fault),
+        Ok(given) => match place(frame, handles, to, given) {
+            Ok(()) => Ok(()),
+            Err(fault) => Err(fault),
+        },
+    }
+}
+
+/// The same without waiting: Busy, where another thread has the container locked, comes after NoSuchPlace and before
+/// what else the call answers.
+pub fn try_give_at<H: Home<A>, A: Allocator>(
+    frame: &mut Frame<H, A>,
+    handles: &mut Handles<A>,
+    container: usize,
+    by: GiveBy<'_>,
+    to: To,
+) -> Result<(), Fault>
+    requires each { OwnsEach frame.old handles.old }
+    requires unlocked { IsUnlocked frame.old }
+
+    ensures stands { KeepsStanding frame.old frame.new handles.old handles.new }
+    ensures gave { OnOk result (Gives to (GaveBy by.entry frame.old) frame.new handles.old handles.new container) }
+    ensures refused { IfErr result
+        (GivesNot to (GaveBy by.entry frame.old) frame.old frame.new handles.old container) }
+    ensures unchanged { OnErr result (handles.new ≡ handles.old) }
+{
+    let Some(object) = handles.get(container) else {
+        return Err(Fault::NoSuchPlace);
+    };
+    if !is_there(handles, to) {
+        return Err(Fault::NoSuchPlace);
+    }
+    match try_gave(frame, object, by) {
+        Err(fault) => Err(fault),
+        Ok(given) => match place(frame, handles, to, given) {
+            Ok(()) => Ok(()),
+            Err(fault) => Err(fault),
+        },
+    }
+}

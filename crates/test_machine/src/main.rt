@@ -1,0 +1,125 @@
+//! A stack machine over a frame and the places of its stack: two threads run programs on one heap, and hand values over a
+//! mailbox. At the end the heap's report has no object left.
+#![tactic(auto)]
+
+mod instruction;
+mod machine;
+mod programs;
+
+ghost use Rattle.std.specs.Prelude.{◌≡◌};
+ghost use Rattle.brc_heap.specs.Words.{IsUnlocked};
+
+use brc_heap::{
+    CloseFault, Fault, Heap, Mutator, Options, Root, close, give_back, take_apart, write_report,
+};
+use brc_loops::{Life, Nothing, gather_all, rest_more, run_all};
+use brc_places::{Stack, run_steps};
+use instruction::Instruction;
+use machine::Machine;
+use programs::{ADDS, ENDS, OPENS, SENDS};
+use std::alloc::Global;
+use std::io;
+use std::sync::Wait;
+use std::thread::Threads;
+
+/// What a machine told last, and why it ended, if for a fault.
+#[derive(Clone, Copy, Debug)]
+struct Told {
+    number: Option<i64>,
+    fault: Option<Fault>,
+}
+
+/// A machine with a stack of its own runs a program.
+fn runs(rt: &impl Wait, alloc: Global, mutator: &mut Mutator, program: &[Instruction]) -> Told
+    requires bare { mutator.old.len ≡ 0 }
+    requires unlocked { IsUnlocked mutator.old }
+    ensures heap { mutator.new.heap ≡ mutator.old.heap }
+    ensures bare { mutator.new.len ≡ 0 }
+    ensures unlocked { IsUnlocked mutator.new }
+{
+    let frame = mutator.frame();
+    let mut machine = Machine::new(alloc, program);
+    let mut stack = Stack::new(alloc);
+    run_steps(rt, &mut machine, frame, &mut stack);
+    stack.release_all(frame);
+    Told {
+        number: machine.told,
+        fault: machine.fault,
+    }
+}
+
+/// What a thread of the machine does: one of the two sends, and the other adds up.
+#[derive(Drop)]
+struct Working {
+    alloc: Global,
+}
+
+impl<R: Wait> Life<R> for Working {
+    type Answer = Told;
+
+    fn live(&self, rt: &R, mutator: &mut Mutator) -> Told {
+        if mutator.thread() % 2 == 0 {
+            return runs(rt, self.alloc, mutator, &SENDS);
+        }
+        runs(rt, self.alloc, mutator, &ADDS)
+    }
+}
+
+/// Two threads are registered, work side by side, and are gathered: what each told.
+fn two_work<R>(rt: &R, alloc: Global, heap: &Heap, root: &mut Root) -> Option<(Told, Told)>
+where
+    R: Threads + Wait + Sync,
+    requires root { root.old.table ≡ heap.now.table }
+    ensures root { root.new.table ≡ root.old.table }
+{
+    let mut two = Vec::new(alloc);
+    let _registered = rest_more(rt, alloc, heap, root, &Nothing, 2, &mut two);
+    let ended = run_all(rt, heap, &Working { alloc }, two).ok()?;
+    let told = match (ended.get(0), ended.get(1)) {
+        (Some(one), Some(two)) => Some((one.answer, two.answer)),
+        _ => None,
+    };
+    gather_all(root, heap, ended);
+    told
+}
+
+/// The report of the heap, which is closed, as a text.
+fn ends(rt: &HostRuntime, heap: Heap, root: Root) -> io::Result<()>
+    requires root { root.table ≡ heap.table }
+{
+    match close(rt.alloc(), heap, root) {
+        Ok(report) => match write_report(&report, &mut rt.stdout()) {
+            Ok(()) => Ok(()),
+            Err(_) => println!(rt; "not written"),
+        },
+        Err(CloseFault::Memory) => println!(rt; "no memory for a report"),
+        Err(
+            CloseFault::Missing {
+                registered: _registered,
+                gathered: _gathered,
+                heap,
+                root,
+            },
+        ) => {
+            give_back(take_apart(heap, root));
+            println!(rt; "a thread is missing")
+        }
+    }
+}
+
+fn main(rt: HostRuntime) -> io::Result<()> {
+    let Ok((heap, mut root)) = Heap::new(rt.alloc(), Options::USUAL) else {
+        return println!(rt; "no heap can be had");
+    };
+    let mut told = None;
+    if let Ok(mut first) = root.register(rt.alloc(), &heap) {
+        let opened = runs(&rt, rt.alloc(), &mut first, &OPENS);
+        let worked = two_work(&rt, rt.alloc(), &heap, &mut root);
+        let ended = runs(&rt, rt.alloc(), &mut first, &ENDS);
+        let _ledger = first.end(&rt, &mut root, &heap);
+        told = Some((opened, worked, ended));
+    }
+    let said = println!(rt; "{told:?}");
+    ends(&rt, heap, root)?;
+    said
+}
