@@ -1,6 +1,7 @@
 -- Threads of one heap, dealt with one after the other.
-use Rattle.std.proofs.Common.{◌≡◌, ◌++◌, List, [], ◌∷◌, sym, subst}
+use Rattle.std.proofs.Common.{◌≡◌, ◌++◌, List, [], ◌∷◌, map, sym, ◌∙◌, ap, subst, append_assoc}
 use Rattle.std.specs.List.{All}
+use Rattle.std.proofs.lemmas.List.{map-append}
 use Rattle.std.proofs.lemmas.List.Elements.{All-head, All-rest, All-push, All-same}
 use Rattle.brc_count.specs.Frames.{FrameSeen}
 use Rattle.brc_table.specs.Seated.{TableSeen}
@@ -14,6 +15,29 @@ one_rests {A} heap x old before after same more so all =
     subst (All (λ (one : FrameSeen A). one.heap ≡ heap)) (sym more)
     (All-push (λ (one : FrameSeen A). one.heap ≡ heap) before x
     (All-same (λ (one : FrameSeen A). one.heap ≡ heap) before old same all) so)
+
+module _ {A J : Type 0} where
+  -- so with a job beside each
+  pub one_rests_beside : (heap : TableSeen) (x : FrameSeen A × J) (old before after : List (FrameSeen A × J))
+      → before ≡ old → after ≡ before ++ x ∷ [] → x.0.heap ≡ heap
+      → All (λ (given : FrameSeen A × J). given.0.heap ≡ heap) old
+      → All (λ (given : FrameSeen A × J). given.0.heap ≡ heap) after
+  one_rests_beside heap x old before after same more so all =
+      subst (All (λ (given : FrameSeen A × J). given.0.heap ≡ heap)) (sym more)
+      (All-push (λ (given : FrameSeen A × J). given.0.heap ≡ heap) before x
+      (All-same (λ (given : FrameSeen A × J). given.0.heap ≡ heap) before old same all) so)
+
+  -- the job is the last of those that have a thread, and was the first of those that are left
+  pub one_job_more : (thread : FrameSeen A) (job : J) (old before after : List (FrameSeen A × J)) (next left all : List J)
+      → before ≡ old → after ≡ before ++ (thread, job) ∷ [] → next ≡ job ∷ left
+      → map (λ (given : FrameSeen A × J). given.1) old ++ next ≡ all
+      → map (λ (given : FrameSeen A × J). given.1) after ++ left ≡ all
+  one_job_more thread job old before after next left all same more first so_far =
+      ap (λ xs. map (λ (given : FrameSeen A × J). given.1) xs ++ left)
+      (more ∙ ap (λ (xs : List (FrameSeen A × J)). xs ++ (thread, job) ∷ []) same)
+      ∙ ap (λ xs. xs ++ left) (map-append (λ (given : FrameSeen A × J). given.1) old ((thread, job) ∷ []))
+      ∙ append_assoc (map (λ (given : FrameSeen A × J). given.1) old) (job ∷ []) left
+      ∙ ap (λ xs. map (λ (given : FrameSeen A × J). given.1) old ++ xs) (sym first) ∙ so_far
 
 module _ {X : Type 0} where
   -- the first of those that are left, and the others

@@ -1,6 +1,6 @@
 //! Threads of one heap: they are registered and rest, live each on a thread of the machine, and are gathered.
 
-ghost use Rattle.std.specs.Prelude.{◌≡◌, ◌+◌, All, IfOk, IfSome, length};
+ghost use Rattle.std.specs.Prelude.{◌≡◌, ◌+◌, All, IfOk, IfErr, OnOk, OnErr, IfSome, length, map};
 ghost use Rattle.brc_count.specs.Frames.{FrameSeen, IsUnlocked};
 ghost use Rattle.brc_thread.specs.Counting.{gatherings};
 
@@ -51,6 +51,7 @@ pub fn rest_more<'h, T: Task<&'h Heap<A>, A>, A: Allocator + Copy>(
     ensures root { root.new.table ≡ root.old.table }
     ensures heap { All (λ resting. resting.heap ≡ heap.now) all.new.items }
     ensures count { IfSome result (λ _. length all.new.items ≡ length all.old.items + count) }
+    ensures gathered { gatherings root.new.view ≡ gatherings root.old.view }
 {
     for before in 0..count {
         all.reserve(1).ok()?;
@@ -119,4 +120,31 @@ pub fn gather_all<X: Drop>(root: &mut Root<Global>, heap: &Heap<Global>, all: Ve
         } = one;
         root.gather(heap, retired);
     }
+}
+
+/// The root gathers each of them, in order, and their answers come back in that order. The memory for these is had
+/// first: if it is missing, all come back as they were, and nobody is gathered.
+pub fn gather_answers<X: Drop, B: Allocator>(
+    alloc: B,
+    root: &mut Root<Global>,
+    heap: &Heap<Global>,
+    all: Vec<Ended<X>>,
+) -> Result<Vec<X, B>, Vec<Ended<X>>>
+    requires root { root.old.table ≡ heap.now.table }
+    requires heap { All (λ one. one.retired.heap ≡ heap.now) all.items }
+    ensures root { root.new.table ≡ root.old.table }
+    ensures answers { IfOk result (λ answers. answers.items ≡ map (λ one. one.answer) all.items) }
+    ensures gathered { OnOk result (gatherings root.new.view ≡ gatherings root.old.view + length all.items) }
+    ensures unchanged { OnErr result (root.new ≡ root.old) }
+    ensures back { IfErr result (λ same. same ≡ all) }
+{
+    let Ok(mut answers) = Vec::with_capacity(alloc, all.len()) else {
+        return Err(all);
+    };
+    for one in all {
+        let Ended { retired, answer } = one;
+        root.gather(heap, retired);
+        answers.push_reserved(answer);
+    }
+    Ok(answers)
 }

@@ -15,4 +15,5 @@ loop-before-preserved g c = (
       c.push_reserved.new.self.items c.reserve.ensures.items c.push_reserved.ensures.items (search rules)
       c.loop-before.invariant.1,
   search rules,
+  search rules,
 )
