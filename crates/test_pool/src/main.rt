@@ -8,45 +8,20 @@ mod pool;
 mod sessions;
 mod worker;
 
-ghost use Rattle.std.specs.Prelude.{◌≡◌};
-
-use brc_heap::{
-    CloseFault, Heap, Options, Report, Root, close, give_back, take_apart, write_report,
-};
+use brc_heap::{Heap, NoReport, Options, Report, close_or_end, write_report};
 use pool::serves_all;
 use sessions::{ends_all, opens_all};
 use std::alloc::Global;
 use std::io;
 
-/// The report of the heap, which is closed. None where a worker isn't gathered, or no memory is left for a report.
-fn report_of(alloc: Global, heap: Heap, root: Root) -> Option<Report<Global>>
-    requires root { root.table ≡ heap.table }
-{
-    match close(alloc, heap, root) {
-        Ok(report) => Some(report),
-        Err(CloseFault::Memory) => None,
-        Err(
-            CloseFault::Missing {
-                registered: _registered,
-                gathered: _gathered,
-                heap,
-                root,
-            },
-        ) => {
-            give_back(take_apart(heap, root));
-            None
-        }
-    }
-}
-
-/// The report's text, or that there is none.
-fn shows(rt: &HostRuntime, report: Option<Report<Global>>) -> io::Result<()> {
-    let Some(report) = report else {
-        return println!(rt; "no report");
-    };
-    match write_report(&report, &mut rt.stdout()) {
-        Ok(()) => Ok(()),
-        Err(_) => println!(rt; "not written"),
+/// The report's text, or why there is none.
+fn shows(rt: &HostRuntime, closed: Result<Report<Global>, NoReport>) -> io::Result<()> {
+    match closed {
+        Ok(report) => match write_report(&report, &mut rt.stdout()) {
+            Ok(()) => Ok(()),
+            Err(_) => println!(rt; "not written"),
+        },
+        Err(reason) => println!(rt; "no report: {reason:?}"),
     }
 }
 
@@ -58,8 +33,8 @@ fn main(rt: HostRuntime) -> io::Result<()> {
     let served = serves_all(&rt, rt.alloc(), &heap, &mut root);
     let ended = ends_all(&rt, rt.alloc(), &heap, &mut root);
     let (registered, next) = (root.registered(), root.next());
-    let report = report_of(rt.alloc(), heap, root);
+    let closed = close_or_end(rt.alloc(), heap, root);
     println!(rt; "opened {opened}, served {served}, ended {ended}")?;
     println!(rt; "threads {registered}, the next is {next}")?;
-    shows(&rt, report)
+    shows(&rt, closed)
 }

@@ -4,55 +4,37 @@ ghost use Rattle.std.specs.Prelude.{◌≡◌};
 
 use crate::worker::{Serving, WORKERS};
 use brc_heap::{Heap, Root};
-use brc_loops::{Ended, Nothing, gather_all, rest_more, run_all};
+use brc_loops::{Tally, waves};
 use std::alloc::Global;
 use std::sync::Wait;
 use std::thread::Threads;
 
 /// How many waves there are: 2,000 workers.
-const WAVES: u32 = 250;
+const WAVES: u64 = 250;
 
-/// How many served.
-fn count_served(all: &[Ended<bool>]) -> u32 {
-    let mut served = 0u32;
-    for one in all {
-        if one.answer {
-            served = served.saturating_add(1);
-        }
-    }
-    served
+/// How many workers served.
+#[derive(Drop)]
+struct Served {
+    count: u32,
 }
 
-/// Eight workers are registered, live each on a thread of the machine, and are gathered: how many served. Where fewer
-/// can be had, those serve.
-fn serves<R>(rt: &R, alloc: Global, heap: &Heap, root: &mut Root) -> u32
-where
-    R: Threads + Wait + Sync,
-    requires root { root.old.table ≡ heap.now.table }
-    ensures root { root.new.table ≡ root.old.table }
-{
-    let mut workers = Vec::new(alloc);
-    let _all = rest_more(rt, alloc, heap, root, &Nothing, WORKERS, &mut workers);
-    match run_all(rt, heap, &Serving { alloc }, workers) {
-        Ok(ended) => {
-            let served = count_served(ended.as_slice());
-            gather_all(root, heap, ended);
-            served
+impl Tally<bool> for Served {
+    fn add(&mut self, answer: bool) {
+        if answer {
+            self.count = self.count.saturating_add(1);
         }
-        Err(_) => 0,
     }
 }
 
-/// All waves: how many served.
+/// All waves of eight workers: how many served. If fewer workers can be had, those serve.
 pub(crate) fn serves_all<R>(rt: &R, alloc: Global, heap: &Heap, root: &mut Root) -> u32
 where
     R: Threads + Wait + Sync,
     requires root { root.old.table ≡ heap.now.table }
     ensures root { root.new.table ≡ root.old.table }
 {
-    let mut served = 0u32;
-    for _ in 0..WAVES {
-        served = served.saturating_add(serves(rt, alloc, heap, root));
-    }
-    served
+    let mut served = Served { count: 0 };
+    let life = Serving { alloc };
+    let _all_whole = waves(rt, alloc, heap, root, &life, WORKERS, WAVES, &mut served);
+    served.count
 }
