@@ -3,7 +3,7 @@
 
 ghost use Rattle.brc_heap.specs.Words.{IsUnlocked, Keeps};
 
-use brc_heap::{Frame, Heap, Options, give_back, list_push, new_int, new_list, take_apart};
+use brc_heap::{Frame, Heap, Options, close_or_end, list_push, new_int, new_list};
 use std::alloc::Global;
 use std::io;
 use std::sync::Wait;
@@ -32,11 +32,18 @@ fn main(rt: HostRuntime) -> io::Result<()> {
     let Ok((heap, mut root)) = Heap::new(rt.alloc(), Options::USUAL) else {
         return println!(rt; "no heap can be had");
     };
-    let mut ledger = None;
     if let Ok(mut mutator) = root.register(rt.alloc(), &heap) {
         let _done = works(&rt, rt.alloc(), mutator.frame());
-        ledger = Some(mutator.end(&rt, &mut root, &heap));
+        let _ledger = mutator.end(&rt, &mut root, &heap);
     }
-    give_back(take_apart(heap, root));
-    println!(rt; "{ledger:?}")
+    match close_or_end(rt.alloc(), heap, root) {
+        Ok(report) => {
+            let ledger = report.ledger;
+            println!(rt;
+                "made {}, freed {}, left {}",
+                ledger.allocs, ledger.frees, report.live
+            )
+        }
+        Err(reason) => println!(rt; "no report: {reason:?}"),
+    }
 }

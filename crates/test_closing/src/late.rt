@@ -4,10 +4,9 @@ ghost use Rattle.std.specs.Prelude.{◌≡◌, IfSome};
 
 use crate::SIZES;
 use crate::lives::{Life, lives};
-use brc_heap::{CloseFault, Heap, Report, Retired, Root, close};
+use brc_heap::{CloseFault, Heap, Report, Retired, Root, close, close_or_end};
 use std::alloc::Allocator;
 use std::sync::Wait;
-use test_tools::closed;
 
 /// How many threads were registered and gathered as the heap wasn't closed, and its report as it was.
 #[derive(Drop)]
@@ -55,7 +54,7 @@ pub(crate) fn closed_late<A: Allocator + Copy>(rt: &impl Wait, alloc: A) -> Opti
             if let Some(third) = third {
                 root.gather(&heap, third);
             }
-            let report = closed(alloc, heap, root).ok()?;
+            let report = close_or_end(alloc, heap, root).ok()?;
             Some(Late {
                 missing: (registered, gathered),
                 report,

@@ -5,13 +5,13 @@
 mod late;
 mod lives;
 
-use brc_heap::{Heap, Options, Report, write_report};
+use brc_heap::{Heap, NoReport, Options, Report, close_or_end, write_report};
 use late::closed_late;
 use lives::{Life, lives};
 use std::alloc::{Allocator, Global};
 use std::io;
 use std::sync::Wait;
-use test_tools::{Heaps, Memories, closed};
+use test_tools::{Heaps, Memories};
 
 /// The least heap.
 pub(crate) const SIZES: Options = Options {
@@ -30,7 +30,7 @@ fn report_of<A: Allocator + Copy>(
         lives(rt, memories.ample, &mut mutator, life);
         let _ledger = mutator.end(rt, &mut root, &heap);
     }
-    closed(memories.scarce, heap, root).ok()
+    close_or_end(memories.scarce, heap, root).ok()
 }
 
 /// How many threads were registered, and how many gathered, of a heap that so many left with the root, one after the
@@ -45,9 +45,14 @@ fn missing<A: Allocator + Copy>(rt: &impl Wait, alloc: A, ends: u32) -> Option<(
     if let Ok(mutator) = root.register(alloc, &heap) {
         let _retired = mutator.retire(rt);
     }
-    match closed(alloc, heap, root) {
-        Ok(_) => None,
-        Err(missing) => missing,
+    match close_or_end(alloc, heap, root) {
+        Err(
+            NoReport::Missing {
+                registered,
+                gathered,
+            },
+        ) => Some((registered, gathered)),
+        _ => None,
     }
 }
 

@@ -13,13 +13,12 @@ mod lives;
 mod pair;
 mod pairs;
 
-use brc_heap::{Heap, Options, Report};
+use brc_heap::{Heap, Options, Report, close_or_end};
 use counted::Counted;
 use crowd::all_live;
 use pairs::{HEAPS, count_heaps};
 use std::alloc::Global;
 use std::io;
-use test_tools::closed;
 
 /// What the threads counted, behind what couldn't be had.
 fn shows_counted(rt: &HostRuntime, counted: Counted) -> io::Result<()> {
@@ -46,7 +45,7 @@ fn main(rt: HostRuntime) -> io::Result<()> {
     };
     let counted = all_live(&rt, rt.alloc(), &heap, &mut root);
     let gathered = root.gathered();
-    let report = closed(rt.alloc(), heap, root).ok();
+    let report = close_or_end(rt.alloc(), heap, root).ok();
     shows_counted(&rt, counted)?;
     println!(rt; "gathered {gathered}")?;
     shows_report(&rt, report)?;

@@ -4,12 +4,11 @@
 ghost use Rattle.std.specs.Prelude.{◌≡◌};
 
 use crate::pair::Parting;
-use brc_heap::{Heap, Options, Report, Root};
+use brc_heap::{Heap, Options, Report, Root, close_or_end};
 use brc_loops::{Ended, Nothing, gather_all, rest_more, run_all};
 use std::alloc::Global;
 use std::sync::Wait;
 use std::thread::Threads;
-use test_tools::closed;
 
 /// How many heaps there are, one after the other.
 pub(crate) const HEAPS: u32 = 1_000;
@@ -63,7 +62,7 @@ where
         return false;
     };
     let done = two_live(rt, alloc, &heap, &mut root);
-    match closed(alloc, heap, root) {
+    match close_or_end(alloc, heap, root) {
         Ok(report) => done && is_of_one_life(&report),
         Err(_) => false,
     }

@@ -6,12 +6,13 @@ ghost use Rattle.brc_count.specs.Frames.{IsUnlocked};
 
 use crate::tests::limits::LEAST;
 use crate::tests::phases::{SMALL, ends, says};
+use brc_close::close_or_end;
 use brc_thread::{Heap, Mutator, Resting, Root, take_apart};
 use brc_words::Fault;
 use std::alloc::Global;
 use std::process::Abort;
 use std::sync::Wait;
-use test_tools::{Thing, closed, made, shares};
+use test_tools::{Thing, made, shares};
 
 /// The next thread, which bears this number, and has made and freed nothing.
 fn bears<'h>(
@@ -182,7 +183,7 @@ fn lists_outlive_the_threads_that_made_them(rt: HostRuntime) {
         (201, 201, 1)
     );
     says(&rt, root.ledger(), (200, 200));
-    let Ok(report) = closed(rt.alloc(), heap, root) else {
+    let Ok(report) = close_or_end(rt.alloc(), heap, root) else {
         panic!(rt; "no report can be had")
     };
     assert_eq!(rt; (report.ledger.allocs, report.ledger.frees), (200, 200));
