@@ -157,6 +157,30 @@ impl Mailing {
         counted
     }
 
+    /// The number of the next letter; None once all senders are done and none is left, or if it is refused.
+    fn receives_one(
+        &self,
+        rt: &impl Wait,
+        frame: &mut Frame,
+        mailbox: &Handle,
+        all_sent: &AllDone<'_>,
+    ) -> Option<i64>
+        requires owned { Owns frame.old mailbox.now }
+        requires unlocked { IsUnlocked frame.old }
+        ensures keeps { Keeps frame.old frame.new }
+        ensures unlocked { IsUnlocked frame.new }
+    {
+        match recv_until(rt, frame, mailbox, all_sent, TURNS) {
+            Waited::Got(letter) => {
+                let number = int_of(rt, frame, &letter).unwrap_or(0);
+                frame.release(letter);
+                Some(number)
+            }
+            Waited::Stopped => None,
+            Waited::Refused(_) => None,
+        }
+    }
+
     /// Letters, one after the other, until all senders are done and none is left.
     fn receives(&self, rt: &impl Wait, frame: &mut Frame, mailbox: &Handle) -> Counted
         requires owned { Owns frame.old mailbox.now }
@@ -170,21 +194,29 @@ impl Mailing {
         };
         let mut counted = Counted::NOTHING;
         for _ in 0..MORE {
-            match recv_until(rt, frame, mailbox, &all_sent, TURNS) {
-                Waited::Got(letter) => {
-                    let number = int_of(rt, frame, &letter).unwrap_or(0);
-                    frame.release(letter);
-                    counted = counted.and(Counted {
-                        sent: 0,
-                        received: 1,
-                        sum: number,
-                    });
-                }
-                Waited::Stopped => return counted,
-                Waited::Refused(_) => return counted,
-            }
+            let Some(number) = self.receives_one(rt, frame, mailbox, &all_sent) else {
+                return counted;
+            };
+            counted = counted.and(Counted {
+                sent: 0,
+                received: 1,
+                sum: number,
+            });
         }
         counted
+    }
+
+    /// What a thread does with the mailbox.
+    fn mails_by(&self, rt: &impl Wait, frame: &mut Frame, mailbox: &Handle, role: Role) -> Counted
+        requires owned { Owns frame.old mailbox.now }
+        requires unlocked { IsUnlocked frame.old }
+        ensures keeps { Keeps frame.old frame.new }
+        ensures unlocked { IsUnlocked frame.new }
+    {
+        match role {
+            Role::Sends(from) => self.sends(rt, frame, mailbox, from),
+            _ => self.receives(rt, frame, mailbox),
+        }
     }
 
     /// What a thread does whose role isn't to open the mailbox: it waits for it, unless it can't be opened.
@@ -200,10 +232,7 @@ impl Mailing {
         };
         match fetch_until(rt, frame, globals, &Key::Int(MAILBOX), &opened, TURNS) {
             Waited::Got(mailbox) => {
-                let counted = match role {
-                    Role::Sends(from) => self.sends(rt, frame, &mailbox, from),
-                    _ => self.receives(rt, frame, &mailbox),
-                };
+                let counted = self.mails_by(rt, frame, &mailbox, role);
                 frame.release(mailbox);
                 counted
             }
