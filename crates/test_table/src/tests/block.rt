@@ -70,20 +70,24 @@ fn takes_two(rt: &impl Abort, entries: &mut impl Entries) {
     }
 }
 
-/// With all memory taken no room is made for a third, and the two stay. Answers what has the memory.
+/// Two are put in so many times, for which there is just room. With all memory taken no room is made for one more, and
+/// they stay. Answers what has the memory.
 fn stays<'h>(
     rt: &impl Abort,
     alloc: Global,
     heap: &'h LocalHeap,
     entries: &mut impl Entries,
+    times: usize,
 ) -> Vec<Box<u8, &'h LocalHeap>> {
-    takes_two(rt, entries);
+    for _ in 0..times {
+        takes_two(rt, entries);
+    }
     let filler = fill(rt, alloc, heap);
     holds(rt, "no room is made", entries.reserve().is_err());
     holds(rt, "nothing is put", entries.put(268).is_err());
-    same(rt, "its length", entries.len(), 2);
+    same(rt, "its length", entries.len(), times.saturating_mul(2));
     same(rt, "its front", entries.entry(0), Some(266));
-    same(rt, "its end", entries.entry(1), Some(267));
+    same(rt, "the next", entries.entry(1), Some(267));
     filler
 }
 
@@ -91,7 +95,7 @@ fn stays<'h>(
 fn a_list_without_memory_stays(rt: HostRuntime) {
     let heap = small_heap(&rt, rt.alloc());
     let mut cells = Cells::new(Vec::with_capacity(&heap, 2).expect(&rt, "memory"));
-    let _filler = stays(&rt, rt.alloc(), &heap, &mut cells);
+    let _filler = stays(&rt, rt.alloc(), &heap, &mut cells, 1);
     same(&rt, "as it was", cells.as_slice(), [266, 267].as_slice());
 
     // The place of an entry that was taken serves the next one.
@@ -103,7 +107,8 @@ fn a_list_without_memory_stays(rt: HostRuntime) {
 fn a_mailbox_without_memory_stays(rt: HostRuntime) {
     let heap = small_heap(&rt, rt.alloc());
     let mut letters = Letters::new(&heap).expect(&rt, "memory");
-    let _filler = stays(&rt, rt.alloc(), &heap, &mut letters);
+    // The first growth of a queue makes room for four.
+    let _filler = stays(&rt, rt.alloc(), &heap, &mut letters, 2);
     same(&rt, "its front", letters.take(), Some(266));
     holds(&rt, "in its place", letters.put(268).is_ok());
 }
