@@ -2,13 +2,13 @@
 
 ghost use Rattle.std.specs.Prelude.{◌≡◌, ◌-◌, ◌==◌, nat_lt, length, slice_get};
 ghost use Rattle.brc_core.specs.Readings.{only_if, status_at, has_object, counts_locally};
-ghost use Rattle.law_world.specs.Lists.{bit_of, place_at, is_marked, is_blank, is_unmarked};
+ghost use Rattle.law_world.specs.Lists.{bit_of, place_at, is_marked, is_bare, is_blank, is_unmarked};
 ghost use Rattle.law_world.specs.Heap.{cell_at, entries_at, row_at, frame_at, popped_at, worklist_at, queue_at};
 ghost use Rattle.law_world.specs.Heap.{is_registered};
 
 use crate::world::World;
 use brc_words::{Kind, Owner, State};
-use law_world::{Edition, Hand, Stage, is_immortal};
+use law_world::{Cell, Edition, Hand, Row, Stage, is_immortal};
 use std::alloc::Allocator;
 
 /// How far a thread's life is.
@@ -88,6 +88,13 @@ impl<A: Allocator + Copy> World<A> {
         }
     }
 
+    /// The thread's own row; that of no thread, if it wasn't registered.
+    pub fn row(&self, thread: u32) -> Row
+        ensures { result ≡ row_at self.now thread }
+    {
+        self.tables.row(thread)
+    }
+
     /// The place of the thread's frame whose object it has locked.
     pub fn locked(&self, thread: u32) -> Option<u32>
         ensures { result ≡ (row_at self.now thread).locked }
@@ -108,6 +115,13 @@ impl<A: Allocator + Copy> World<A> {
         ensures { result ≡ place_at (frame_at self.now thread) place }
     {
         self.tables.place(thread, place)
+    }
+
+    /// Whether no place of the thread's frame has a cell.
+    pub fn has_no_place(&self, thread: u32) -> bool
+        ensures { result ≡ is_bare (frame_at self.now thread) }
+    {
+        self.tables.is_bare(thread)
     }
 
     /// Whether the cell lies in the thread's merge queue.
@@ -161,6 +175,13 @@ impl<A: Allocator + Copy> World<A> {
         ensures { result ≡ has_object self.now cell }
     {
         is_immortal(cell) || self.is_live(cell)
+    }
+
+    /// The cell's words, also where no object is in it; those of no cell past the last.
+    pub fn cell(&self, cell: u32) -> Cell
+        ensures { result ≡ cell_at self.now cell }
+    {
+        self.tables.cell(cell)
     }
 
     /// Who owns the cell, of each cell of the heap.

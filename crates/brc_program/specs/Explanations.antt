@@ -13,10 +13,19 @@ use Rattle.law_world.specs.declared.row.Hand.TheVariants as hands
 use Rattle.brc_text.specs.declared.keyword.Keyword.{Keyword}
 use Rattle.brc_text.specs.declared.keyword.Keyword.TheVariants as words
 use Rattle.brc_text.specs.Keywords.{keyword}
+use Rattle.brc_excerpt.specs.Excerpts.{quoted}
 use Rattle.brc_state.specs.declared.refusing.Refusal.{Refusal}
 use Rattle.brc_state.specs.declared.refusing.Refusal.TheVariants as refusals
 use Rattle.brc_trace.specs.declared.causes.Cause.{Cause}
 use Rattle.brc_trace.specs.declared.causes.Cause.TheVariants as causes
+use Rattle.brc_trace.specs.declared.cell_reasons.CellReason.{CellReason}
+use Rattle.brc_trace.specs.declared.cell_reasons.CellReason.TheVariants as cells
+use Rattle.brc_trace.specs.declared.own_reasons.OwnReason.{OwnReason}
+use Rattle.brc_trace.specs.declared.own_reasons.OwnReason.TheVariants as owns
+use Rattle.brc_trace.specs.declared.told_reasons.ToldReason.{ToldReason}
+use Rattle.brc_trace.specs.declared.told_reasons.ToldReason.TheVariants as tolds
+use Rattle.brc_trace.specs.declared.finer.Finer.{Finer}
+use Rattle.brc_trace.specs.declared.finer.Finer.TheVariants as finer
 use Rattle.brc_trace.specs.declared.standing.Meant.{Meant}
 use Rattle.brc_trace.specs.declared.explaining.Refused.{Refused}
 use Rattle.brc_trace.specs.declared.explaining.Why.{Why}
@@ -70,7 +79,8 @@ cause_text causes.WideSpace = codes "a space stands at one of its ends or behind
 cause_text causes.LeadingZero = codes "a number begins with a zero"
 cause_text causes.NotAHead =
     codes "a head is heap CELLS LIMIT, 512 to 65536 and 1 to 4294967294; above it only trace 2"
-cause_text causes.NoWords = codes "a word of it is in no trace, or it has more than 8"
+cause_text causes.TooManyWords = codes "it has more than 8 words"
+cause_text (causes.UnknownWord word) = codes "no trace has the word " ++ quoted word
 cause_text causes.NotAnEvent = codes "no event begins so"
 cause_text causes.OutOfRange = codes "a number is out of its range"
 cause_text (causes.NotItsForm word) = codes "its event has the form " ++ form_of word
@@ -99,6 +109,77 @@ refusal_text step refusals.Edition =
 refusal_text step refusals.NoCell = codes "it means no cell of the heap"
 refusal_text step refusals.Cell = codes "its cell is not as the event needs it"
 
+-- ---- which part of a condition fails
+
+-- A phrase is a text, a number, a text and a number, each where it has one.
+abbrev pub number_text : Option ℕ → List ℕ
+number_text None = []
+number_text (Some n) = decimal n
+
+abbrev pub phrase_text : List ℕ × Option ℕ × List ℕ × Option ℕ → List ℕ
+phrase_text phrase = together (phrase.0 ∷ number_text phrase.1 ∷ phrase.2 ∷ number_text phrase.3 ∷ [])
+
+-- of the thread's own part
+abbrev pub own_phrase : OwnReason → List ℕ × Option ℕ × List ℕ × Option ℕ
+own_phrase owns.ManyBirths = (codes "its thread has made 140737488355328 objects", None, [], None)
+own_phrase (owns.ImmortalKind kind) = (codes "objects of its kind are immortal", None, [], None)
+own_phrase (owns.PlaceTooHigh k) = (codes "no frame has place ", Some k, [], None)
+own_phrase (owns.PlaceFilled k) = (codes "place ", Some k, codes " is filled", None)
+own_phrase (owns.PlaceVacant k) = (codes "place ", Some k, codes " is vacant", None)
+own_phrase (owns.PlaceLocked k) = (codes "place ", Some k, codes " is the locked one", None)
+own_phrase (owns.NoEntry i) = (codes "entry ", Some i, codes " is not there", None)
+own_phrase owns.ManyEntries = (codes "its locked object has 1048576 entries", None, [], None)
+own_phrase (owns.HasEntries c) = (codes "cell ", Some c, codes " has entries", None)
+own_phrase (owns.NotOnWorklist c) = (codes "cell ", Some c, codes " is not on the worklist", None)
+own_phrase (owns.OnWorklist c) = (codes "cell ", Some c, codes " is on the worklist", None)
+own_phrase (owns.NotPopped c) = (codes "cell ", Some c, codes " is not popped", None)
+own_phrase (owns.NoWord k) = (codes "there is no queue word ", Some k, [], None)
+own_phrase (owns.WordClosed k) = (codes "queue word ", Some k, codes " is already closed", None)
+own_phrase (owns.WordOpen k) = (codes "queue word ", Some k, codes " is already open", None)
+own_phrase (owns.NotNextToClose k) = (codes "queue word ", Some k, codes " is not the next to close", None)
+own_phrase (owns.NotNextToOpen k) = (codes "queue word ", Some k, codes " is not the next to open", None)
+own_phrase (owns.StillFilled None) = (codes "a place is still filled", None, [], None)
+own_phrase (owns.StillFilled (Some k)) = (codes "place ", Some k, codes " is still filled", None)
+own_phrase (owns.StillPopped None) = (codes "a cell is still popped", None, [], None)
+own_phrase (owns.StillPopped (Some c)) = (codes "cell ", Some c, codes " is still popped", None)
+own_phrase (owns.StillWork None) = (codes "a cell is still on its worklist", None, [], None)
+own_phrase (owns.StillWork (Some c)) = (codes "cell ", Some c, codes " is still on its worklist", None)
+
+-- of whom a step tells, and of what a thread that closes leaves
+abbrev pub told_phrase : ToldReason → List ℕ × Option ℕ × List ℕ × Option ℕ
+told_phrase (tolds.NotRegistered u) = (codes "thread ", Some u, codes " is not registered", None)
+told_phrase (tolds.NoWord u k) = (codes "thread ", Some u, codes " has no queue word ", Some k)
+told_phrase (tolds.StillWork None) = (codes "a cell is still on its worklist", None, [], None)
+told_phrase (tolds.StillWork (Some c)) = (codes "cell ", Some c, codes " is still on its worklist", None)
+told_phrase (tolds.StillOwns c) = (codes "it still owns cell ", Some c, [], None)
+
+-- of the cell that the event means
+abbrev pub cell_phrase : CellReason → List ℕ × Option ℕ × List ℕ × Option ℕ
+cell_phrase cells.Immortal = (codes "cells below 266 are immortal", None, [], None)
+cell_phrase cells.NotFree = (codes "its cell is not free", None, [], None)
+cell_phrase cells.NotItsOwn = (codes "its thread does not own the cell", None, [], None)
+cell_phrase cells.OwnerInactive = (codes "its thread owns the cell and is not active", None, [], None)
+cell_phrase cells.ItsOwn = (codes "its thread owns the cell, so it counts on the local count", None, [], None)
+cell_phrase cells.AtLimit = (codes "its local count is at the limit, so shup", None, [], None)
+cell_phrase cells.BelowLimit = (codes "its local count is below the limit, so up", None, [], None)
+cell_phrase cells.NotQueued = (codes "its cell is not queued", None, [], None)
+cell_phrase cells.NotMerged = (codes "its cell is not merged", None, [], None)
+cell_phrase cells.NotDefault = (codes "its cell is queued or merged, so last", None, [], None)
+cell_phrase cells.InDefault = (codes "its cell is neither queued nor merged", None, [], None)
+cell_phrase cells.NotAboveZero = (codes "its shared count is not above 0, so ask", None, [], None)
+cell_phrase cells.NoOwner = (codes "its cell has no owner", None, [], None)
+cell_phrase cells.HasOwner = (codes "its cell still has an owner", None, [], None)
+cell_phrase cells.HandFree = (codes "its thread's hand is free", None, [], None)
+cell_phrase (cells.LockedBy u) = (codes "thread ", Some u, codes " has locked its cell", None)
+cell_phrase cells.NoContainer = (codes "its object is no container", None, [], None)
+
+abbrev pub finer_phrase : Finer → List ℕ × Option ℕ × List ℕ × Option ℕ
+finer_phrase (finer.Own reason) = own_phrase reason
+finer_phrase (finer.Told reason) = told_phrase reason
+finer_phrase (finer.Cell reason) = cell_phrase reason
+
+-- ---- what stands there
+
 abbrev pub kind_name : Kind → List ℕ
 kind_name kinds.Nothing = codes "None"
 kind_name kinds.False = codes "False"
@@ -124,7 +205,9 @@ owner_text owners.Free = codes ", free"
 
 -- what the line says of each fact; nothing of one that isn't there
 abbrev pub fact_text : Fact → List ℕ
-fact_text (facts.Refused step refusal) = together (codes "brc: why: " ∷ refusal_text step refusal ∷ [])
+fact_text facts.Begins = codes "brc: why: "
+fact_text (facts.Refused step refusal) = refusal_text step refusal
+fact_text (facts.Finer part) = phrase_text (finer_phrase part)
 fact_text (facts.Threads count) = together (codes "; threads " ∷ decimal count ∷ [])
 fact_text (facts.Status thread (Some status)) =
     together (codes "; thread " ∷ decimal thread ∷ codes " " ∷ keyword (status_word status) ∷ [])
@@ -146,10 +229,15 @@ facts_of_cell (Some meant) =
     facts.Cell meant.cell ∷ facts.Owner meant.owner ∷ facts.Kind meant.kind ∷ facts.Local meant.local
     ∷ facts.Shared meant.count ∷ facts.State meant.state ∷ facts.Ends ∷ []
 
+-- the condition that fails, or which part of it does, if it has several
+abbrev pub condition_of : Refused → Option Finer → Fact
+condition_of told None = facts.Refused told.event.step told.refusal
+condition_of told (Some part) = facts.Finer part
+
 -- the condition, how many threads there are, and what stands of the event's own and of its cell
 abbrev pub facts_of : Refused → List Fact
 facts_of told =
-    facts.Refused told.event.step told.refusal ∷ facts.Threads told.standing.registered
+    facts.Begins ∷ condition_of told told.finer ∷ facts.Threads told.standing.registered
     ∷ facts.Status told.standing.thread told.standing.status ∷ facts.Hand told.standing.hand
     ∷ facts.Locked told.standing.locked ∷ facts_of_cell told.standing.meant
 

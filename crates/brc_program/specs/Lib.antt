@@ -3,3 +3,4 @@ pub mod Errors
 pub mod Explanations
 pub mod Performing
 pub mod Statuses
+pub mod Unreads

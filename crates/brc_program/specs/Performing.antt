@@ -1,6 +1,7 @@
 -- What each invocation writes on standard output, what stands on standard error then, and the status that it ends with.
 use Rattle.std.specs.Prelude.{◌≡◌, ◌⊎◌, ◌+◌, ℕ, Bool, true, false, if◌then◌else◌, List, take, Option, Some, None}
-use Rattle.std.specs.Prelude.{IfSome, Result, Ok, Err, IfErr}
+use Rattle.std.specs.Prelude.{IfSome, Result, Ok, Err, IfErr, String}
+use Rattle.std.specs.declared.alloc.Global.{Global}
 use Rattle.std.specs.Io.KnownBytes.{Keeps}
 use Rattle.std.specs.String.{string_bytes}
 use Rattle.brc_words.specs.declared.limits.TheConstants.{MOST_INPUT}
@@ -12,6 +13,7 @@ use Rattle.brc_trace.specs.declared.explaining.Why.{Why}
 use Rattle.brc_trace.specs.Explaining.{Explains, fault_of_why, without_why}
 use Rattle.brc_trace.specs.Replaying.{Replays}
 use Rattle.brc_run_text.specs.declared.ended.Ended.{Ended}
+use Rattle.brc_run_text.specs.Notes.{nowhere}
 use Rattle.brc_run_text.specs.Scripts_Run.{Runs}
 use Rattle.brc_program.specs.declared.command.Invocation.{Invocation}
 use Rattle.brc_graph.specs.declared.undrawn.Undrawn.{Undrawn}
@@ -20,7 +22,12 @@ use Rattle.brc_graph.specs.Draws.{Draws}
 use Rattle.brc_program.specs.declared.failed.Failed.{Failed}
 use Rattle.brc_program.specs.declared.failed.Failed.TheVariants as fails
 use Rattle.brc_program.specs.declared.command.Invocation.TheVariants.{Help, Replay, Run, Graph}
-use Rattle.brc_program.specs.Errors.{Tells}
+use Rattle.brc_mistakes.specs.declared.mistake.Mistake.{Mistake}
+use Rattle.brc_mistakes.specs.Mistakes.{IsMistake}
+use Rattle.brc_program.specs.Command.{asks_why, is_to_explain}
+use Rattle.brc_program.specs.Errors.{Tells, TellsNotes}
+use Rattle.brc_program.specs.Unreads.{IsUnread}
+use Rattle.brc_program.specs.declared.unread.Unread.{Unread}
 
 -- ---- one invocation
 
@@ -48,18 +55,30 @@ abbrev pub by_status : {T E : Type 0} → (T → ℕ) → (E → Failed) → Res
 by_status status tell (Ok found) = Ok (status found)
 by_status status tell (Err failed) = Err (tell failed)
 
--- no line of a section is held up
-abbrev pub nowhere : ℕ → ℕ → Type 0
-nowhere section line = ⊥
-
 -- a reason is the fault's, and it is so of the input
 abbrev pub IsReason : Option (List ℕ) → Fault → Why → Type 0
 IsReason input fault why = (fault ≡ fault_of_why why)
     × IfSome input (λ bytes. Explains (take (MOST_INPUT + 1) bytes) (Some why))
 
+-- a bad line of a script is told with what is wrong with it, of which this is so, or without; each other fault by itself
+abbrev pub FailsAs : (ℕ → Mistake → Type 0) → Fault → Failed → Type 0
+FailsAs IsSo fault failed = (failed ≡ unexplained fault)
+    ⊎ ((line : ℕ) × (mistake : Mistake) × (fault ≡ faults.BadScript line) × (failed ≡ fails.NoScript line mistake)
+    × IsSo line mistake)
+
+-- it is a mistake of the input, where its bytes are known
+abbrev pub IsOfInput : Option (List ℕ) → ℕ → Mistake → Type 0
+IsOfInput input line mistake = IfSome input (λ bytes. IsMistake (take (MOST_INPUT + 1) bytes) line mistake)
+
+-- what a run that is to be explained answers, by what it comes to
+abbrev pub Explained : Option (List ℕ) → Result Ended Fault → Result ℕ Failed → Type 0
+Explained input (Ok ended) answer = answer ≡ Ok (status_of_run ended)
+Explained input (Err fault) answer =
+    (failed : Failed) × (answer ≡ Err failed) × FailsAs (IsOfInput input) fault failed
+
 -- By the input's bytes, and those of the output before and after, where they are known: help is written as it stands,
 -- status 0; a trace is replayed, or a script is run, as the contract of each says, and its answer is the status; a graph
--- is drawn as the contract says, status 0. A reason is told of a replay alone, and only where it is asked for.
+-- is drawn as the contract says, status 0. A reason is told of a trace and of a script, and only where it is asked for.
 abbrev pub Performs :
     Invocation → Option (List ℕ) → Option (List ℕ) → Option (List ℕ) → Result ℕ Failed → Type 0
 Performs (Help text) input old new answer =
@@ -72,9 +91,11 @@ Performs (Replay true) input old new answer =
     (found : Result Bool Unreplayed) × Replays input old new (without_why found)
     × IfErr found (λ failed. IfSome failed.why (IsReason input failed.fault))
     × (answer ≡ by_status status_of_world (λ failed. fails.Fault failed) found)
-Performs (Run options) input old new answer =
+Performs (Run options false) input old new answer =
     (found : Result Ended Fault) × Runs options nowhere input old new found
     × (answer ≡ by_status status_of_run unexplained found)
+Performs (Run options true) input old new answer =
+    (found : Result Ended Fault) × Runs options nowhere input old new found × Explained input found answer
 Performs Graph input old new answer =
     (found : Result (Unit {0}) Undrawn) × Draws input old new found
     × (answer ≡ by_status (λ _. 0) failed_of found)
@@ -94,23 +115,36 @@ pub record IsDone (asked : Invocation) (input old new : Option (List ℕ)) (answ
   pub kept : Keeps written new
   pub flushed : Flushed done answer
 
--- the words ask for nothing, or memory to read them is missing; nothing is written
-pub record IsRefused (old new : Option (List ℕ)) (answer : Result ℕ Failed) : Type 0 where
+-- the words ask for nothing, or memory to read them is missing; what is wrong with them is told only where they ask why
+abbrev pub IsUndone : List (String Global) → Failed → Type 0
+IsUndone words failed = (failed ≡ unexplained faults.BadOptions) ⊎ (failed ≡ unexplained faults.OutOfMemory)
+    ⊎ ((unread : Unread) × (failed ≡ fails.NoCommand unread) × (asks_why words ≡ true) × IsUnread words unread)
+
+-- and nothing is written
+pub record IsRefused (words : List (String Global)) (old new : Option (List ℕ)) (answer : Result ℕ Failed)
+    : Type 0 where
   pub kept : Keeps old new
-  pub fault : (answer ≡ Err (unexplained faults.BadOptions)) ⊎ (answer ≡ Err (unexplained faults.OutOfMemory))
+  pub failed : Failed
+  pub answered : answer ≡ Err failed
+  pub undone : IsUndone words failed
 
--- some invocation is done, whichever it is, or none
-abbrev pub Answers : Option (List ℕ) → Option (List ℕ) → Option (List ℕ) → Result ℕ Failed → Type 0
-Answers input old new answer = ((asked : Invocation) × IsDone asked input old new answer) ⊎ IsRefused old new answer
+-- some invocation is done, whichever it is, or none; one that is to explain only where the words ask why
+abbrev pub Answers : List (String Global) → Option (List ℕ) → Option (List ℕ) → Option (List ℕ)
+    → Result ℕ Failed → Type 0
+Answers words input old new answer =
+    ((asked : Invocation) × (is_to_explain asked ≡ true → asks_why words ≡ true) × IsDone asked input old new answer)
+    ⊎ IsRefused words old new answer
 
--- an answer's status, and nothing stands on standard error for it; or the fault is told there
-abbrev pub EndsBy : Option (List ℕ) → Option (List ℕ) → Result ℕ Failed → ℕ → Type 0
-EndsBy old new (Ok status) ended = (new ≡ old) × (ended ≡ status)
-EndsBy old new (Err failed) ended = Tells old new failed ended
+-- An answer's status, and nothing stands on standard error for it; or the fault is told there. Where reasons are asked
+-- for, notes may stand there instead of nothing, and the status is 5 where they couldn't be written.
+abbrev pub EndsBy : Type 0 → Option (List ℕ) → Option (List ℕ) → Result ℕ Failed → ℕ → Type 0
+EndsBy asks old new (Ok status) ended =
+    ((new ≡ old) × (ended ≡ status)) ⊎ (asks × TellsNotes old new status ended)
+EndsBy asks old new (Err failed) ended = Tells old new failed ended
 
 -- there is an answer of which this is so, and by it what standard error had and has, and the status
-pub record Ends (IsSo : Result ℕ Failed → Type 0) (errors_old errors_new : Option (List ℕ))
+pub record Ends (asks : Type 0) (IsSo : Result ℕ Failed → Type 0) (errors_old errors_new : Option (List ℕ))
     (status : ℕ) : Type 0 where
   pub answer : Result ℕ Failed
   pub is : IsSo answer
-  pub by : EndsBy errors_old errors_new answer status
+  pub by : EndsBy asks errors_old errors_new answer status

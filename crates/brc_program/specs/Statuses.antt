@@ -13,7 +13,9 @@ status_of (faults.BadScript line) = 3
 status_of faults.Io = 5
 status_of _ = 4
 
--- a text without a graph is a bad text
+-- a text without a graph is a bad text, and so is one that is no script
 abbrev pub status_of_failed : Failed → ℕ
 status_of_failed (fails.Fault unreplayed) = status_of unreplayed.fault
 status_of_failed (fails.NoGraph line) = 3
+status_of_failed (fails.NoScript line mistake) = 3
+status_of_failed (fails.NoCommand unread) = 2

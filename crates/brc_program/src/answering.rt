@@ -1,17 +1,22 @@
 //! The program over any streams: what it does for each invocation, its statuses and its error lines.
 
-ghost use Rattle.std.specs.Prelude.{◌≡◌, ◌≤◌, false, codes, IfOk};
-ghost use Rattle.brc_program.specs.Command.{AreWords};
-ghost use Rattle.brc_program.specs.Errors.{Tells};
+ghost use Rattle.std.specs.Prelude.{◌≡◌, ◌≤◌, ◌⊎◌, true, false, None, codes, IfOk, MatchOption};
+ghost use Rattle.brc_words.specs.declared.fault.Fault.TheVariants as faults;
+ghost use Rattle.brc_mistakes.specs.Mistakes.{IsMistake};
+ghost use Rattle.brc_program.specs.Command.{AreWords, asks_why, is_to_explain};
+ghost use Rattle.brc_program.specs.Errors.{Tells, TellsNotes};
 ghost use Rattle.brc_program.specs.Performing.{status_of_world, unexplained, failed_of, Performs, IsDone, Answers, Ends};
+ghost use Rattle.brc_program.specs.Performing.{FailsAs, IsUndone, status_of_run};
 ghost use Rattle.brc_program.specs.Statuses.{status_of, status_of_failed};
 
-use crate::command::{Invocation, read_words};
+use crate::command::{Invocation, ask_why, read_words};
 use crate::failed::Failed;
 use crate::gate::Open;
 use crate::telling::put_told;
+use crate::unread::why_unread;
 use brc_graph::{Undrawn, draw};
-use brc_run_text::{RunOptions, run_script};
+use brc_mistakes::mistake_of;
+use brc_run_text::{Ended, Notes, RunOptions, put_notes, run_script, run_script_explained};
 use brc_text::put_bytes;
 use brc_trace::{Unreplayed, run_replay, run_replay_explained};
 use brc_words::Fault;
@@ -37,7 +42,8 @@ const STREAM: u8 = 5;
 ///
 /// For `brc replay` the output, the error line and the status come of `run_replay`; for `brc run`, of `run_script` with
 /// the usual options; for `brc graph`, of `draw`. For other words they come of some invocation: which options or which help they ask for isn't
-/// promised. A fault's status is 5 if it can't be told; the first write that fails is the last.
+/// promised. A fault's status is 5 if it can't be told; the first write that fails is the last. If a word is
+/// `--explain`, lines that give reasons may stand behind the fault's line, or alone if there is none.
 pub fn program<T: Threads + Wait + Sync, R: Read + Drop, W: Write, E: Write>(
     rt: &T,
     alloc: Global,
@@ -47,26 +53,44 @@ pub fn program<T: Threads + Wait + Sync, R: Read + Drop, W: Write, E: Write>(
     errors: &mut E,
 ) -> u8
     ensures within { result ≤ 5 }
-    ensures came { Ends (Answers (R.remaining reader) (W.contents writer.old) (W.contents writer.new))
+    ensures came { Ends (asks_why words.now ≡ true)
+        (Answers words.now (R.remaining reader) (W.contents writer.old) (W.contents writer.new))
         (E.contents errors.old) (E.contents errors.new) result }
 
-    // The command lines without an option.
+    // The command lines without an option, for which no reason is told.
     ensures replay { AreWords words.now (codes "replay") →
-        Ends (IsDone (Invocation.Replay false) (R.remaining reader)
+        Ends ⊥ (IsDone (Invocation.Replay false) (R.remaining reader)
         (W.contents writer.old) (W.contents writer.new))
         (E.contents errors.old) (E.contents errors.new) result }
     ensures run { AreWords words.now (codes "run") →
-        Ends (IsDone (Invocation.Run RunOptions.USUAL) (R.remaining reader)
+        Ends ⊥ (IsDone (Invocation.Run RunOptions.USUAL false) (R.remaining reader)
         (W.contents writer.old) (W.contents writer.new))
         (E.contents errors.old) (E.contents errors.new) result }
     ensures graph { AreWords words.now (codes "graph") →
-        Ends (IsDone Invocation.Graph (R.remaining reader)
+        Ends ⊥ (IsDone Invocation.Graph (R.remaining reader)
         (W.contents writer.old) (W.contents writer.new))
         (E.contents errors.old) (E.contents errors.new) result }
 {
-    match answer(rt, alloc, words, reader, writer) {
-        Ok(status) => status,
+    let mut notes = None;
+    match answer(rt, alloc, words, reader, writer, &mut notes) {
+        Ok(status) => tell_notes(errors, &notes, status),
         Err(failed) => refuse_with_why(errors, &failed),
+    }
+}
+
+/// Writes the notes of a run, if there are any, and answers the run's status; 5 where they couldn't be written.
+fn tell_notes<E: Write>(errors: &mut E, notes: &Option<Notes>, status: u8) -> u8
+    ensures none { notes.now ≡ None → (E.contents errors.new ≡ E.contents errors.old) × (result ≡ status) }
+    ensures within { status ≤ 4 → result ≤ 5 }
+    ensures told { ((E.contents errors.new ≡ E.contents errors.old) × (result ≡ status))
+        ⊎ TellsNotes (E.contents errors.old) (E.contents errors.new) status result }
+{
+    let Some(notes) = notes else {
+        return status;
+    };
+    match put_notes(errors, notes) {
+        Ok(()) => status,
+        Err(_fault) => STREAM,
     }
 }
 
@@ -117,17 +141,115 @@ fn status_of_world(lives: bool) -> u8
     }
 }
 
-/// Does what is asked for; its status, before what was written is flushed.
+/// Why a script gave nothing: of a bad line, what is wrong with it.
+fn failed_at(fault: Fault, text: &[u8]) -> Failed
+    ensures { FailsAs (IsMistake text.now) fault result }
+{
+    match fault {
+        Fault::BadScript { line } => match mistake_of(text, line) {
+            Some(mistake) => Failed::NoScript(line, mistake),
+            None => unexplained(fault),
+        },
+        _ => unexplained(fault),
+    }
+}
+
+/// The same, if the text is there.
+fn failed_run(fault: Fault, text: &Option<Vec<u8>>) -> Failed
+    ensures { MatchOption text.now (result ≡ unexplained fault) (λ bytes. FailsAs (IsMistake bytes.items) fault result) }
+{
+    match text {
+        Some(bytes) => failed_at(fault, bytes.as_slice()),
+        None => unexplained(fault),
+    }
+}
+
+/// The status of a script's run.
+fn status_of_run(ended: Ended) -> u8
+    ensures { result ≡ status_of_run ended }
+{
+    if ended.faulted {
+        FAULTED
+    } else {
+        status_of_world(ended.lives)
+    }
+}
+
+/// Runs a script, and answers its status.
+fn run_plain<T: Threads + Wait + Sync, R: Read + Drop, W: Write>(
+    rt: &T,
+    alloc: Global,
+    options: RunOptions,
+    reader: R,
+    writer: &mut W,
+) -> Result<u8, Failed>
+    ensures within { IfOk result (λ status. status ≤ 4) }
+    ensures performs { Performs (Invocation.Run options false) (R.remaining reader)
+        (W.contents writer.old) (W.contents writer.new) result }
+{
+    match run_script(rt, alloc, options, reader, writer, &Open) {
+        Ok(ended) => Ok(status_of_run(ended)),
+        Err(fault) => Err(unexplained(fault)),
+    }
+}
+
+/// The same, and keeps what is known of the run, and tells what is wrong with a bad script.
+fn run_explained<T: Threads + Wait + Sync, R: Read + Drop, W: Write>(
+    rt: &T,
+    alloc: Global,
+    options: RunOptions,
+    reader: R,
+    writer: &mut W,
+    notes: &mut Option<Notes>,
+) -> Result<u8, Failed>
+    ensures within { IfOk result (λ status. status ≤ 4) }
+    ensures performs { Performs (Invocation.Run options true) (R.remaining reader)
+        (W.contents writer.old) (W.contents writer.new) result }
+{
+    let ran = run_script_explained(rt, alloc, options, reader, writer);
+    *notes = ran.notes;
+    match ran.ended {
+        Ok(ended) => Ok(status_of_run(ended)),
+        Err(fault) => Err(failed_run(fault, &ran.text)),
+    }
+}
+
+/// One or the other.
+fn run<T: Threads + Wait + Sync, R: Read + Drop, W: Write>(
+    rt: &T,
+    alloc: Global,
+    options: RunOptions,
+    explain: bool,
+    reader: R,
+    writer: &mut W,
+    notes: &mut Option<Notes>,
+) -> Result<u8, Failed>
+    ensures within { IfOk result (λ status. status ≤ 4) }
+    ensures performs { Performs (Invocation.Run options explain) (R.remaining reader)
+        (W.contents writer.old) (W.contents writer.new) result }
+    ensures quiet { explain ≡ false → notes.new ≡ notes.old }
+{
+    if explain {
+        run_explained(rt, alloc, options, reader, writer, notes)
+    } else {
+        run_plain(rt, alloc, options, reader, writer)
+    }
+}
+
+/// Does what is asked for; its status, before what was written is flushed. What is known of a run that is to be
+/// explained is kept in the notes.
 fn perform<T: Threads + Wait + Sync, R: Read + Drop, W: Write>(
     rt: &T,
     alloc: Global,
     asked: Invocation,
     reader: R,
     writer: &mut W,
+    notes: &mut Option<Notes>,
 ) -> Result<u8, Failed>
     ensures within { IfOk result (λ status. status ≤ 4) }
     ensures performs { Performs asked (R.remaining reader) (W.contents writer.old) (W.contents writer.new)
         result }
+    ensures quiet { is_to_explain asked ≡ false → notes.new ≡ notes.old }
 {
     match asked {
         Invocation::Help(text) => match put_bytes(writer, text.as_bytes()) {
@@ -142,11 +264,9 @@ fn perform<T: Threads + Wait + Sync, R: Read + Drop, W: Write>(
             Ok(lives) => Ok(status_of_world(lives)),
             Err(failed) => Err(Failed::Fault(failed)),
         },
-        Invocation::Run(options) => match run_script(rt, alloc, options, reader, writer, &Open) {
-            Ok(ended) if ended.faulted => Ok(FAULTED),
-            Ok(ended) => Ok(status_of_world(ended.lives)),
-            Err(fault) => Err(unexplained(fault)),
-        },
+        Invocation::Run { options, explain } => {
+            run(rt, alloc, options, explain, reader, writer, notes)
+        }
         Invocation::Graph => match draw(alloc, reader, writer) {
             Ok(()) => Ok(NOTHING_LIVE),
             Err(undrawn) => Err(failed_of(undrawn)),
@@ -161,17 +281,34 @@ fn carry_out<T: Threads + Wait + Sync, R: Read + Drop, W: Write>(
     asked: Invocation,
     reader: R,
     writer: &mut W,
+    notes: &mut Option<Notes>,
 ) -> Result<u8, Failed>
     ensures within { IfOk result (λ status. status ≤ 4) }
     ensures done { IsDone asked (R.remaining reader) (W.contents writer.old) (W.contents writer.new) result }
+    ensures quiet { is_to_explain asked ≡ false → notes.new ≡ notes.old }
 {
-    let status = match perform(rt, alloc, asked, reader, writer) {
+    let status = match perform(rt, alloc, asked, reader, writer, notes) {
         Ok(status) => status,
         Err(failed) => return Err(failed),
     };
     match writer.flush() {
         Ok(()) => Ok(status),
         Err(_) => Err(unexplained(Fault::Io)),
+    }
+}
+
+/// Why the words ask for nothing. The word at fault is named only if they ask for reasons.
+fn undone(alloc: Global, words: &[String], fault: Fault) -> Failed
+    requires { (fault ≡ faults.BadOptions) ⊎ (fault ≡ faults.OutOfMemory) }
+
+    ensures { IsUndone words.now result }
+{
+    match fault {
+        Fault::BadOptions if ask_why(words) => match why_unread(alloc, words) {
+            Some(unread) => Failed::NoCommand(unread),
+            None => unexplained(fault),
+        },
+        _ => unexplained(fault),
     }
 }
 
@@ -182,22 +319,24 @@ fn answer<T: Threads + Wait + Sync, R: Read + Drop, W: Write>(
     words: &[String],
     reader: R,
     writer: &mut W,
+    notes: &mut Option<Notes>,
 ) -> Result<u8, Failed>
     ensures within { IfOk result (λ status. status ≤ 4) }
-    ensures answers { Answers (R.remaining reader) (W.contents writer.old) (W.contents writer.new) result }
+    ensures answers { Answers words.now (R.remaining reader) (W.contents writer.old) (W.contents writer.new) result }
+    ensures quiet { asks_why words.now ≡ false → notes.new ≡ notes.old }
     ensures replay { AreWords words.now (codes "replay") →
         IsDone (Invocation.Replay false) (R.remaining reader)
-        (W.contents writer.old) (W.contents writer.new) result }
+        (W.contents writer.old) (W.contents writer.new) result × (notes.new ≡ notes.old) }
     ensures run { AreWords words.now (codes "run") →
-        IsDone (Invocation.Run RunOptions.USUAL) (R.remaining reader)
-        (W.contents writer.old) (W.contents writer.new) result }
+        IsDone (Invocation.Run RunOptions.USUAL false) (R.remaining reader)
+        (W.contents writer.old) (W.contents writer.new) result × (notes.new ≡ notes.old) }
     ensures graph { AreWords words.now (codes "graph") →
         IsDone Invocation.Graph (R.remaining reader)
-        (W.contents writer.old) (W.contents writer.new) result }
+        (W.contents writer.old) (W.contents writer.new) result × (notes.new ≡ notes.old) }
 {
     match read_words(alloc, words) {
-        Ok(asked) => carry_out(rt, alloc, asked, reader, writer),
-        Err(fault) => Err(unexplained(fault)),
+        Ok(asked) => carry_out(rt, alloc, asked, reader, writer, notes),
+        Err(fault) => Err(undone(alloc, words, fault)),
     }
 }
 
@@ -223,5 +362,7 @@ fn status_of_failed(failed: &Failed) -> u8
     match failed {
         Failed::Fault(unreplayed) => status_of(unreplayed.fault),
         Failed::NoGraph(_) => BAD_TEXT,
+        Failed::NoScript(_, _) => BAD_TEXT,
+        Failed::NoCommand(_) => BAD_WORDS,
     }
 }

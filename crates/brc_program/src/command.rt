@@ -1,10 +1,10 @@
 //! The words of the command line.
 
-ghost use Rattle.std.specs.Prelude.{◌≡◌, ◌≤◌, ◌⊎◌, ◌↔◌, ℕ, false, Ok, Some, None, codes};
+ghost use Rattle.std.specs.Prelude.{◌≡◌, ◌≤◌, ◌⊎◌, ◌↔◌, ℕ, true, false, Ok, Some, None, codes, drop};
 ghost use Rattle.std.specs.Prelude.{IfErr, IfOk, IfSome, IsTrue};
 ghost use Rattle.std.specs.Option.{option_and_then};
 ghost use Rattle.brc_text.specs.Numbers.{number_at};
-ghost use Rattle.brc_program.specs.Command.{AreWords, IfRun};
+ghost use Rattle.brc_program.specs.Command.{AreWords, IfRun, is_explain, asks_why, is_to_explain};
 ghost use Rattle.brc_run_text.specs.Words.{AreRunOptions};
 
 use crate::help::{ABOUT, MORE, OF_GRAPH, OF_REPLAY, OF_RUN};
@@ -22,8 +22,9 @@ pub enum Invocation {
     Help(String),
     /// To replay the trace on standard input, and to say why it is refused, where that is asked for too.
     Replay { explain: bool },
-    /// To run the script on standard input, its sections on threads.
-    Run(RunOptions),
+    /// To run the script on standard input, its sections on threads; and to say why it is bad, why sections end by faults
+    /// and who made what is left, if that is asked for too.
+    Run { options: RunOptions, explain: bool },
     /// To draw what holds what in the report or the world on standard input.
     Graph,
 }
@@ -94,13 +95,18 @@ fn run_command<'a>(alloc: Global) -> Result<Command<'a>, AllocError> {
         .long("local-limit")
         .value_name("L")
         .help("The most an owner counts up, 1 to 4294967294 (default)");
+    let explain = Arg::new(alloc, "explain")
+        .long("explain")
+        .action(ArgAction::SetTrue)
+        .help("Say why on standard error, in lines brc: why: ..");
     Command::new(alloc, "run")
         .about("Runs the script on standard input, its sections on threads")
         .override_usage("brc run [OPTIONS]")
         .after_help(OF_RUN)
         .arg(cells)?
         .arg(budget)?
-        .arg(local_limit)
+        .arg(local_limit)?
+        .arg(explain)
 }
 
 /// `graph`, which has no option.
@@ -121,17 +127,9 @@ fn are_words(words: &[String], said: &str) -> bool
     }
 }
 
-/// Reads words of which nothing is known. What stands in them only `clap` says.
-fn read_any(alloc: Global, words: &[String]) -> Result<Invocation, Fault>
-    ensures within { IfOk result (λ asked. IfRun asked AreRunOptions) }
-    ensures refused { IfErr result (λ fault. (fault ≡ Fault.BadOptions) ⊎ (fault ≡ Fault.OutOfMemory)) }
-{
-    // Without the first word, so that help says `brc` by whatever name the program was started.
-    let asked = match words {
-        [] => words,
-        [_name, asked @ ..] => asked,
-    };
-    let brc = Command::new(alloc, "brc")
+/// The program with its three commands.
+pub(crate) fn brc_command<'a>(alloc: Global) -> Result<Command<'a>, AllocError> {
+    Command::new(alloc, "brc")
         .about(ABOUT)
         .version("0.1.0")
         .no_binary_name(true)
@@ -139,13 +137,49 @@ fn read_any(alloc: Global, words: &[String]) -> Result<Invocation, Fault>
         .subcommand_required(true)
         .subcommand(replay_command(alloc)?)?
         .subcommand(run_command(alloc)?)?
-        .subcommand(graph_command(alloc))?;
-    match brc.try_get_matches_from(asked) {
+        .subcommand(graph_command(alloc))
+}
+
+/// The words behind the program's name. `clap` gets these alone, so that help says `brc` by whatever name the program
+/// was started.
+pub(crate) fn behind_name(words: &[String]) -> &[String]
+    ensures { result.now ≡ drop 1 words.now }
+{
+    match words {
+        [] => words,
+        [_name, behind @ ..] => behind,
+    }
+}
+
+fn is_explain(word: &String) -> bool
+    ensures { result ≡ is_explain word.now }
+{
+    word.as_bytes() == b"--explain".as_slice()
+}
+
+/// Whether a word behind the program's name is `--explain`.
+pub(crate) fn ask_why(words: &[String]) -> bool
+    ensures { result ≡ asks_why words.now }
+{
+    behind_name(words).iter().any(|word| is_explain(word))
+}
+
+/// Reads words of which nothing is known. What stands in them only `clap` says.
+fn read_any(alloc: Global, words: &[String]) -> Result<Invocation, Fault>
+    ensures within { IfOk result (λ asked. IfRun asked AreRunOptions) }
+    ensures asked { IfOk result (λ asked. is_to_explain asked ≡ true → asks_why words.now ≡ true) }
+    ensures refused { IfErr result (λ fault. (fault ≡ Fault.BadOptions) ⊎ (fault ≡ Fault.OutOfMemory)) }
+{
+    let asks = ask_why(words);
+    match brc_command(alloc)?.try_get_matches_from(behind_name(words)) {
         Ok(matches) => match matches.subcommand() {
             Some(("replay", options)) => Ok(Invocation::Replay {
-                explain: options.get_flag("explain"),
+                explain: asks && options.get_flag("explain"),
             }),
-            Some(("run", options)) => Ok(Invocation::Run(run_options(options)?)),
+            Some(("run", options)) => Ok(Invocation::Run {
+                options: run_options(options)?,
+                explain: asks && options.get_flag("explain"),
+            }),
             Some(("graph", _)) => Ok(Invocation::Graph),
             _ => Err(Fault::BadOptions),
         },
@@ -164,13 +198,15 @@ fn read_any(alloc: Global, words: &[String]) -> Result<Invocation, Fault>
 /// promised.
 pub fn read_words(alloc: Global, words: &[String]) -> Result<Invocation, Fault>
     ensures within { IfOk result (λ asked. IfRun asked AreRunOptions) }
+    // A reason is asked for only by the option.
+    ensures asked { IfOk result (λ asked. is_to_explain asked ≡ true → asks_why words.now ≡ true) }
     ensures refused { IfErr result (λ fault. (fault ≡ Fault.BadOptions) ⊎ (fault ≡ Fault.OutOfMemory)) }
 
     // The command lines without an option.
     ensures replay { AreWords words.now (codes "replay") →
         result ≡ Ok (Invocation.Replay false) }
     ensures run { AreWords words.now (codes "run") →
-        result ≡ Ok (Invocation.Run RunOptions.USUAL) }
+        result ≡ Ok (Invocation.Run RunOptions.USUAL false) }
     ensures graph { AreWords words.now (codes "graph") →
         result ≡ Ok Invocation.Graph }
 {
@@ -178,7 +214,10 @@ pub fn read_words(alloc: Global, words: &[String]) -> Result<Invocation, Fault>
         return Ok(Invocation::Replay { explain: false });
     }
     if are_words(words, "run") {
-        return Ok(Invocation::Run(RunOptions::USUAL));
+        return Ok(Invocation::Run {
+            options: RunOptions::USUAL,
+            explain: false,
+        });
     }
     if are_words(words, "graph") {
         return Ok(Invocation::Graph);

@@ -4,9 +4,10 @@ ghost use Rattle.std.specs.Prelude.{◌≡◌, [], ◌∷◌, codes};
 ghost use Rattle.std.specs.List.{flat_map};
 ghost use Rattle.brc_text.specs.Puts.{Puts};
 ghost use Rattle.brc_program.specs.Explanations.{together, form_of, cause_text, fact_text, facts_of};
-ghost use Rattle.brc_program.specs.Explanations.{why_line};
+ghost use Rattle.brc_program.specs.Explanations.{why_line, condition_of as condition_told};
 
 use crate::facts::{Fact, put_facts};
+use brc_excerpt::{Excerpt, put_quoted};
 use brc_output::put_parts;
 use brc_text::{Keyword, put_bytes};
 use brc_trace::{Cause, Refused, Why};
@@ -59,6 +60,16 @@ fn put_words<E: Write>(errors: &mut E, before: &str, text: &str) -> Result<(), F
     )
 }
 
+/// Writes the line of a word that no trace has.
+fn put_unknown_word<E: Write>(errors: &mut E, word: &Excerpt) -> Result<(), Fault>
+    ensures { Puts (E.contents errors.old) (E.contents errors.new) result
+        (together (codes "brc: why: " ∷ cause_text (Cause.UnknownWord word.now) ∷ (10 ∷ []) ∷ [])) }
+{
+    put_bytes(errors, b"brc: why: no trace has the word ")?;
+    put_quoted(errors, word)?;
+    put_bytes(errors, b"\n")
+}
+
 /// Writes what is wrong with a bad line.
 fn put_cause<E: Write>(errors: &mut E, cause: Cause) -> Result<(), Fault>
     ensures { Puts (E.contents errors.old) (E.contents errors.new) result
@@ -72,7 +83,10 @@ fn put_cause<E: Write>(errors: &mut E, cause: Cause) -> Result<(), Fault>
         Cause::LeadingZero => "a number begins with a zero",
         Cause::NotAHead =>
             "a head is heap CELLS LIMIT, 512 to 65536 and 1 to 4294967294; above it only trace 2",
-        Cause::NoWords => "a word of it is in no trace, or it has more than 8",
+        Cause::TooManyWords => "it has more than 8 words",
+        Cause::UnknownWord(word) => {
+            return put_unknown_word(errors, &word);
+        }
         Cause::NotAnEvent => "no event begins so",
         Cause::OutOfRange => "a number is out of its range",
         Cause::NotItsForm(word) => return put_words(
@@ -84,13 +98,23 @@ fn put_cause<E: Write>(errors: &mut E, cause: Cause) -> Result<(), Fault>
     put_words(errors, "", text)
 }
 
+/// The condition that the event fails first, or which part of it, if it has several.
+fn condition_of(refused: &Refused) -> Fact
+    ensures { result ≡ condition_told refused.now refused.now.finer }
+{
+    match refused.finer {
+        None => Fact::Refused(refused.event.step, refused.refusal),
+        Some(finer) => Fact::Finer(finer),
+    }
+}
+
 /// Writes which condition the event fails first, and what stands there.
 fn put_refused<E: Write>(errors: &mut E, refused: &Refused) -> Result<(), Fault>
     ensures { Puts (E.contents errors.old) (E.contents errors.new) result
         (flat_map fact_text (facts_of refused.now)) }
 {
     let standing = refused.standing;
-    let condition = Fact::Refused(refused.event.step, refused.refusal);
+    let condition = condition_of(refused);
     let threads = Fact::Threads(standing.registered);
     let status = Fact::Status(standing.thread, standing.status);
     let hand = Fact::Hand(standing.hand);
@@ -98,11 +122,20 @@ fn put_refused<E: Write>(errors: &mut E, refused: &Refused) -> Result<(), Fault>
     match standing.meant {
         None => put_facts(
             errors,
-            &[condition, threads, status, hand, locked, Fact::Ends],
+            &[
+                Fact::Begins,
+                condition,
+                threads,
+                status,
+                hand,
+                locked,
+                Fact::Ends,
+            ],
         ),
         Some(meant) => put_facts(
             errors,
             &[
+                Fact::Begins,
                 condition,
                 threads,
                 status,

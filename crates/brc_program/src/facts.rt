@@ -6,10 +6,11 @@ ghost use Rattle.brc_text.specs.Puts.{Puts};
 ghost use Rattle.brc_program.specs.Explanations.{together, told_refusal, refusal_text, kind_name, hand_text};
 ghost use Rattle.brc_program.specs.Explanations.{owner_text, fact_text};
 
+use crate::phrases::put_finer;
 use brc_core::{Hand, Refusal, Status, Step};
 use brc_output::put_parts;
 use brc_text::put_bytes;
-use brc_trace::{word_of_phase, word_of_state, word_of_status};
+use brc_trace::{Finer, word_of_phase, word_of_state, word_of_status};
 use brc_words::{Fault, Kind, Owner, State};
 use itoa::Buffer;
 use std::io::Write;
@@ -17,8 +18,12 @@ use std::io::Write;
 /// A part of the line. One that isn't there takes no room in it.
 #[derive(Clone, Copy)]
 pub(crate) enum Fact {
-    /// The condition that the step fails first; with it the line begins.
+    /// With this the line begins.
+    Begins,
+    /// The condition that the step fails first.
     Refused(Step, Refusal),
+    /// Which part of that condition fails.
+    Finer(Finer),
     /// How many threads are registered.
     Threads(u32),
     /// How far the thread's life is.
@@ -133,10 +138,11 @@ fn put_fact<E: Write>(errors: &mut E, fact: Fact) -> Result<(), Fault>
     ensures { Puts (E.contents errors.old) (E.contents errors.new) result (fact_text fact) }
 {
     match fact {
-        Fact::Refused(step, refusal) => put_parts(
-            errors,
-            &[b"brc: why: ", text_of_refusal(step, refusal).as_bytes()],
-        ),
+        Fact::Begins => put_bytes(errors, b"brc: why: "),
+        Fact::Refused(step, refusal) => {
+            put_bytes(errors, text_of_refusal(step, refusal).as_bytes())
+        }
+        Fact::Finer(finer) => put_finer(errors, finer),
         Fact::Threads(count) => put_number(errors, b"; threads ", count),
         Fact::Status(thread, Some(status)) => put_parts(
             errors,

@@ -189,6 +189,10 @@ A fault ends its section, whose registers are released; the others go on.
     16 Overflow      a sum needs more than 64 bits
     17 LedgerFull    the thread has made 2^47 objects
 
+With --explain standard error says why, in lines `brc: why: ..`: what is wrong
+with a bad line; which register, key or name a fault met, and in which turn of a
+repeat; and which line made each object that is left.
+
 A `fetch` or `recv` that finds nothing waits until another section has changed
 something, and looks again. Once each section that hasn't ended waits so, none
 can serve another, and all of these end, with fault 6 or 7.

@@ -14,7 +14,9 @@ mod facts;
 mod failed;
 mod gate;
 mod help;
+mod phrases;
 mod telling;
+mod unread;
 
 pub use answering::{program, refuse};
 pub use command::{Invocation, read_words};

@@ -2,9 +2,12 @@
 
 ghost use Rattle.brc_text.specs.Puts.{Puts};
 ghost use Rattle.brc_program.specs.Errors.{bad_line, numbered_line, fault_line, unreplayed_text, told_text};
+ghost use Rattle.brc_program.specs.Errors.{mistake_line, unscripted_text, uncommanded_text};
 
 use crate::explanations::put_why;
 use crate::failed::Failed;
+use crate::unread::{Unread, put_unread};
+use brc_mistakes::{Mistake, put_mistake};
 use brc_output::put_parts;
 use brc_text::put_bytes;
 use brc_trace::Unreplayed;
@@ -74,6 +77,31 @@ fn put_unreplayed<E: Write>(errors: &mut E, failed: &Unreplayed) -> Result<(), F
     put_why(errors, why)
 }
 
+/// Writes what is wrong with a bad line of a script.
+fn put_mistake_line<E: Write>(errors: &mut E, mistake: &Mistake) -> Result<(), Fault>
+    ensures { Puts (E.contents errors.old) (E.contents errors.new) result (mistake_line mistake.now) }
+{
+    put_bytes(errors, b"brc: why: ")?;
+    put_mistake(errors, mistake)?;
+    put_bytes(errors, b"\n")
+}
+
+/// Writes which line isn't one of a script, and why.
+fn put_unscripted<E: Write>(errors: &mut E, line: u32, mistake: &Mistake) -> Result<(), Fault>
+    ensures { Puts (E.contents errors.old) (E.contents errors.new) result (unscripted_text line mistake.now) }
+{
+    put_bad_line(errors, line, b"a script line")?;
+    put_mistake_line(errors, mistake)
+}
+
+/// Writes that the command line is bad, and why.
+fn put_uncommanded<E: Write>(errors: &mut E, unread: &Unread) -> Result<(), Fault>
+    ensures { Puts (E.contents errors.old) (E.contents errors.new) result (uncommanded_text unread.now) }
+{
+    put_bytes(errors, b"brc: bad command line\n")?;
+    put_unread(errors, unread)
+}
+
 /// Writes why nothing came of what was asked for.
 pub(crate) fn put_told<E: Write>(errors: &mut E, failed: &Failed) -> Result<(), Fault>
     ensures { Puts (E.contents errors.old) (E.contents errors.new) result (told_text failed.now) }
@@ -81,5 +109,7 @@ pub(crate) fn put_told<E: Write>(errors: &mut E, failed: &Failed) -> Result<(), 
     match failed {
         Failed::Fault(unreplayed) => put_unreplayed(errors, unreplayed),
         Failed::NoGraph(line) => put_bad_line(errors, *line, b"a report or world line"),
+        Failed::NoScript(line, mistake) => put_unscripted(errors, *line, mistake),
+        Failed::NoCommand(unread) => put_uncommanded(errors, unread),
     }
 }

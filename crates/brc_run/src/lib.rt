@@ -14,6 +14,6 @@ mod options;
 mod sections;
 mod starting;
 
-pub use brc_section::{Gate, SectionEnd};
+pub use brc_section::{Gate, Operands, SectionEnd, first_operand, second_operand};
 pub use options::{MOST_TURNS, RunOptions};
 pub use sections::{RunReport, run_sections};

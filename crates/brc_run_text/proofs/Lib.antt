@@ -1,2 +1,3 @@
 mod Run_Laws
 mod Tell_Laws
+pub mod Put_Some

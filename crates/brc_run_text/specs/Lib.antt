@@ -1,3 +1,4 @@
 pub mod Tellings
 pub mod Scripts_Run
 pub mod Words
+pub mod Notes

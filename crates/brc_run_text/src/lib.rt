@@ -1,14 +1,23 @@
 //! A script from bytes to bytes: it is read, its sections run on threads of their own, and what came of it is told.
 //!
 //! `specs/Tellings.antt` is the text that is written, and `specs/Scripts_Run.antt` what the whole run does, by its
-//! answer.
+//! answer. `run_script_explained` does the same and keeps notes, of which `put_notes` makes lines.
 #![tactic(auto)]
 
 mod ended;
+mod explained;
+mod notes;
+mod phrases;
+mod places;
+mod reasons;
 mod telling;
+mod watch;
 mod whole;
+mod words;
 
 pub use brc_run::{Gate, MOST_TURNS, RunOptions};
 pub use ended::Ended;
+pub use explained::{Explained, run_script_explained};
+pub use notes::{Notes, put_notes};
 pub use telling::write_run;
 pub use whole::run_script;

@@ -20,6 +20,7 @@ use crate::gate::Gate;
 use crate::names::{Names, name_at};
 use crate::stepping::Silent;
 use crate::waiting::Seated;
+use crate::watching::{tell_made, tell_refused};
 use brc_biased::Home;
 use brc_count::Frame;
 use brc_instructions::{Does, Done, Print, Reads, Registers, Shown, add_shown};
@@ -148,11 +149,17 @@ fn run_line<R: Wait, G: Gate, H: Home<A>, A: Allocator + Copy>(
         });
     }
     match do_line(rt, alloc, frame, registers, lines, line, key, seated) {
-        Ok(()) => Ok(()),
-        Err(fault) => Err(Halt {
-            fault,
-            line: number,
-        }),
+        Ok(()) => {
+            tell_made(gate, seated.number, line, frame, registers);
+            Ok(())
+        }
+        Err(fault) => {
+            tell_refused(gate, seated.number, line, frame, registers);
+            Err(Halt {
+                fault,
+                line: number,
+            })
+        }
     }
 }
 

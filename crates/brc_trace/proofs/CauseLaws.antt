@@ -23,32 +23,34 @@ use Rattle.brc_trace.proofs.ReadingLoop.{has_line, has_no_line}
 
 -- ---- the first line
 
-one_lacks : (byte : ℕ) → byte ≢ 10 → lacks 10 (byte ∷ []) ≡ true
-one_lacks byte other = rw (ne_eqb byte 10 other) refl
+one_lacks : (mark byte : ℕ) → byte ≢ mark → lacks mark (byte ∷ []) ≡ true
+one_lacks mark byte other = rw (ne_eqb byte mark other) refl
 
--- one more byte that is no line feed
-pub lacks_more : (text : List ℕ) (at : ℕ) → at < length text → get_or text at 0 ≢ 10 → lacks 10 (take at text) ≡ true
-    → lacks 10 (take (at + 1) text) ≡ true
-lacks_more text at within other none =
-    ap (lacks 10) (take_more text at 0 within) ∙ lacks-append 10 (take at text) (get_or text at 0 ∷ []) none
-    (one_lacks (get_or text at 0) other)
+-- one more byte that isn't the mark
+pub lacks_more : (mark : ℕ) (text : List ℕ) (at : ℕ) → at < length text → get_or text at 0 ≢ mark
+    → lacks mark (take at text) ≡ true
+    → lacks mark (take (at + 1) text) ≡ true
+lacks_more mark text at within other none =
+    ap (lacks mark) (take_more text at 0 within) ∙ lacks-append mark (take at text) (get_or text at 0 ∷ []) none
+    (one_lacks mark (get_or text at 0) other)
 
--- the first line feed
-pub cut_here : (text : List ℕ) (at : ℕ) → at < length text → get_or text at 0 ≡ 10 → lacks 10 (take at text) ≡ true
-    → cut 10 text ≡ (take at text, Some (drop (at + 1) text))
-cut_here text at within feed none =
-    let behind : drop at text ≡ 10 ∷ drop (at + 1) text = drop_more text at 0 within
+-- the first mark
+pub cut_here : (mark : ℕ) (text : List ℕ) (at : ℕ) → at < length text → get_or text at 0 ≡ mark
+    → lacks mark (take at text) ≡ true
+    → cut mark text ≡ (take at text, Some (drop (at + 1) text))
+cut_here mark text at within feed none =
+    let behind : drop at text ≡ mark ∷ drop (at + 1) text = drop_more text at 0 within
     ∙ ap (λ (b : ℕ). b ∷ drop (at + 1) text) feed in
-    let parts : text ≡ take at text ++ (10 ∷ drop (at + 1) text) = sym (take-append-drop at text)
+    let parts : text ≡ take at text ++ (mark ∷ drop (at + 1) text) = sym (take-append-drop at text)
     ∙ ap (λ (l : List ℕ). take at text ++ l) behind in
-    ap (cut 10) parts ∙ cut_until 10 (take at text) (drop (at + 1) text) none
+    ap (cut mark) parts ∙ cut_until mark (take at text) (drop (at + 1) text) none
 
--- no line feed at all
-pub never_cut : (text : List ℕ) (at : ℕ) → length text ≤ at → lacks 10 (take at text) ≡ true
-    → cut 10 text ≡ (text, None)
-never_cut text at past none =
-    let P : List ℕ → Type 0 = λ bytes. lacks 10 bytes ≡ true in
-    cut_whole 10 text (subst P (take_all at text past) none)
+-- no mark at all
+pub never_cut : (mark : ℕ) (text : List ℕ) (at : ℕ) → length text ≤ at → lacks mark (take at text) ≡ true
+    → cut mark text ≡ (text, None)
+never_cut mark text at past none =
+    let P : List ℕ → Type 0 = λ bytes. lacks mark bytes ≡ true in
+    cut_whole mark text (subst P (take_all at text past) none)
 
 pub pieces_behind : (text rest : List ℕ) → (cut 10 text).1 ≡ Some rest → pieces rest ≡ drop 1 (pieces text)
 pieces_behind text rest ended = sym (ap (λ (ps : List (List ℕ × Bool)). drop 1 ps) (pieces_ended text rest ended))

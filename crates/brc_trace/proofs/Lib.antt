@@ -6,4 +6,11 @@ pub mod WorldLaws
 pub mod ReplayLaws
 pub mod SteppingLaws
 pub mod CauseLaws
+pub mod WordLaws
 pub mod ExplainingLaws
+pub mod LowestLaws
+pub mod ReasonLaws
+pub mod OwnLaws
+pub mod ToldLaws
+pub mod CellLaws
+pub mod FinerLaws

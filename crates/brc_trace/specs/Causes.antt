@@ -1,6 +1,6 @@
 -- What is wrong with a line that isn't one of a trace.
-use Rattle.std.specs.Prelude.{◌≡◌, ◌≤◌, ℕ, ◌+◌, ◌-◌, ◌==◌, Bool, true, false, if◌then◌else◌, List, [], ◌∷◌, length, map}
-use Rattle.std.specs.Prelude.{Option, Some, None, is_some, slice_index_or}
+use Rattle.std.specs.Prelude.{◌≡◌, ◌≤◌, ◌<◌, ℕ, zero, suc, ◌+◌, ◌-◌, ◌==◌, Bool, true, false, if◌then◌else◌}
+use Rattle.std.specs.Prelude.{List, [], ◌∷◌, length, map, take, Option, Some, None, is_some, slice_index_or}
 use Rattle.std.specs.Char.{is_ascii_digit}
 use Rattle.std.specs.List.{list_any}
 use Rattle.law_world.specs.declared.edition.Edition.{Edition}
@@ -10,6 +10,8 @@ use Rattle.brc_text.specs.declared.keyword.Keyword.TheVariants as words
 use Rattle.brc_text.specs.declared.token.Token.{Token}
 use Rattle.brc_text.specs.declared.token.Token.TheVariants as tokens
 use Rattle.brc_text.specs.Lines.{cut, tokens_at, pieces}
+use Rattle.brc_text.specs.Tokens.{◌>>=◌, token_at}
+use Rattle.brc_excerpt.specs.declared.excerpt.TheConstants.{MOST_SHOWN}
 use Rattle.brc_trace.specs.Events.{is_two, step_at}
 use Rattle.brc_trace.specs.Traces.{head_number, mark_at, by_words}
 use Rattle.brc_trace.specs.declared.causes.Cause.{Cause}
@@ -88,6 +90,26 @@ abbrev pub has_form : Edition → List Token → Bool
 has_form edition (tokens.Number t ∷ tokens.Word word ∷ operands) = is_some (step_at edition word (map form operands))
 has_form edition _ = false
 
+-- ---- the words of a line that can't be read
+
+-- the text behind so many words; none where the line has no more
+unfoldable pub behind_words : ℕ → List ℕ → Option (List ℕ)
+behind_words zero line = Some line
+behind_words (suc n) line = behind_words n line >>= λ rest. (cut 32 rest).1
+
+-- the word with this number, from 0 on
+abbrev pub word_at : ℕ → List ℕ → Option (List ℕ)
+word_at n line = behind_words n line >>= λ rest. Some (cut 32 rest).0
+
+-- the first word of the line that is none of a trace begins with what is shown, or is that
+pub record IsUnknown (line shown : List ℕ) : Type 0 where
+  pub at : ℕ
+  pub word : List ℕ
+  pub there : word_at at line ≡ Some word
+  pub unknown : token_at word ≡ None
+  pub first : (n : ℕ) → n < at → (before : List ℕ) → word_at n line ≡ Some before → is_some (token_at before) ≡ true
+  pub excerpt : shown ≡ take MOST_SHOWN word
+
 -- ---- the cause
 
 -- words are read from the bytes, and this is so of them
@@ -111,7 +133,8 @@ IsCause edition causes.Empty number piece = piece.0 ≡ []
 IsCause edition causes.WideSpace number piece = HasWideSpace piece.0
 IsCause edition causes.LeadingZero number piece = HasLeadingZero piece.0
 IsCause edition causes.NotAHead number piece = number ≡ head_number edition
-IsCause edition causes.NoWords number piece = tokens_at 8 piece.0 ≡ None
+IsCause edition causes.TooManyWords number piece = is_some (behind_words 8 piece.0) ≡ true
+IsCause edition (causes.UnknownWord shown) number piece = IsUnknown piece.0 shown
 IsCause edition causes.NotAnEvent number piece = Spells (λ words. event_word edition words ≡ None) piece.0
 IsCause edition causes.OutOfRange number piece = Spells (λ words. has_form edition words ≡ true) piece.0
 IsCause edition (causes.NotItsForm word) number piece = Spells (LacksForm edition word) piece.0

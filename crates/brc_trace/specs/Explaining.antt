@@ -1,5 +1,6 @@
 -- Why a replay refuses a text.
-use Rattle.std.specs.Prelude.{◌≡◌, ◌<◌, ℕ, ◌+◌, Bool, List, length, take, reverse, Option, Some, None, Result, Ok, Err}
+use Rattle.std.specs.Prelude.{◌≡◌, ◌<◌, ℕ, ◌+◌, true, List, length, take, reverse, Option, Some, None, is_some}
+use Rattle.std.specs.Prelude.{Result, Ok, Err, IfSome}
 use Rattle.brc_words.specs.declared.limits.TheConstants.{MOST_INPUT}
 use Rattle.law_world.specs.declared.event.Event.{Event}
 use Rattle.law_world.specs.Heap.{Heap, opening_in}
@@ -7,6 +8,7 @@ use Rattle.law_world.specs.Runs.{IsRun, world_after}
 use Rattle.brc_core.specs.Replays.{IsFirstNotEnabled}
 use Rattle.brc_state.specs.Refusals.{refusal_of}
 use Rattle.brc_trace.specs.Causes.{IsCause, edition_at, piece_at}
+use Rattle.brc_trace.specs.Finer.{IsFinerSo, has_parts, finer_of}
 use Rattle.brc_trace.specs.Replaying.{IsBad}
 use Rattle.brc_trace.specs.Standing.{seen}
 use Rattle.brc_trace.specs.Traces.{Listing, first_number, trace_at}
@@ -18,12 +20,16 @@ use Rattle.brc_trace.specs.declared.explaining.Unreplayed.{Unreplayed}
 use Rattle.brc_trace.specs.declared.explaining.Why.{Why}
 use Rattle.brc_trace.specs.declared.explaining.Why.TheVariants as whys
 
--- the event on this line is refused in this world for what is told, and what is said to stand there does
+-- The event on this line is refused in this world for what is told, and what is said to stand there does. Of a condition
+-- that has several parts it is told which fails, and that is so.
 pub record WhyRefused (world : Heap) (event : Event) (line : ℕ) (told : Refused) : Type 0 where
   pub line_is : told.line ≡ line
   pub event_is : told.event ≡ event
   pub refusal_is : refusal_of world event ≡ Some told.refusal
   pub standing_is : told.standing ≡ seen world event
+  pub finer_is : told.finer ≡ finer_of world event told.refusal
+  pub finer_so : IfSome told.finer (IsFinerSo world event)
+  pub finer_told : has_parts told.refusal ≡ true → is_some told.finer ≡ true
 
 -- the events before are a run, the next one isn't enabled where they lead, and it is told why; the first has this line
 pub record IsRefused (start : Heap) (number : ℕ) (events : List Event) (told : Refused) : Type 0 where

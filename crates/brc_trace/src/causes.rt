@@ -1,8 +1,10 @@
 //! What is wrong with a line that isn't one of a trace.
 
 ghost use Rattle.std.specs.Prelude.{◌≡◌, ◌-◌, ℕ, List, true, Some, None, IfOk, IfSome, MatchOption, drop, map};
+ghost use Rattle.std.specs.Prelude.{[], ◌∷◌, ◌++◌, is_some};
 ghost use Rattle.law_world.specs.declared.edition.Edition.{Edition as TheEdition};
-ghost use Rattle.brc_text.specs.Lines.{cut, tokens_at, pieces};
+ghost use Rattle.brc_text.specs.Lines.{cut, lacks, tokens_at, pieces};
+ghost use Rattle.brc_text.specs.Tokens.{token_at};
 ghost use Rattle.brc_trace.specs.Causes.{byte_at as byte_there, byte_before as byte_in_front, HasWideSpace};
 ghost use Rattle.brc_trace.specs.Causes.{HasLeadingZero, is_step_word as is_of_a_step, event_word as word_of_event};
 ghost use Rattle.brc_trace.specs.Causes.{form as form_of_word, has_form as have_form, IsCause, edition_at, first_piece};
@@ -10,6 +12,7 @@ ghost use Rattle.brc_trace.specs.Causes.{piece_at};
 
 use crate::event_line::{is_two, step_of};
 use crate::reading::{head_number, read_mark};
+use brc_excerpt::Excerpt;
 use brc_text::{Keyword, Token, Words};
 use law_world::Edition;
 use std::alloc::{AllocError, Allocator};
@@ -29,8 +32,10 @@ pub enum Cause {
     LeadingZero,
     /// It is the first line, or the one below a mark, and no head of a trace.
     NotAHead,
-    /// A word of it is none that a trace has, or it has more than 8 words.
-    NoWords,
+    /// It has more than 8 words.
+    TooManyWords,
+    /// This word of it is in no trace; those before it are.
+    UnknownWord(Excerpt),
     /// It doesn't begin with a number and the word of an event.
     NotAnEvent,
     /// It has the form of its event, so that a number is out of its range.
@@ -203,18 +208,27 @@ fn cause_of_words<A: Allocator>(
 
 // ---- the line
 
+/// What stands before the text's first mark, and what stands behind that, where there is one.
+fn cut_at(text: &[u8], mark: u8) -> (&[u8], Option<&[u8]>)
+    ensures front { result.0.now ≡ (cut mark text.now).0 }
+    ensures behind { MatchOption result.1 ((cut mark text.now).1 ≡ None)
+        (λ behind. (cut mark text.now).1 ≡ Some behind.now) }
+{
+    for (at, byte) in text.iter().enumerate() {
+        if *byte == mark {
+            return (&text[..at], Some(&text[at + 1..]));
+        }
+    }
+    (text, None)
+}
+
 /// The text's first line without its line feed, and what stands behind that, where there is one.
 fn first_line(text: &[u8]) -> (&[u8], Option<&[u8]>)
     ensures line { result.0.now ≡ (cut 10 text.now).0 }
     ensures behind { MatchOption result.1 ((cut 10 text.now).1 ≡ None)
         (λ behind. (cut 10 text.now).1 ≡ Some behind.now) }
 {
-    for (at, byte) in text.iter().enumerate() {
-        if *byte == b'\n' {
-            return (&text[..at], Some(&text[at + 1..]));
-        }
-    }
-    (text, None)
+    cut_at(text, b'\n')
 }
 
 /// What stands behind the text's first line.
@@ -239,8 +253,56 @@ fn text_from(text: &[u8], number: u32) -> &[u8]
     rest
 }
 
+/// The word as a line by itself.
+fn line_of<A: Allocator>(alloc: A, word: &[u8]) -> Result<Vec<u8, A>, AllocError>
+    ensures { IfOk result (λ text. text.items ≡ word.now ++ 10 ∷ []) }
+{
+    let mut text = Vec::new(alloc);
+    text.extend_from_slice(word)?;
+    text.push(b'\n')?;
+    Ok(text)
+}
+
+/// Whether the word is one of a trace. It is read as a line by itself.
+fn is_of_a_trace<A: Allocator>(alloc: A, word: &[u8]) -> Result<bool, AllocError>
+    requires feed { lacks 10 word.now ≡ true }
+    requires space { lacks 32 word.now ≡ true }
+
+    ensures { IfOk result (λ known. known ≡ is_some (token_at word.now)) }
+{
+    let text = line_of(alloc, word)?;
+    let mut words = Words::new();
+    match words.read(text.as_slice()) {
+        Some(_) => Ok(true),
+        None => Ok(false),
+    }
+}
+
+/// What is wrong with the words of a line that can't be read as at most 8: the first that is in no trace, or else how
+/// many they are.
+fn cause_of_no_words<A: Allocator + Copy>(alloc: A, line: &[u8]) -> Result<Cause, AllocError>
+    requires feed { lacks 10 line.now ≡ true }
+    requires unread { tokens_at 8 line.now ≡ None }
+
+    ensures { IfOk result (λ cause. (edition : TheEdition) (number : ℕ)
+        → IsCause edition cause number (line.now, true)) }
+{
+    let mut rest = line;
+    for _ in 0..8u32 {
+        let (word, behind) = cut_at(rest, b' ');
+        if !is_of_a_trace(alloc, word)? {
+            return Ok(Cause::UnknownWord(Excerpt::of(word)));
+        }
+        let Some(below) = behind else {
+            unreachable!();
+        };
+        rest = below;
+    }
+    Ok(Cause::TooManyWords)
+}
+
 /// What is wrong with the text's first line, which has this number and is bad.
-fn cause_of_line<A: Allocator>(
+fn cause_of_line<A: Allocator + Copy>(
     alloc: A,
     edition: Edition,
     text: &[u8],
@@ -260,7 +322,7 @@ fn cause_of_line<A: Allocator>(
     }
     let mut words = Words::new();
     let Some(_) = words.read(text) else {
-        return Ok(Cause::NoWords);
+        return cause_of_no_words(alloc, line);
     };
     cause_of_words(alloc, edition, words.tokens())
 }
@@ -277,7 +339,7 @@ fn edition_of(text: &[u8]) -> Edition
 }
 
 /// What is wrong with the line that has this number, which is bad.
-pub(crate) fn cause_of<A: Allocator>(
+pub(crate) fn cause_of<A: Allocator + Copy>(
     alloc: A,
     text: &[u8],
     number: u32,

@@ -11,6 +11,7 @@ ghost use Rattle.brc_trace.specs.Traces.{first_number};
 ghost use Rattle.brc_trace.specs.View.{listing};
 
 use crate::causes::{Cause, cause_of};
+use crate::finer::{Finer, finer_of};
 use crate::reading::{head_number, read_trace};
 use crate::replaying::run_replay;
 use crate::standing::{Standing, seen};
@@ -29,6 +30,8 @@ pub struct Refused {
     pub event: Event,
     /// Which of its conditions fails first.
     pub refusal: Refusal,
+    /// Which part of that condition fails; none of a condition that has one part.
+    pub finer: Option<Finer>,
     /// What stands there.
     pub standing: Standing,
 }
@@ -55,6 +58,7 @@ fn refused_here<A: Allocator + Copy>(world: &World<A>, event: Event, line: u32) 
         line,
         event,
         refusal,
+        finer: finer_of(world, event, refusal),
         standing: seen(world, event),
     }
 }

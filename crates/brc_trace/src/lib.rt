@@ -6,23 +6,32 @@
 #![tactic(auto)]
 
 mod causes;
+mod cell_reasons;
 mod event_line;
 mod explaining;
+mod finer;
+mod lowest;
 mod operands;
+mod own_reasons;
 mod reading;
 mod replaying;
 mod standing;
 mod stepping;
+mod told_reasons;
 mod trace;
 mod world_text;
 mod world_thread;
 mod writing;
 
 pub use causes::Cause;
+pub use cell_reasons::CellReason;
 pub use explaining::{Refused, Unreplayed, Why, explain, run_replay_explained};
+pub use finer::Finer;
+pub use own_reasons::OwnReason;
 pub use reading::read_trace;
 pub use replaying::run_replay;
 pub use standing::{Meant, Standing};
+pub use told_reasons::ToldReason;
 pub use trace::Trace;
 pub use world_text::{word_of_state, write_world};
 pub use world_thread::{word_of_phase, word_of_status};

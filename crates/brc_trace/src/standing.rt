@@ -56,7 +56,7 @@ fn thread_spoken_of(thread: u32, step: Step) -> u32
 // ---- which cell a step means
 
 /// The cell that the thread has locked.
-fn locked_cell<A: Allocator + Copy>(world: &World<A>, thread: u32) -> Option<u32>
+pub(crate) fn locked_cell<A: Allocator + Copy>(world: &World<A>, thread: u32) -> Option<u32>
     ensures { result ≡ locked_at world.now thread }
 {
     match world.locked(thread) {
@@ -126,7 +126,11 @@ fn last_cell<A: Allocator + Copy>(
 }
 
 /// The one cell that a registered thread means with its step.
-fn meant_cell<A: Allocator + Copy>(world: &World<A>, thread: u32, step: Step) -> Option<u32>
+pub(crate) fn meant_cell<A: Allocator + Copy>(
+    world: &World<A>,
+    thread: u32,
+    step: Step,
+) -> Option<u32>
     ensures { result ≡ meant_at world.now thread step }
 {
     let Some(hand) = world.hand(thread) else {

@@ -4,6 +4,7 @@ mod comparing;
 mod explaining;
 mod meaning;
 mod memory;
+mod mistakes;
 mod model;
 mod plain;
 mod report;

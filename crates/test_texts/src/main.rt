@@ -26,7 +26,7 @@ use std::{fs, io, str};
 use ways::come_of;
 
 /// The files, by name.
-const FILES: [&str; 13] = [
+const FILES: [&str; 15] = [
     "traces",
     "worked_runs",
     "editions",
@@ -37,8 +37,10 @@ const FILES: [&str; 13] = [
     "command_lines",
     "statuses",
     "explanations",
+    "mistakes",
     "instructions",
     "runs",
+    "notes",
     "graphs",
 ];
 

@@ -133,7 +133,7 @@ pub(crate) fn options(alloc: Global, options: &str, out: &mut Vec<u8>) -> io::Re
     let line = format!(in alloc; "brc run {options}")?;
     let words = words_of(alloc, line.as_str())?;
     match read_words(alloc, words.as_slice()) {
-        Ok(Invocation::Run(run)) => {
+        Ok(Invocation::Run { options: run, .. }) => {
             writeln!(out, "{} {} {}", run.cells, run.budget, run.local_limit)
         }
         Ok(_) => writeln!(out, "another"),

@@ -1,7 +1,9 @@
 //! What comes of a trace by the calls of `brc_trace`.
 
 use brc_core::{Edition, replay_in};
-use brc_trace::{Trace, Why, explain, read_trace, run_replay, run_replay_explained, write_trace};
+use brc_trace::{
+    Cause, Trace, Why, explain, read_trace, run_replay, run_replay_explained, write_trace,
+};
 use std::alloc::Global;
 use std::io::{self, Write};
 
@@ -45,6 +47,12 @@ pub(crate) fn explaining(alloc: Global, text: &[u8], out: &mut Vec<u8>) -> io::R
     match explain(alloc, text)? {
         None => writeln!(out, "nothing"),
         Some(Why::TooLong) => writeln!(out, "too long"),
+        Some(
+            Why::Bad {
+                line,
+                cause: Cause::UnknownWord(_),
+            },
+        ) => writeln!(out, "{line}: UnknownWord"),
         Some(Why::Bad { line, cause }) => writeln!(out, "{line}: {cause:?}"),
         Some(Why::Refused(refused)) => writeln!(out, "{}: {:?}", refused.line, refused.refusal),
     }
@@ -52,8 +60,8 @@ pub(crate) fn explaining(alloc: Global, text: &[u8], out: &mut Vec<u8>) -> io::R
 
 /// The same, with what stands there.
 pub(crate) fn explaining_whole(alloc: Global, text: &[u8], out: &mut Vec<u8>) -> io::Result<()> {
-    let why = explain(alloc, text)?;
-    writeln!(out, "{why:?}")
+    let answer = explain(alloc, text);
+    writeln!(out, "{answer:?}")
 }
 
 /// The end of a heap of this edition behind the events of a trace: its ledgers, with those of the threads before, those

@@ -3,3 +3,6 @@ use Rattle.brc_program.proofs.explanations.put_cause.Goals as goal
 
 pub returns-in-NotItsForm : goal.returns-in-NotItsForm
 returns-in-NotItsForm g c = rw (c.in-NotItsForm.is, sym c.form_of.ensures) c.put_words.ensures
+
+pub returns-in-UnknownWord : goal.returns-in-UnknownWord
+returns-in-UnknownWord g c = rw c.in-UnknownWord.is c.put_unknown_word.ensures

@@ -1,12 +1,18 @@
-use Rattle.std.proofs.Common.{◌≡◌, List, Some, sym, subst}
+use Rattle.std.proofs.Common.{◌≡◌, ◌∙◌, List, Some, ap, sym, subst}
 use Rattle.brc_text.specs.declared.token.Token.{Token}
-use Rattle.brc_text.specs.Lines.{first_line}
+use Rattle.brc_text.specs.Lines.{first_line, lacks, tokens_at}
+use Rattle.brc_text.proofs.LineLaws.{cut_parts}
 use Rattle.brc_trace.proofs.CauseLaws.{no_words_there, words_cause}
 use Rattle.brc_trace.proofs.causes.cause_of_line.Goals as goal
 
-pub returns-in_default-read : goal.returns-in_default-read
-returns-in_default-read g c =
-    no_words_there c.args.text.now c.in-Some.field-0.now (rw c.in-Some.is at c.first_line.ensures.behind)
+pub cause_of_no_words-requires-clause-feed : goal.cause_of_no_words-requires-clause-feed
+cause_of_no_words-requires-clause-feed g c =
+    ap (lacks 10) c.first_line.ensures.line ∙ (cut_parts 10 c.args.text.now).lack
+
+pub cause_of_no_words-requires-clause-unread : goal.cause_of_no_words-requires-clause-unread
+cause_of_no_words-requires-clause-unread g c =
+    ap (tokens_at 8) c.first_line.ensures.line
+    ∙ no_words_there c.args.text.now c.in-Some.field-0.now (rw c.in-Some.is at c.first_line.ensures.behind)
     c.in_default-read.ensures
 
 pub returns : goal.returns

@@ -1,0 +1,9 @@
+pub mod Openings
+pub mod Operands
+pub mod Nearness
+pub mod Words
+pub mod Bytes
+pub mod Places
+pub mod Rules
+pub mod Mistakes
+pub mod Texts

@@ -1,0 +1,2 @@
+mod Telling_Notes
+mod Of_Input

@@ -1,0 +1,82 @@
+//! The lowest place or cell of a thread that keeps it from a step.
+
+ghost use Rattle.std.specs.Prelude.{◌≡◌};
+ghost use Rattle.law_world.specs.Steps.{is_owned_by as owned_by};
+ghost use Rattle.brc_trace.specs.Lowest.{is_sought as so_of, end_of as where_it_ends, lowest_at};
+
+use brc_core::World;
+use brc_words::Owner;
+use std::alloc::Allocator;
+
+/// What is sought of a thread.
+#[derive(Clone, Copy, Debug, PartialEq, Eq)]
+pub(crate) enum Sought {
+    /// A place of its frame that has a cell.
+    Filled,
+    /// A cell that it has popped and not dealt with.
+    Popped,
+    /// A cell on its worklist.
+    Work,
+    /// A cell that it owns and that isn't on its worklist.
+    Owned,
+}
+
+/// Whether the thread owns what has this owner.
+pub(crate) fn is_owned_by(thread: u32, owner: Owner) -> bool
+    ensures { result ≡ owned_by thread owner }
+{
+    match owner {
+        Owner::Nobody => false,
+        Owner::Thread(there) => there == thread,
+        Owner::Claimed(_) => false,
+        Owner::Free => false,
+    }
+}
+
+/// Whether the place or cell with this number is one that is sought.
+fn is_sought<A: Allocator + Copy>(
+    world: &World<A>,
+    thread: u32,
+    sought: Sought,
+    number: u32,
+) -> bool
+    ensures { result ≡ so_of world.now thread sought number }
+{
+    match sought {
+        Sought::Filled => world.place(thread, number).is_some(),
+        Sought::Popped => world.popped(thread, number),
+        Sought::Work => world.on_worklist(thread, number),
+        Sought::Owned => {
+            is_owned_by(thread, world.cell(number).owner) && !world.on_worklist(thread, number)
+        }
+    }
+}
+
+/// The numbers below this one are those of its places, or of all cells.
+fn end_of<A: Allocator + Copy>(world: &World<A>, thread: u32, sought: Sought) -> u32
+    ensures { result ≡ where_it_ends world.now thread sought }
+{
+    match sought {
+        Sought::Filled => world.places(thread),
+        Sought::Popped => world.cells(),
+        Sought::Work => world.cells(),
+        Sought::Owned => world.cells(),
+    }
+}
+
+/// The lowest place or cell that is sought.
+pub(crate) fn lowest<A: Allocator + Copy>(
+    world: &World<A>,
+    thread: u32,
+    sought: Sought,
+) -> Option<u32>
+    ensures { result ≡ lowest_at world.now thread sought }
+{
+    let end = end_of(world, thread, sought);
+    for number in 0..end {
+        if is_sought(world, thread, sought, number) {
+            return Some(number);
+        }
+    }
+    None
+}
