@@ -1,5 +1,6 @@
 -- Which handles a frame owns, before and after a call or several: what a client carries from call to call.
-use Rattle.std.specs.Prelude.{◌≡◌, ◌≢◌, ◌+◌}
+use Rattle.std.specs.Prelude.{◌≡◌, ◌≢◌, ◌+◌, ◌<◌}
+use Rattle.brc_words.specs.declared.limits.TheConstants.{MOST_PLACES}
 use Rattle.brc_count.specs.Frames.{FrameSeen, HandleSeen, IsUnlocked, Owns}
 
 module _ {A : Type 0} where
@@ -15,6 +16,7 @@ module _ {A : Type 0} where
     pub len : new.len ≡ old.len + 1
     pub owns : (h : HandleSeen) → Owns old h → Owns new h
     pub owned : Owns new given
+    pub room : given.place < MOST_PLACES
     pub apart : (h : HandleSeen) → Owns old h → given.place ≢ h.place
 
   -- a handle fewer: what the frame owned in other places it owns still

@@ -125,3 +125,16 @@ impl<H: Home<A>, A: Allocator> ClosedFrame<H, A> {
         Ok(holdings.into_seat())
     }
 }
+
+impl<H: Home<A> + Drop, A: Allocator> ClosedFrame<H, A> {
+    /// The thread is given up: the memory of its dead blocks is given back, and what was in its queue is dealt with by
+    /// nobody. Its seat is joined by nobody, so its heap answers Missing for good.
+    pub fn abandon(self) {
+        let ClosedFrame {
+            holdings,
+            thread: _thread,
+            next: _next,
+        } = self;
+        holdings.abandon();
+    }
+}

@@ -366,3 +366,18 @@ impl<H: Home<A>, A: Allocator> Frame<H, A> {
         })
     }
 }
+
+impl<H: Home<A> + Drop, A: Allocator> Frame<H, A> {
+    /// The thread is given up without leaving: the memory of its dead blocks is given back, and their cells are never
+    /// free again. Its seat is joined by nobody, so its heap answers Missing for good. It has no handle, so no reference
+    /// is lost.
+    pub fn abandon(self)
+        requires bare { self.len ≡ 0 }
+    {
+        let Frame {
+            holdings,
+            thread: _thread,
+        } = self;
+        holdings.abandon();
+    }
+}

@@ -24,6 +24,14 @@ impl<A: Allocator> Model for Handle<A> {
 }
 
 impl<A: Allocator> Handle<A> {
+    /// The number of its place in its frame.
+    #[inline(always)]
+    pub fn place(&self) -> u32
+        ensures { result ≡ self.now.place }
+    {
+        self.place
+    }
+
     /// The place that it names, where it is given up.
     #[inline(always)]
     pub(crate) fn into_place(self) -> u32

@@ -205,3 +205,28 @@ impl<H: Home<A>, A: Allocator> Holdings<H, A> {
         }
     }
 }
+
+impl<H: Home<A> + Drop, A: Allocator> Holdings<H, A> {
+    /// Drops all of it.
+    pub(crate) fn abandon(self) {
+        let Holdings {
+            counter,
+            places: _places,
+            works,
+            popped: _popped,
+            ledger: _ledger,
+            start: _start,
+        } = self;
+        let _counter = counter.rest();
+        give_all_back(works);
+    }
+}
+
+/// The memory of each block is given back.
+fn give_all_back<A: Allocator>(works: Worklist<A>) {
+    let mut works = works;
+    while let Some(block) = works.pop() {
+        let _payload = block.into_payload();
+    }
+    works.end();
+}

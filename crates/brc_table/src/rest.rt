@@ -74,3 +74,29 @@ impl<A: Allocator> HeapTable<A> {
         Rest { closed, at: 0 }
     }
 }
+
+impl<A: Allocator> HeapTable<A> {
+    /// Ends the table, whichever seats have stepped there: what lies in its slots is left to be given back. Nothing is
+    /// said of it.
+    pub fn abandon(self) -> Rest<A> {
+        let HeapTable {
+            table,
+            cells: _cells,
+            local_limit: _limit,
+        } = self;
+        Rest {
+            closed: table.close(),
+            at: 0,
+        }
+    }
+}
+
+impl<A: Allocator> RootSeat<A> {
+    /// The seat is given up: it is joined by nobody, and splits off nobody.
+    pub fn abandon(self) {
+        let RootSeat {
+            place: _place,
+            next: _next,
+        } = self;
+    }
+}

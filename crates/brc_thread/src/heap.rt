@@ -9,7 +9,7 @@ ghost use Rattle.brc_table.specs.Seated.{TableSeen};
 use crate::root::Root;
 use brc_biased::Home;
 use brc_count::Ledger;
-use brc_table::HeapTable;
+use brc_table::{HeapTable, Rest};
 use brc_words::Fault;
 use std::alloc::{Allocator, Global};
 use std::marker::Model;
@@ -79,5 +79,21 @@ impl<'h, A: Allocator> Home<A> for &'h Heap<A> {
 
     fn table(&self) -> &HeapTable<A> {
         &self.table
+    }
+}
+
+impl<A: Allocator> Heap<A> {
+    /// Its table, for a `Home` of one's own that leads to the heap.
+    #[inline(always)]
+    pub fn table(&self) -> &HeapTable<A>
+        ensures { result.now ≡ self.now }
+    {
+        &self.table
+    }
+
+    /// Ends the heap, whoever was gathered: its blocks, to be given back. Nothing is said of them.
+    pub fn abandon(self) -> Rest<A> {
+        let Heap { table } = self;
+        table.abandon()
     }
 }

@@ -115,3 +115,11 @@ impl<A: Allocator> Retired<A> {
         self.ledger
     }
 }
+
+impl<H: Home<A> + Drop, A: Allocator> Leaving<H, A> {
+    /// The thread is given up, and can't be gathered any more: its heap answers Missing for good.
+    pub fn abandon(self) {
+        let Leaving { frame } = self;
+        frame.abandon();
+    }
+}

@@ -163,3 +163,14 @@ impl<H: Home<A>, A: Allocator> Mutator<H, A> {
         }
     }
 }
+
+impl<H: Home<A> + Drop, A: Allocator> Mutator<H, A> {
+    /// The thread is given up without leaving, and can't be gathered any more: its heap answers Missing for good. It
+    /// has no handle, so no reference is lost.
+    pub fn abandon(self)
+        requires bare { self.len ≡ 0 }
+    {
+        let Mutator { frame } = self;
+        frame.abandon();
+    }
+}

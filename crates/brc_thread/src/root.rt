@@ -127,3 +127,16 @@ impl<A: Allocator> Root<A> {
         };
     }
 }
+
+impl<A: Allocator> Root<A> {
+    /// The root is given up: it registers and gathers nobody any more.
+    pub fn abandon(self) {
+        let Root {
+            seat,
+            registered: _registered,
+            gathered: _gathered,
+            ledger: _ledger,
+        } = self;
+        seat.abandon();
+    }
+}
