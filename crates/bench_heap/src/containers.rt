@@ -6,7 +6,7 @@ ghost use Rattle.brc_count.specs.Owned.{Loses};
 
 use crate::dicts::key_of;
 use crate::operations::{Operation, TURNS};
-use brc_biased::Home;
+use brc_count::biased::Home;
 use brc_count::{Frame, Handle};
 use brc_dicts::dict_put;
 use brc_lists::list_push;

@@ -7,7 +7,7 @@ ghost use Rattle.brc_count.specs.Owned.{Keeps};
 
 use crate::containers::{Spot, put_in};
 use crate::timing::{Moment, Span, refused, this_moment};
-use brc_biased::Home;
+use brc_count::biased::Home;
 use brc_count::{Frame, Handle};
 use brc_loops::{Passing, Source, pass_on};
 use brc_things::new_list;

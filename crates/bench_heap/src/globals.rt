@@ -8,7 +8,7 @@ use crate::containers::{Adding, Kind, Objects, Spot, put_in};
 use crate::lives::{Asked, FOREIGN};
 use crate::operations::{Integers, On, Operation};
 use crate::request::Case;
-use brc_biased::Home;
+use brc_count::biased::Home;
 use brc_count::{Frame, Handle};
 use brc_dicts::dict_del;
 use brc_loops::{Source, Task, repeat};

@@ -7,7 +7,7 @@ ghost use Rattle.brc_count.specs.Owned.{Keeps};
 
 use crate::operations::{Integers, On, Operation};
 use crate::timing::{Span, Times, refused, this_moment};
-use brc_biased::Home;
+use brc_count::biased::Home;
 use brc_count::{Frame, Handle};
 use brc_dicts::dict_put;
 use brc_loops::{Source, repeat};

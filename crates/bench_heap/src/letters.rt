@@ -4,7 +4,7 @@ ghost use Rattle.std.specs.Prelude.{⊤};
 ghost use Rattle.brc_count.specs.Frames.{Owns};
 
 use crate::operations::{Integers, Operation};
-use brc_biased::Home;
+use brc_count::biased::Home;
 use brc_count::{Frame, Handle};
 use brc_lists::{recv, send};
 use brc_loops::{Awaited, Look, Source, wait_for};

@@ -4,7 +4,7 @@ ghost use Rattle.std.specs.Prelude.{◌≡◌, ◌≢◌};
 ghost use Rattle.brc_count.specs.Frames.{Owns};
 
 use crate::operations::Operation;
-use brc_biased::Home;
+use brc_count::biased::Home;
 use brc_count::{Frame, Handle};
 use brc_lists::{list_pop, list_push};
 use brc_loops::{Passing, pass_on};

@@ -17,7 +17,7 @@ use crate::operations::{
 };
 use crate::request::Case;
 use crate::timing::{Span, refused, this_moment};
-use brc_biased::Home;
+use brc_count::biased::Home;
 use brc_count::{Frame, Handle};
 use brc_handles::Handles;
 use brc_loops::{Life, Source, fill, repeat};

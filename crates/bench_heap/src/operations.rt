@@ -6,7 +6,7 @@ ghost use Rattle.brc_count.specs.Owned.{Keeps};
 ghost use Rattle.brc_handles.specs.Handles.{OwnsEach};
 ghost use Rattle.brc_loops.specs.Held.{each_still};
 
-use brc_biased::Home;
+use brc_count::biased::Home;
 use brc_count::{Frame, Handle};
 use brc_handles::Handles;
 use brc_loops::{Source, Task, repeat};

@@ -3,16 +3,16 @@ use Rattle.std.proofs.Common.{◌≡◌, ℕ, ◌==◌, length, arith, inl, inr,
 use Rattle.std.proofs.Common.{Option, Some, None, IfSome, refl, sym, ◌∙◌, ap}
 use Rattle.std.proofs.lemmas.Bool.{eq-eqb, cases_eq, cases_lt}
 use Rattle.std.proofs.lemmas.List.{length-set, get_or-set_same, get_or_past}
-use Rattle.brc_block.specs.declared.payload.Payload.{Payload}
-use Rattle.law_world.specs.declared.event.Dropped.{Dropped}
-use Rattle.law_world.specs.declared.event.Dropped.TheVariants as drops
-use Rattle.law_world.specs.Lists.{names, front_of, place_at, vacated}
-use Rattle.law_world.specs.Steps.{frame_without}
-use Rattle.law_world.proofs.Framing.{place_at-vacated_else}
-use Rattle.law_known.specs.Items.{Part}
-use Rattle.law_known.specs.Taken.{Blocks, listed_at, cut, cut_by}
-use Rattle.law_rule.specs.declared.told.Told.{Told}
-use Rattle.law_rule.specs.Seen.{part_seen, taken_seen}
+use Rattle.brc_table.specs.block.declared.payload.Payload.{Payload}
+use Rattle.brc_table.specs.law.world.declared.event.Dropped.{Dropped}
+use Rattle.brc_table.specs.law.world.declared.event.Dropped.TheVariants as drops
+use Rattle.brc_table.specs.law.world.Lists.{names, front_of, place_at, vacated}
+use Rattle.brc_table.specs.law.world.Steps.{frame_without}
+use Rattle.brc_table.proofs.law.world.Framing.{place_at-vacated_else}
+use Rattle.brc_table.specs.law.known.Items.{Part}
+use Rattle.brc_table.specs.law.known.Taken.{Blocks, listed_at, cut, cut_by}
+use Rattle.brc_table.specs.law.rule.declared.told.Told.{Told}
+use Rattle.brc_table.specs.law.rule.Seen.{part_seen, taken_seen}
 use Rattle.brc_table.specs.Knowing.{known_seen, Knows, Keeps}
 use Rattle.brc_biased.specs.Standing.{KeepsPlaces}
 

@@ -3,19 +3,19 @@ use Rattle.std.proofs.Common.{◌≡◌, ◌≢◌, inl, inr, ℕ, ◌<◌, ◌=
 use Rattle.std.proofs.Common.{set, Option, Some, None, IfSome, refl, sym, ◌∙◌, ap, subst}
 use Rattle.std.proofs.lemmas.Bool.{cases_eq, eq-eqb, ne_eqb}
 use Rattle.std.proofs.lemmas.List.{length-set, length-replicate}
-use Rattle.brc_block.specs.declared.payload.Payload.{Payload}
-use Rattle.law_world.specs.declared.event.Dropped.{Dropped}
-use Rattle.law_world.specs.declared.event.Dropped.TheVariants as drops
-use Rattle.law_world.specs.declared.row.Hand.TheVariants as hands
-use Rattle.law_world.specs.Lists.{is_marked, front_of}
-use Rattle.law_world.specs.Steps.{is_free_step, takes_block, worklist_with}
-use Rattle.law_world.proofs.Changes.{read_here, read_there}
-use Rattle.law_known.specs.Items.{Item, Did, Saw, Lost, Part, part_of, part_by, part_after, meant, cell_told, has_found}
-use Rattle.law_known.specs.Items.{has_without}
-use Rattle.law_known.specs.Going_On.{handing, settling, taking}
-use Rattle.law_rule.specs.declared.told.Told.{Told}
-use Rattle.law_rule.specs.Logs.{log_items, entries_in}
-use Rattle.law_rule.specs.Seen.{part_seen}
+use Rattle.brc_table.specs.block.declared.payload.Payload.{Payload}
+use Rattle.brc_table.specs.law.world.declared.event.Dropped.{Dropped}
+use Rattle.brc_table.specs.law.world.declared.event.Dropped.TheVariants as drops
+use Rattle.brc_table.specs.law.world.declared.row.Hand.TheVariants as hands
+use Rattle.brc_table.specs.law.world.Lists.{is_marked, front_of}
+use Rattle.brc_table.specs.law.world.Steps.{is_free_step, takes_block, worklist_with}
+use Rattle.brc_table.proofs.law.world.Changes.{read_here, read_there}
+use Rattle.brc_table.specs.law.known.Items.{Item, Did, Saw, Lost, Part, part_of, part_by, part_after, meant, cell_told, has_found}
+use Rattle.brc_table.specs.law.known.Items.{has_without}
+use Rattle.brc_table.specs.law.known.Going_On.{handing, settling, taking}
+use Rattle.brc_table.specs.law.rule.declared.told.Told.{Told}
+use Rattle.brc_table.specs.law.rule.Logs.{log_items, entries_in}
+use Rattle.brc_table.specs.law.rule.Seen.{part_seen}
 use Rattle.brc_table.specs.Knowing.{known_seen, entries_of}
 use Rattle.brc_table.specs.Moving.{is_there}
 use Rattle.brc_table.specs.Shown.{contents_of}

@@ -8,13 +8,13 @@ use Rattle.std.proofs.lemmas.List.{get_or-set_same, get_or-set_other, length-set
 use Rattle.std.proofs.lemmas.Nat.{shr-shr}
 use Rattle.std.proofs.lemmas.Nat.Bits.{bit_at-zero}
 use Rattle.brc_words.specs.declared.limits.TheConstants.{FIRST_MORTAL, IMMORTAL_LOCAL}
-use Rattle.law_world.specs.Heap.{words_for}
-use Rattle.law_world.specs.Lists.{bit_of, word_at, with_bit}
-use Rattle.law_world.proofs.Bitwise.{with_bit_here, with_bit_else}
-use Rattle.law_world.proofs.Bitwise.{length-with_bit}
-use Rattle.law_rule.specs.declared.told.Told.{Told}
-use Rattle.law_world.specs.Steps.{is_active}
-use Rattle.law_rule.specs.Seen.{part_seen, counts_seen}
+use Rattle.brc_table.specs.law.world.Heap.{words_for}
+use Rattle.brc_table.specs.law.world.Lists.{bit_of, word_at, with_bit}
+use Rattle.brc_table.proofs.law.world.Bitwise.{with_bit_here, with_bit_else}
+use Rattle.brc_table.proofs.law.world.Bitwise.{length-with_bit}
+use Rattle.brc_table.specs.law.rule.declared.told.Told.{Told}
+use Rattle.brc_table.specs.law.world.Steps.{is_active}
+use Rattle.brc_table.specs.law.rule.Seen.{part_seen, counts_seen}
 use Rattle.brc_biased.specs.Counter.{CountsFit, AreOwned, first_count}
 
 -- a word of 32 bits is written, and changes at most in the bit of one cell

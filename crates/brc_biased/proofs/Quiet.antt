@@ -1,20 +1,20 @@
 -- By the events of a release, and by those of a popped entry, a thread only lets go.
 use Rattle.std.proofs.Common.{◌≡◌, ℕ, ◌-◌, ◌/◌, ◌&&◌, Bool, true, List, ◌∷◌, Option, Some, None, refl, sym, ap, subst}
-use Rattle.brc_block.specs.declared.payload.Payload.{Payload}
-use Rattle.law_world.specs.declared.event.Dropped.{Dropped}
-use Rattle.law_world.specs.declared.event.LastDropped.TheVariants as lasts
-use Rattle.law_world.specs.declared.event.Step.{Step}
-use Rattle.law_world.specs.declared.event.Step.TheVariants.{LocalDown, SeeZero, Untie, MergeZero, SharedDown, Ask}
-use Rattle.law_world.specs.declared.event.Step.TheVariants.{LastDown, Enqueue, MergeAdd, Nudge}
-use Rattle.law_known.specs.declared.word.Field.TheVariants.{Owner, Local, Shared}
-use Rattle.law_known.specs.declared.word.Word.TheVariants.{Of}
-use Rattle.law_rule.specs.declared.told.Moved.TheVariants.{Nothing}
-use Rattle.law_rule.specs.declared.told.Told.{Told}
-use Rattle.law_rule.specs.declared.told.Told.TheVariants.{Did, Saw, Lost}
-use Rattle.law_rule.specs.Seen.{counts_seen}
+use Rattle.brc_table.specs.block.declared.payload.Payload.{Payload}
+use Rattle.brc_table.specs.law.world.declared.event.Dropped.{Dropped}
+use Rattle.brc_table.specs.law.world.declared.event.LastDropped.TheVariants as lasts
+use Rattle.brc_table.specs.law.world.declared.event.Step.{Step}
+use Rattle.brc_table.specs.law.world.declared.event.Step.TheVariants.{LocalDown, SeeZero, Untie, MergeZero, SharedDown, Ask}
+use Rattle.brc_table.specs.law.world.declared.event.Step.TheVariants.{LastDown, Enqueue, MergeAdd, Nudge}
+use Rattle.brc_table.specs.law.known.declared.word.Field.TheVariants.{Owner, Local, Shared}
+use Rattle.brc_table.specs.law.known.declared.word.Word.TheVariants.{Of}
+use Rattle.brc_table.specs.law.rule.declared.told.Moved.TheVariants.{Nothing}
+use Rattle.brc_table.specs.law.rule.declared.told.Told.{Told}
+use Rattle.brc_table.specs.law.rule.declared.told.Told.TheVariants.{Did, Saw, Lost}
+use Rattle.brc_table.specs.law.rule.Seen.{counts_seen}
 use Rattle.brc_table.specs.Moving.{found_in}
-use Rattle.law_living.specs.Quiet.{only_lets_go, is_quiet, Quietly, NoItem, OneMore}
-use Rattle.law_living.proofs.Quiet_Items.{quietly_joined}
+use Rattle.brc_table.specs.law.living.Quiet.{only_lets_go, is_quiet, Quietly, NoItem, OneMore}
+use Rattle.brc_table.proofs.law.living.Quiet_Items.{quietly_joined}
 use Rattle.brc_biased.specs.Released.{Ends, EndedOwn, SeenZero, MergedAtZero, Asked}
 use Rattle.brc_biased.specs.Released.{AskedNobodys, AskedQueued, AskedShut, Asks, AskedLate, AskTurned, GoesShared}
 use Rattle.brc_biased.specs.Released.{SharedRisen, SharedCounted, SharedNoCount, SharedMoved, GoesOwn, OwnCounted}

@@ -7,16 +7,16 @@ use Rattle.std.proofs.lemmas.Bool.{cases_lt, cases_eq, and_parts, eq-eqb, trueâ‰
 use Rattle.std.proofs.lemmas.List.{append_assoc}
 use Rattle.std.proofs.lemmas.Nat.Bits.{bit_at-lt, bit_at-zero}
 use Rattle.brc_words.specs.declared.limits.TheConstants.{FIRST_MORTAL}
-use Rattle.law_world.specs.Lists.{names}
-use Rattle.law_known.specs.declared.word.Word.TheVariants.{FreeWord}
-use Rattle.law_known.specs.Items.{Part}
-use Rattle.law_known.specs.Going_On.{Known}
-use Rattle.law_known.specs.Risen.{drop_in}
-use Rattle.law_known.proofs.Risen_Law.{risen_named}
-use Rattle.law_rule.specs.declared.told.Told.{Told}
-use Rattle.law_rule.specs.declared.told.Told.TheVariants.{Saw, Lost}
-use Rattle.law_rule.specs.Logs.{log_items}
-use Rattle.law_rule.specs.Seen.{part_seen}
+use Rattle.brc_table.specs.law.world.Lists.{names}
+use Rattle.brc_table.specs.law.known.declared.word.Word.TheVariants.{FreeWord}
+use Rattle.brc_table.specs.law.known.Items.{Part}
+use Rattle.brc_table.specs.law.known.Going_On.{Known}
+use Rattle.brc_table.specs.law.known.Risen.{drop_in}
+use Rattle.brc_table.proofs.law.known.Risen_Law.{risen_named}
+use Rattle.brc_table.specs.law.rule.declared.told.Told.{Told}
+use Rattle.brc_table.specs.law.rule.declared.told.Told.TheVariants.{Saw, Lost}
+use Rattle.brc_table.specs.law.rule.Logs.{log_items}
+use Rattle.brc_table.specs.law.rule.Seen.{part_seen}
 use Rattle.brc_table.specs.Knowing.{known_seen, Keeps}
 use Rattle.brc_table.specs.Seated.{Continues}
 use Rattle.brc_biased.specs.Counter.{CounterSeen}

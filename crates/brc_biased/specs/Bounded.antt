@@ -1,8 +1,8 @@
 -- How long a release is.
 use Rattle.std.specs.Prelude.{ℕ, suc, ◌+◌, ◌≤◌, List, [], ◌∷◌}
 use Rattle.brc_words.specs.declared.limits.TheConstants.{MOST_EVENTS}
-use Rattle.law_rule.specs.declared.told.Told.{Told}
-use Rattle.law_rule.specs.declared.told.Told.TheVariants.{Did, Saw, Lost}
+use Rattle.brc_table.specs.law.rule.declared.told.Told.{Told}
+use Rattle.brc_table.specs.law.rule.declared.told.Told.TheVariants.{Did, Saw, Lost}
 
 -- how many events are in a log
 abbrev pub steps_in : List Told → ℕ

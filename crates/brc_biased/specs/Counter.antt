@@ -1,11 +1,11 @@
 -- What contracts see of a counter, and what it keeps.
 use Rattle.std.specs.Prelude.{◌≡◌, ◌<◌, ◌≤◌, ℕ, nat_lt, if◌then◌else◌, true, List, length, slice_index}
 use Rattle.brc_words.specs.declared.limits.TheConstants.{FIRST_MORTAL, IMMORTAL_LOCAL}
-use Rattle.law_world.specs.Heap.{words_for}
-use Rattle.law_world.specs.Lists.{bit_of}
-use Rattle.law_world.specs.Steps.{is_active}
-use Rattle.law_rule.specs.declared.told.Told.{Told}
-use Rattle.law_rule.specs.Seen.{part_seen, counts_seen}
+use Rattle.brc_table.specs.law.world.Heap.{words_for}
+use Rattle.brc_table.specs.law.world.Lists.{bit_of}
+use Rattle.brc_table.specs.law.world.Steps.{is_active}
+use Rattle.brc_table.specs.law.rule.declared.told.Told.{Told}
+use Rattle.brc_table.specs.law.rule.Seen.{part_seen, counts_seen}
 use Rattle.brc_table.specs.Seated.{TableSeen, SeatSeen}
 
 -- the table, and the thread's seat at it

@@ -4,3 +4,6 @@ pub mod Standing
 pub mod Released
 pub mod Bounded
 pub mod Seeking
+pub use Rattle.brc_table.specs as table
+pub use Rattle.brc_table.specs.block as block
+pub use Rattle.brc_table.specs.law as law

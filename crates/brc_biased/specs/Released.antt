@@ -2,22 +2,22 @@
 use Rattle.std.specs.Prelude.{◌≡◌, ◌≢◌, ◌+◌, ◌-◌, ◌/◌, ◌%◌, ◌^◌, ◌<◌, ◌≤◌, ℕ, Bool, true, false, List, ◌∷◌, Option}
 use Rattle.std.specs.Prelude.{None, IfSome}
 use Rattle.brc_words.specs.declared.limits.TheConstants.{FIRST_MORTAL}
-use Rattle.brc_block.specs.declared.payload.Payload.{Payload}
-use Rattle.law_world.specs.declared.event.Dropped.{Dropped}
-use Rattle.law_world.specs.declared.event.LastDropped.TheVariants as lasts
-use Rattle.law_world.specs.declared.event.Step.{Step}
-use Rattle.law_world.specs.declared.event.Step.TheVariants.{LocalDown, SeeZero, Untie, MergeZero, SharedDown, Ask}
-use Rattle.law_world.specs.declared.event.Step.TheVariants.{LastDown, Enqueue, MergeAdd, Nudge, Offer}
-use Rattle.law_world.specs.Steps.{takes_block}
-use Rattle.law_known.specs.declared.word.Field.TheVariants.{Owner, Local, Shared}
-use Rattle.law_known.specs.declared.word.Word.TheVariants.{Of}
-use Rattle.law_known.specs.Items.{cell_told, is_shut_word}
-use Rattle.law_known.specs.Taken.{listed_at}
-use Rattle.law_rule.specs.declared.told.Moved.TheVariants.{Nothing}
-use Rattle.law_rule.specs.declared.told.Told.{Told}
-use Rattle.law_rule.specs.declared.told.Told.TheVariants.{Did, Saw, Lost}
-use Rattle.law_rule.specs.Seen.{counts_seen, taken_seen}
-use Rattle.law_steps.specs.Taking.{AreCells}
+use Rattle.brc_table.specs.block.declared.payload.Payload.{Payload}
+use Rattle.brc_table.specs.law.world.declared.event.Dropped.{Dropped}
+use Rattle.brc_table.specs.law.world.declared.event.LastDropped.TheVariants as lasts
+use Rattle.brc_table.specs.law.world.declared.event.Step.{Step}
+use Rattle.brc_table.specs.law.world.declared.event.Step.TheVariants.{LocalDown, SeeZero, Untie, MergeZero, SharedDown, Ask}
+use Rattle.brc_table.specs.law.world.declared.event.Step.TheVariants.{LastDown, Enqueue, MergeAdd, Nudge, Offer}
+use Rattle.brc_table.specs.law.world.Steps.{takes_block}
+use Rattle.brc_table.specs.law.known.declared.word.Field.TheVariants.{Owner, Local, Shared}
+use Rattle.brc_table.specs.law.known.declared.word.Word.TheVariants.{Of}
+use Rattle.brc_table.specs.law.known.Items.{cell_told, is_shut_word}
+use Rattle.brc_table.specs.law.known.Taken.{listed_at}
+use Rattle.brc_table.specs.law.rule.declared.told.Moved.TheVariants.{Nothing}
+use Rattle.brc_table.specs.law.rule.declared.told.Told.{Told}
+use Rattle.brc_table.specs.law.rule.declared.told.Told.TheVariants.{Did, Saw, Lost}
+use Rattle.brc_table.specs.law.rule.Seen.{counts_seen, taken_seen}
+use Rattle.brc_table.specs.law.steps.Taking.{AreCells}
 use Rattle.brc_table.specs.Knowing.{entries_of}
 use Rattle.brc_table.specs.Moving.{is_there, found_in, out_with}
 use Rattle.brc_table.specs.Seated.{SeatSeen}

@@ -6,12 +6,12 @@ use Rattle.std.specs.Prelude.{◌≡◌, ◌≤◌, ◌<◌, ◌==◌, ◌&&◌,
 use Rattle.std.specs.Prelude.{◌++◌}
 use Rattle.std.specs.Int.{bit_at}
 use Rattle.brc_words.specs.declared.limits.TheConstants.{FIRST_MORTAL}
-use Rattle.law_world.specs.declared.event.Step.TheVariants.{Claim}
-use Rattle.law_known.specs.declared.word.Word.{Word}
-use Rattle.law_known.specs.declared.word.Word.TheVariants.{FreeWord}
-use Rattle.law_rule.specs.declared.told.Moved.TheVariants.{Nothing}
-use Rattle.law_rule.specs.declared.told.Told.{Told}
-use Rattle.law_rule.specs.declared.told.Told.TheVariants.{Did, Saw, Lost}
+use Rattle.brc_table.specs.law.world.declared.event.Step.TheVariants.{Claim}
+use Rattle.brc_table.specs.law.known.declared.word.Word.{Word}
+use Rattle.brc_table.specs.law.known.declared.word.Word.TheVariants.{FreeWord}
+use Rattle.brc_table.specs.law.rule.declared.told.Moved.TheVariants.{Nothing}
+use Rattle.brc_table.specs.law.rule.declared.told.Told.{Told}
+use Rattle.brc_table.specs.law.rule.declared.told.Told.TheVariants.{Did, Saw, Lost}
 
 -- the cell's free word, with the cell's bit 0
 abbrev pub lacks_cell : ℕ → Word → ℕ → Bool

@@ -1,17 +1,17 @@
 -- Where a thread stands in a release, and what one leaves as it was.
 use Rattle.std.specs.Prelude.{◌≡◌, ℕ, ◌==◌, if◌then◌else◌, Bool, true, false, List, Some, None, is_some}
-use Rattle.law_world.specs.declared.event.Dropped.{Dropped}
-use Rattle.law_world.specs.declared.event.Dropped.TheVariants as drops
-use Rattle.law_world.specs.declared.row.Hand.{Hand}
-use Rattle.law_world.specs.declared.row.Hand.TheVariants as hands
-use Rattle.law_world.specs.declared.row.Stage.{Stage}
-use Rattle.law_world.specs.declared.row.Stage.TheVariants as stages
-use Rattle.law_world.specs.Lists.{place_at, is_marked, front_of}
-use Rattle.law_known.specs.Going_On.{Known, handing, giving_up, taking}
-use Rattle.law_known.specs.Risen.{drop_in}
-use Rattle.law_known.specs.Taken.{Blocks, listed_at}
-use Rattle.law_rule.specs.declared.told.Told.{Told}
-use Rattle.law_rule.specs.Seen.{part_seen, counts_seen, risen_seen, taken_seen}
+use Rattle.brc_table.specs.law.world.declared.event.Dropped.{Dropped}
+use Rattle.brc_table.specs.law.world.declared.event.Dropped.TheVariants as drops
+use Rattle.brc_table.specs.law.world.declared.row.Hand.{Hand}
+use Rattle.brc_table.specs.law.world.declared.row.Hand.TheVariants as hands
+use Rattle.brc_table.specs.law.world.declared.row.Stage.{Stage}
+use Rattle.brc_table.specs.law.world.declared.row.Stage.TheVariants as stages
+use Rattle.brc_table.specs.law.world.Lists.{place_at, is_marked, front_of}
+use Rattle.brc_table.specs.law.known.Going_On.{Known, handing, giving_up, taking}
+use Rattle.brc_table.specs.law.known.Risen.{drop_in}
+use Rattle.brc_table.specs.law.known.Taken.{Blocks, listed_at}
+use Rattle.brc_table.specs.law.rule.declared.told.Told.{Told}
+use Rattle.brc_table.specs.law.rule.Seen.{part_seen, counts_seen, risen_seen, taken_seen}
 
 -- a thread that is closing only closes; before that and after it references may go
 abbrev pub may_give_up : Stage → Bool

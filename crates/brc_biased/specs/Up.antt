@@ -1,15 +1,15 @@
 -- Counting up: what a caller owes, and which event it is.
 use Rattle.std.specs.Prelude.{◌≡◌, ◌%◌, ◌==◌, not, ◌<◌, ℕ, Bool, true, List, ◌∷◌, Some}
-use Rattle.law_world.specs.declared.event.Source.{Source}
-use Rattle.law_world.specs.declared.event.Step.TheVariants.{LocalUp, SharedUp}
-use Rattle.law_known.specs.Items.{meant}
-use Rattle.law_known.specs.Going_On.{Known}
-use Rattle.law_known.specs.Locked.{locked_of}
-use Rattle.law_rule.specs.declared.told.Moved.TheVariants.{Nothing}
-use Rattle.law_rule.specs.declared.told.Told.{Told}
-use Rattle.law_rule.specs.declared.told.Told.TheVariants.{Did}
-use Rattle.law_rule.specs.Logs.{log_items}
-use Rattle.law_rule.specs.Seen.{part_seen, counts_seen, taken_seen, own_may}
+use Rattle.brc_table.specs.law.world.declared.event.Source.{Source}
+use Rattle.brc_table.specs.law.world.declared.event.Step.TheVariants.{LocalUp, SharedUp}
+use Rattle.brc_table.specs.law.known.Items.{meant}
+use Rattle.brc_table.specs.law.known.Going_On.{Known}
+use Rattle.brc_table.specs.law.known.Locked.{locked_of}
+use Rattle.brc_table.specs.law.rule.declared.told.Moved.TheVariants.{Nothing}
+use Rattle.brc_table.specs.law.rule.declared.told.Told.{Told}
+use Rattle.brc_table.specs.law.rule.declared.told.Told.TheVariants.{Did}
+use Rattle.brc_table.specs.law.rule.Logs.{log_items}
+use Rattle.brc_table.specs.law.rule.Seen.{part_seen, counts_seen, taken_seen, own_may}
 
 -- the thread's own part allows that the place gets a reference to the source's cell
 pub record Raising (n : ℕ) (log : List Told) (source : Source) (k c : ℕ) : Type 0 where

@@ -2,9 +2,9 @@
 //! by now, is counted down here. A closed queue word says so too: an owner hands over what it owns before it closes.
 
 ghost use Rattle.std.specs.Prelude.{◌≡◌, ◌<◌, ◌≤◌};
-ghost use Rattle.law_world.specs.declared.row.Hand.TheVariants as hands;
-ghost use Rattle.law_world.specs.declared.row.Phase.TheVariants as phases;
-ghost use Rattle.law_rule.specs.Seen.{counts_seen};
+ghost use Rattle.brc_table.specs.law.world.declared.row.Hand.TheVariants as hands;
+ghost use Rattle.brc_table.specs.law.world.declared.row.Phase.TheVariants as phases;
+ghost use Rattle.brc_table.specs.law.rule.Seen.{counts_seen};
 ghost use Rattle.brc_table.specs.Knowing.{known_seen, entries_of};
 ghost use Rattle.brc_table.specs.Moving.{is_there};
 ghost use Rattle.brc_table.specs.Seated.{Continues};
@@ -12,7 +12,7 @@ ghost use Rattle.brc_biased.specs.Released.{Answers, Asked};
 ghost use Rattle.brc_biased.specs.Standing.{Stands, SameCounts, KeepsPlaces, ending};
 ghost use Rattle.brc_biased.specs.Up.{IsKnown};
 
-use brc_block::Block;
+use brc_table::block::Block;
 use brc_table::{Found, HeapTable, ThreadSeat};
 use std::alloc::Allocator;
 

@@ -2,17 +2,17 @@
 
 ghost use Rattle.std.specs.Prelude.{◌≡◌, ◌<◌, ◌≤◌, ◌==◌, ◌∷◌, ℕ, if◌then◌else◌, IfSome, true};
 ghost use Rattle.brc_words.specs.declared.limits.TheConstants.{FIRST_MORTAL};
-ghost use Rattle.law_world.specs.Steps.{is_active};
-ghost use Rattle.law_world.specs.declared.row.Hand.TheVariants as hands;
-ghost use Rattle.law_rule.specs.Logs.{entries_in};
-ghost use Rattle.law_rule.specs.Seen.{part_seen, counts_seen};
-ghost use Rattle.law_world.specs.Heap.{words_for};
-ghost use Rattle.law_world.specs.declared.event.Step.TheVariants as steps;
-ghost use Rattle.law_known.specs.Going_On.{popping, closing, reopening, taking};
-ghost use Rattle.law_rule.specs.declared.told.Moved.TheVariants as moves;
-ghost use Rattle.law_rule.specs.declared.told.Told.TheVariants as told;
-ghost use Rattle.law_steps.specs.Owing.{Allowed, Closes};
-ghost use Rattle.law_steps.specs.Taking.{AreQueued};
+ghost use Rattle.brc_table.specs.law.world.Steps.{is_active};
+ghost use Rattle.brc_table.specs.law.world.declared.row.Hand.TheVariants as hands;
+ghost use Rattle.brc_table.specs.law.rule.Logs.{entries_in};
+ghost use Rattle.brc_table.specs.law.rule.Seen.{part_seen, counts_seen};
+ghost use Rattle.brc_table.specs.law.world.Heap.{words_for};
+ghost use Rattle.brc_table.specs.law.world.declared.event.Step.TheVariants as steps;
+ghost use Rattle.brc_table.specs.law.known.Going_On.{popping, closing, reopening, taking};
+ghost use Rattle.brc_table.specs.law.rule.declared.told.Moved.TheVariants as moves;
+ghost use Rattle.brc_table.specs.law.rule.declared.told.Told.TheVariants as told;
+ghost use Rattle.brc_table.specs.law.steps.Owing.{Allowed, Closes};
+ghost use Rattle.brc_table.specs.law.steps.Taking.{AreQueued};
 ghost use Rattle.brc_table.specs.Knowing.{known_seen, entries_of, Keeps};
 ghost use Rattle.brc_table.specs.Moving.{is_there};
 ghost use Rattle.brc_table.specs.Seated.{Stays, Continues};
@@ -24,7 +24,7 @@ ghost use Rattle.brc_biased.specs.Up.{IsKnown};
 use crate::counter::Counter;
 use crate::home::Home;
 use crate::owned::clear_owned;
-use brc_block::Block;
+use brc_table::block::Block;
 use brc_table::Found;
 use std::alloc::Allocator;
 

@@ -2,8 +2,8 @@
 
 ghost use Rattle.std.specs.Prelude.{◌≡◌, ◌<◌, ◌≤◌, ℕ, length, replicate, slice_index, IfOk};
 ghost use Rattle.brc_words.specs.declared.limits.TheConstants.{FIRST_MORTAL, MOST_CELLS};
-ghost use Rattle.law_world.specs.Heap.{words_for};
-ghost use Rattle.law_rule.specs.Seen.{counts_seen};
+ghost use Rattle.brc_table.specs.law.world.Heap.{words_for};
+ghost use Rattle.brc_table.specs.law.rule.Seen.{counts_seen};
 ghost use Rattle.brc_biased.specs.Counter.{first_count};
 
 use crate::home::Home;

@@ -1,9 +1,9 @@
 //! Counting down: a reference in a place of the frame goes, or the last entry of a dead block.
 
 ghost use Rattle.std.specs.Prelude.{◌≡◌, ◌≢◌, ◌<◌, ℕ, List, IfSome, IsTrue, true};
-ghost use Rattle.law_world.specs.declared.row.Hand.TheVariants as hands;
-ghost use Rattle.law_rule.specs.Logs.{entries_in};
-ghost use Rattle.law_rule.specs.Seen.{risen_seen};
+ghost use Rattle.brc_table.specs.law.world.declared.row.Hand.TheVariants as hands;
+ghost use Rattle.brc_table.specs.law.rule.Logs.{entries_in};
+ghost use Rattle.brc_table.specs.law.rule.Seen.{risen_seen};
 ghost use Rattle.brc_table.specs.Knowing.{known_seen, entries_of};
 ghost use Rattle.brc_table.specs.Moving.{is_there};
 ghost use Rattle.brc_table.specs.Seated.{Continues};
@@ -17,9 +17,9 @@ use crate::counter::Counter;
 use crate::home::Home;
 use crate::own::release_own;
 use crate::shared::{release_risen, release_shared};
-use brc_block::Block;
+use brc_table::block::Block;
 use brc_words::FIRST_MORTAL;
-use law_world::Dropped;
+use brc_table::law::world::Dropped;
 use std::alloc::Allocator;
 
 impl<H: Home<A>, A: Allocator> Counter<H, A> {

@@ -2,12 +2,12 @@
 
 ghost use Rattle.std.specs.Prelude.{◌≡◌, ◌-◌, ◌==◌, ◌<◌, ◌≤◌, ◌≢◌, ℕ, if◌then◌else◌, true, length};
 ghost use Rattle.brc_words.specs.declared.limits.TheConstants.{FIRST_MORTAL};
-ghost use Rattle.law_world.specs.Heap.{words_for};
-ghost use Rattle.law_world.specs.Lists.{bit_of};
-ghost use Rattle.law_world.specs.Steps.{is_active};
-ghost use Rattle.law_world.specs.declared.row.Hand.TheVariants as hands;
-ghost use Rattle.law_world.specs.declared.row.Phase.TheVariants as phases;
-ghost use Rattle.law_rule.specs.Seen.{part_seen, counts_seen};
+ghost use Rattle.brc_table.specs.law.world.Heap.{words_for};
+ghost use Rattle.brc_table.specs.law.world.Lists.{bit_of};
+ghost use Rattle.brc_table.specs.law.world.Steps.{is_active};
+ghost use Rattle.brc_table.specs.law.world.declared.row.Hand.TheVariants as hands;
+ghost use Rattle.brc_table.specs.law.world.declared.row.Phase.TheVariants as phases;
+ghost use Rattle.brc_table.specs.law.rule.Seen.{part_seen, counts_seen};
 ghost use Rattle.brc_table.specs.Knowing.{known_seen, entries_of};
 ghost use Rattle.brc_table.specs.Moving.{is_there};
 ghost use Rattle.brc_table.specs.Seated.{Continues};
@@ -16,9 +16,9 @@ ghost use Rattle.brc_biased.specs.Standing.{Stands, Holds, SameCounts, KeepsPlac
 ghost use Rattle.brc_biased.specs.Up.{IsKnown};
 
 use crate::owned::clear_owned;
-use brc_block::Block;
+use brc_table::block::Block;
 use brc_table::{Found, HeapTable, ThreadSeat};
-use law_world::Dropped;
+use brc_table::law::world::Dropped;
 use std::alloc::Allocator;
 
 /// The thread's count of its own object came to 0: where nobody else has counted or asked the object is dead, and else

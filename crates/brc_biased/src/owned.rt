@@ -5,9 +5,9 @@ ghost use Rattle.std.specs.Prelude.{◌≡◌, ◌≢◌, ◌<◌, ◌≤◌, �
 ghost use Rattle.std.specs.Prelude.{IfSome, IfNone};
 ghost use Rattle.std.specs.Int.{bit_at};
 ghost use Rattle.brc_words.specs.declared.limits.TheConstants.{FIRST_MORTAL};
-ghost use Rattle.law_world.specs.Heap.{words_for};
-ghost use Rattle.law_world.specs.Lists.{bit_of, word_at, with_bit, without_bit};
-ghost use Rattle.law_rule.specs.Seen.{counts_seen};
+ghost use Rattle.brc_table.specs.law.world.Heap.{words_for};
+ghost use Rattle.brc_table.specs.law.world.Lists.{bit_of, word_at, with_bit, without_bit};
+ghost use Rattle.brc_table.specs.law.rule.Seen.{counts_seen};
 
 use crate::counter::Counter;
 use crate::home::Home;

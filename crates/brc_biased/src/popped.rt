@@ -1,16 +1,16 @@
 //! A popped entry: a reference that went through the thread's merge queue, and is the thread's to deal with.
 
 ghost use Rattle.std.specs.Prelude.{◌≡◌, ◌<◌, ◌%◌, ◌≢◌, ◌==◌, ℕ, if◌then◌else◌, IfSome, Some, true, false};
-ghost use Rattle.law_world.specs.Lists.{bit_of};
-ghost use Rattle.law_world.specs.Steps.{is_active};
-ghost use Rattle.law_world.specs.declared.event.LastDropped.TheVariants as lasts;
-ghost use Rattle.law_world.specs.declared.event.Step.TheVariants as steps;
-ghost use Rattle.law_world.specs.declared.row.Hand.TheVariants as hands;
-ghost use Rattle.law_known.specs.declared.word.Field.TheVariants as fields;
-ghost use Rattle.law_known.specs.Going_On.{settling, taking};
-ghost use Rattle.law_rule.specs.Logs.{entries_in};
-ghost use Rattle.law_rule.specs.Noted.{noted};
-ghost use Rattle.law_rule.specs.Seen.{part_seen, counts_seen};
+ghost use Rattle.brc_table.specs.law.world.Lists.{bit_of};
+ghost use Rattle.brc_table.specs.law.world.Steps.{is_active};
+ghost use Rattle.brc_table.specs.law.world.declared.event.LastDropped.TheVariants as lasts;
+ghost use Rattle.brc_table.specs.law.world.declared.event.Step.TheVariants as steps;
+ghost use Rattle.brc_table.specs.law.world.declared.row.Hand.TheVariants as hands;
+ghost use Rattle.brc_table.specs.law.known.declared.word.Field.TheVariants as fields;
+ghost use Rattle.brc_table.specs.law.known.Going_On.{settling, taking};
+ghost use Rattle.brc_table.specs.law.rule.Logs.{entries_in};
+ghost use Rattle.brc_table.specs.law.rule.Noted.{noted};
+ghost use Rattle.brc_table.specs.law.rule.Seen.{part_seen, counts_seen};
 ghost use Rattle.brc_table.specs.Knowing.{known_seen, entries_of};
 ghost use Rattle.brc_table.specs.Moving.{is_there};
 ghost use Rattle.brc_table.specs.Seated.{Continues};
@@ -22,7 +22,7 @@ ghost use Rattle.brc_biased.specs.Up.{IsKnown};
 use crate::counter::Counter;
 use crate::home::Home;
 use crate::owned::clear_owned;
-use brc_block::Block;
+use brc_table::block::Block;
 use brc_table::{Found, HeapTable, ThreadSeat};
 use brc_words::FIRST_MORTAL;
 use std::alloc::Allocator;

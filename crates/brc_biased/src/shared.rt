@@ -2,9 +2,9 @@
 
 ghost use Rattle.std.specs.Prelude.{◌≡◌, ◌<◌, ◌≤◌, true};
 ghost use Rattle.brc_words.specs.declared.limits.TheConstants.{FIRST_MORTAL};
-ghost use Rattle.law_world.specs.declared.event.LastDropped.TheVariants as lasts;
-ghost use Rattle.law_world.specs.declared.event.Step.TheVariants as steps;
-ghost use Rattle.law_rule.specs.Seen.{counts_seen, risen_seen};
+ghost use Rattle.brc_table.specs.law.world.declared.event.LastDropped.TheVariants as lasts;
+ghost use Rattle.brc_table.specs.law.world.declared.event.Step.TheVariants as steps;
+ghost use Rattle.brc_table.specs.law.rule.Seen.{counts_seen, risen_seen};
 ghost use Rattle.brc_table.specs.Knowing.{known_seen, entries_of};
 ghost use Rattle.brc_table.specs.Moving.{is_there};
 ghost use Rattle.brc_table.specs.Seated.{Continues};
@@ -13,9 +13,9 @@ ghost use Rattle.brc_biased.specs.Standing.{Holds, SameCounts, KeepsPlaces, rele
 ghost use Rattle.brc_biased.specs.Up.{IsKnown};
 
 use crate::asked::hand_over;
-use brc_block::Block;
+use brc_table::block::Block;
 use brc_table::{Found, HeapTable, ThreadSeat};
-use law_world::Dropped;
+use brc_table::law::world::Dropped;
 use std::alloc::Allocator;
 
 /// The least shared word in default with a count above 0.

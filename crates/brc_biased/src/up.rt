@@ -2,12 +2,12 @@
 
 ghost use Rattle.std.specs.Prelude.{◌≡◌, ◌+◌, ◌<◌, ◌≤◌, ◌∷◌, IsTrue, true};
 ghost use Rattle.brc_words.specs.declared.limits.TheConstants.{FIRST_MORTAL};
-ghost use Rattle.law_world.specs.declared.event.Dropped.TheVariants as drops;
-ghost use Rattle.law_world.specs.declared.event.Step.TheVariants as steps;
-ghost use Rattle.law_known.specs.Going_On.{filling};
-ghost use Rattle.law_rule.specs.declared.told.Moved.TheVariants as moves;
-ghost use Rattle.law_rule.specs.declared.told.Told.TheVariants as told;
-ghost use Rattle.law_rule.specs.Seen.{counts_seen, risen_seen, contents_locked};
+ghost use Rattle.brc_table.specs.law.world.declared.event.Dropped.TheVariants as drops;
+ghost use Rattle.brc_table.specs.law.world.declared.event.Step.TheVariants as steps;
+ghost use Rattle.brc_table.specs.law.known.Going_On.{filling};
+ghost use Rattle.brc_table.specs.law.rule.declared.told.Moved.TheVariants as moves;
+ghost use Rattle.brc_table.specs.law.rule.declared.told.Told.TheVariants as told;
+ghost use Rattle.brc_table.specs.law.rule.Seen.{counts_seen, risen_seen, contents_locked};
 ghost use Rattle.brc_table.specs.Knowing.{known_seen, Keeps};
 ghost use Rattle.brc_table.specs.Seated.{Stays};
 ghost use Rattle.brc_biased.specs.Up.{Raising, CountsHere, RaisedImmortal, RaisedShared, IsKnown};
@@ -15,7 +15,7 @@ ghost use Rattle.brc_biased.specs.Up.{Raising, CountsHere, RaisedImmortal, Raise
 use crate::counter::Counter;
 use crate::home::Home;
 use brc_words::FIRST_MORTAL;
-use law_world::Source;
+use brc_table::law::world::Source;
 use std::alloc::Allocator;
 
 impl<H: Home<A>, A: Allocator> Counter<H, A> {

@@ -5,21 +5,21 @@ use Rattle.std.specs.Prelude.{sum_by}
 use Rattle.std.proofs.lemmas.List.{length-map}
 use Rattle.std.proofs.lemmas.Bool.{ltb-false, and_parts, lt-ltb, true≢false}
 use Rattle.brc_words.specs.declared.limits.TheConstants.{FIRST_MORTAL, GLOBALS, MOST_REGISTRATIONS}
-use Rattle.brc_block.specs.declared.payload.Payload.{Payload}
-use Rattle.law_known.specs.Start.{start_of}
-use Rattle.law_world.specs.Heap.{Heap, is_immortal, AreOptions}
-use Rattle.law_world.specs.Holding.{lives, lives_at, live_count}
-use Rattle.law_world.specs.Sound.{IsSound}
-use Rattle.law_world.specs.declared.row.Row.{Row}
-use Rattle.law_world.proofs.Reached.{reached_sound}
+use Rattle.brc_count.specs.block.declared.payload.Payload.{Payload}
+use Rattle.brc_count.specs.law.known.Start.{start_of}
+use Rattle.brc_count.specs.law.world.Heap.{Heap, is_immortal, AreOptions}
+use Rattle.brc_count.specs.law.world.Holding.{lives, lives_at, live_count}
+use Rattle.brc_count.specs.law.world.Sound.{IsSound}
+use Rattle.brc_count.specs.law.world.declared.row.Row.{Row}
+use Rattle.brc_count.proofs.law.world.Reached.{reached_sound}
 use Rattle.brc_close.proofs.Few_Births.{few_births}
-use Rattle.law_known.specs.Items.{events_of}
-use Rattle.law_known.proofs.Items_Queues.{run_cells}
-use Rattle.law_known.proofs.Items_Runs.{events_run}
-use Rattle.law_rule.specs.declared.view.View.{View}
-use Rattle.law_rule.specs.Homes.{AtRest}
-use Rattle.law_rule.specs.Logs.{Run, items_of, kind_in, contents_at, world}
-use Rattle.law_rule.proofs.Contents_Law.{contents_fit}
+use Rattle.brc_count.specs.law.known.Items.{events_of}
+use Rattle.brc_count.proofs.law.known.Items_Queues.{run_cells}
+use Rattle.brc_count.proofs.law.known.Items_Runs.{events_run}
+use Rattle.brc_count.specs.law.rule.declared.view.View.{View}
+use Rattle.brc_count.specs.law.rule.Homes.{AtRest}
+use Rattle.brc_count.specs.law.rule.Logs.{Run, items_of, kind_in, contents_at, world}
+use Rattle.brc_count.proofs.law.rule.Contents_Law.{contents_fit}
 use Rattle.brc_report.specs.declared.content.Content.{Content}
 use Rattle.brc_report.specs.declared.content.Remain.{Remain}
 use Rattle.brc_report.specs.declared.report.Ledger.{Ledger}

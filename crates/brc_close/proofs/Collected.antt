@@ -3,9 +3,9 @@ use Rattle.std.proofs.Common.{◌≡◌, ◌+◌, ◌++◌, ℕ, zero, suc, List
 use Rattle.std.proofs.Common.{append_assoc, add-one, take, slice_get}
 use Rattle.std.specs.Prelude.{IsSomeAnd}
 use Rattle.std.proofs.lemmas.List.{append-nil}
-use Rattle.brc_block.specs.declared.payload.Payload.{Payload}
+use Rattle.brc_count.specs.block.declared.payload.Payload.{Payload}
 use Rattle.brc_report.specs.declared.content.Content.{Content}
-use Rattle.brc_table.specs.Rest.{from_block}
+use Rattle.brc_count.specs.table.Rest.{from_block}
 use Rattle.brc_thread.specs.Emptied.{blocks_in}
 use Rattle.brc_thread.proofs.At_Home.{gives_next, gives_none}
 use Rattle.brc_close.specs.Contents.{shown_in, contents_in}

@@ -1,6 +1,6 @@
 -- What is known of a heap that stays open, as it is ended after all.
 use Rattle.std.proofs.Common.{◌≡◌, sym, ◌∙◌, ap}
-use Rattle.brc_table.specs.Seated.{TableSeen, RootSeen}
+use Rattle.brc_count.specs.table.Seated.{TableSeen, RootSeen}
 use Rattle.brc_close.specs.Closing.{StaysOpen}
 use Rattle.brc_close.specs.Ending.{HasOneTable, reason_of, LacksReport}
 use Rattle.brc_close.specs.declared.closing.CloseFault.{CloseFault}

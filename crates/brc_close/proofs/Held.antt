@@ -7,14 +7,14 @@ use Rattle.std.proofs.lemmas.Bool.{cases_eq, cases_lt, cases_Bool, le-ltb, ltb-f
 use Rattle.std.specs.Cmp.Derive.{both_true}
 use Rattle.std.proofs.lemmas.List.Sums.{sum_by-cons}
 use Rattle.brc_words.specs.declared.limits.TheConstants.{FIRST_MORTAL, GLOBALS}
-use Rattle.law_world.specs.declared.row.Hand.{Hand}
-use Rattle.law_world.specs.declared.row.Row.{Row}
-use Rattle.law_world.specs.Lists.{one, times, names, entry_times, bit_of, place_at}
-use Rattle.law_world.specs.Heap.{Heap, cell_at, entries_at, frame_at, is_immortal, no_row}
-use Rattle.law_world.specs.Holding.{Headline, lives, lives_at, holders_of, buries, carries, total_of}
-use Rattle.law_world.specs.Sound.{IsSound, held, in_entries}
-use Rattle.law_world.specs.Runs.{IsReached}
-use Rattle.law_world.proofs.Reached.{reached_sound}
+use Rattle.brc_count.specs.law.world.declared.row.Hand.{Hand}
+use Rattle.brc_count.specs.law.world.declared.row.Row.{Row}
+use Rattle.brc_count.specs.law.world.Lists.{one, times, names, entry_times, bit_of, place_at}
+use Rattle.brc_count.specs.law.world.Heap.{Heap, cell_at, entries_at, frame_at, is_immortal, no_row}
+use Rattle.brc_count.specs.law.world.Holding.{Headline, lives, lives_at, holders_of, buries, carries, total_of}
+use Rattle.brc_count.specs.law.world.Sound.{IsSound, held, in_entries}
+use Rattle.brc_count.specs.law.world.Runs.{IsReached}
+use Rattle.brc_count.proofs.law.world.Reached.{reached_sound}
 use Rattle.brc_report.specs.Holding.{has}
 use Rattle.brc_thread.specs.Emptied.{AllGathered}
 use Rattle.brc_thread.proofs.At_Home.{IsIdle, no_bits, none_in}

@@ -10,20 +10,20 @@ use Rattle.std.specs.Option.{option_map}
 use mathlib.Core.Option.{some}
 use lib.ListN.{get_elem?}
 use Rattle.brc_words.specs.declared.limits.TheConstants.{FIRST_MORTAL, GLOBALS}
-use Rattle.brc_block.specs.declared.payload.Payload.{Payload}
-use Rattle.brc_block.specs.Payload.{entries_of}
-use Rattle.law_world.specs.declared.cell.Cell.{Cell}
-use Rattle.law_world.specs.Lists.{one}
-use Rattle.law_world.specs.Heap.{Heap, cell_at, is_immortal, no_cell}
-use Rattle.law_world.specs.Holding.{lives, lives_at, live_count}
+use Rattle.brc_count.specs.block.declared.payload.Payload.{Payload}
+use Rattle.brc_count.specs.block.Payload.{entries_of}
+use Rattle.brc_count.specs.law.world.declared.cell.Cell.{Cell}
+use Rattle.brc_count.specs.law.world.Lists.{one}
+use Rattle.brc_count.specs.law.world.Heap.{Heap, cell_at, is_immortal, no_cell}
+use Rattle.brc_count.specs.law.world.Holding.{lives, lives_at, live_count}
 use Rattle.brc_report.specs.declared.content.Content.{Content}
 use Rattle.brc_report.specs.declared.content.Remain.{Remain}
 use Rattle.brc_report.specs.Holding.{has, holder_of, joined, remain_of, remains_among}
 use Rattle.brc_report.specs.Spelled.{all_spelled}
 use Rattle.brc_words.specs.Kinds.{is_mortal}
 use Rattle.brc_report.specs.Reports.{rises, are_contents}
-use Rattle.law_rule.specs.Logs.{Run, kind_in, entries_in, contents_at}
-use Rattle.brc_table.specs.Shown.{contents_of}
+use Rattle.brc_count.specs.law.rule.Logs.{Run, kind_in, entries_in, contents_at}
+use Rattle.brc_count.specs.table.Shown.{contents_of}
 use Rattle.brc_thread.proofs.Payloads.{entries_shown, kind_shown}
 use Rattle.brc_thread.specs.Emptied.{is_used, used_from, blocks_in, HasBlock, AllAtHome}
 use Rattle.brc_close.specs.Contents.{live_from, live_cells, content_at, contents_of_heap, content_in, contents_in}

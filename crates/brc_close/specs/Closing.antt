@@ -1,9 +1,9 @@
 -- What the report of a closed heap says.
 use Rattle.std.specs.Prelude.{◌≡◌, ◌≢◌, ◌+◌, ℕ, List, [], length, map, sum_by, Some}
-use Rattle.law_world.specs.Holding.{Headline, live_count}
-use Rattle.law_world.specs.Runs.{IsReached}
-use Rattle.law_rule.specs.declared.view.View.{View}
-use Rattle.law_rule.specs.Logs.{Run, own_of, lives_of, world, IsLegal}
+use Rattle.brc_count.specs.law.world.Holding.{Headline, live_count}
+use Rattle.brc_count.specs.law.world.Runs.{IsReached}
+use Rattle.brc_count.specs.law.rule.declared.view.View.{View}
+use Rattle.brc_count.specs.law.rule.Logs.{Run, own_of, lives_of, world, IsLegal}
 use Rattle.brc_report.specs.declared.content.Content.{Content}
 use Rattle.brc_report.specs.declared.content.Remain.{Remain}
 use Rattle.brc_report.specs.declared.report.Ledger.{Ledger}
@@ -12,7 +12,7 @@ use Rattle.brc_report.specs.Cycles.{holder_in, AreCycles}
 use Rattle.brc_report.specs.Holding.{remains_of}
 use Rattle.brc_report.specs.Reports.{IsReport}
 use Rattle.brc_report.specs.Running.{entries_of_first, RunsInto, IsHolder}
-use Rattle.brc_table.specs.Seated.{TableSeen, RootSeen}
+use Rattle.brc_count.specs.table.Seated.{TableSeen, RootSeen}
 use Rattle.brc_thread.specs.Counting.{registrations, gatherings, births_of_all, frees_of_all, in_u32}
 use Rattle.brc_thread.specs.Emptied.{AllGathered}
 use Rattle.brc_close.specs.Contents.{live_cells, contents_of_heap}

@@ -1,12 +1,12 @@
 -- The contents of a closed heap: of its world, and as the blocks that it leaves show them.
 use Rattle.std.specs.Prelude.{ℕ, zero, suc, ◌-◌, ◌++◌, nat_lt, if◌then◌else◌, List, [], ◌∷◌, map}
 use Rattle.brc_words.specs.declared.limits.TheConstants.{FIRST_MORTAL, GLOBALS}
-use Rattle.brc_block.specs.declared.payload.Payload.{Payload}
-use Rattle.brc_block.specs.Payload.{kind_of, entries_of}
+use Rattle.brc_count.specs.block.declared.payload.Payload.{Payload}
+use Rattle.brc_count.specs.block.Payload.{kind_of, entries_of}
 use Rattle.brc_report.specs.declared.content.Content.{Content}
-use Rattle.law_rule.specs.Logs.{Run, kind_in, entries_in, contents_at}
-use Rattle.law_world.specs.Heap.{Heap}
-use Rattle.law_world.specs.Holding.{lives_at}
+use Rattle.brc_count.specs.law.rule.Logs.{Run, kind_in, entries_in, contents_at}
+use Rattle.brc_count.specs.law.world.Heap.{Heap}
+use Rattle.brc_count.specs.law.world.Holding.{lives_at}
 use Rattle.brc_thread.specs.Emptied.{used_from}
 
 -- of so many cells from this one on, those in which a mortal object lives, by rising number

@@ -1,6 +1,6 @@
 -- Why a heap that has ended has no report.
 use Rattle.std.specs.Prelude.{◌≡◌, ◌≢◌}
-use Rattle.brc_table.specs.Seated.{RootSeen}
+use Rattle.brc_count.specs.table.Seated.{RootSeen}
 use Rattle.brc_thread.specs.Counting.{registrations, gatherings, in_u32}
 use Rattle.brc_close.specs.declared.closing.CloseFault.{CloseFault}
 use Rattle.brc_close.specs.declared.closing.CloseFault.TheVariants.{Missing, Memory}

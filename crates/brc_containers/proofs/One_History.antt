@@ -3,22 +3,22 @@ use Rattle.std.proofs.Common.{◌≡◌, ◌≢◌, ℕ, zero, suc, ◌<◌, ◌
 use Rattle.std.proofs.Common.{[], ◌∷◌, ◌++◌, length, Option, Some, None, refl, sym, ◌∙◌, ap, subst, append_assoc, inl}
 use Rattle.std.proofs.Common.{inr, arith}
 use Rattle.std.proofs.lemmas.Bool.{cases_eq, cases_Bool, eq-eqb, ne_eqb, eqb-true, true≢false, and_parts}
-use Rattle.law_world.specs.declared.event.Change.{Change}
-use Rattle.law_world.specs.declared.event.Step.{Step}
-use Rattle.law_world.specs.declared.event.Step.TheVariants.{Birth, Unlock, Lock, Register}
-use Rattle.law_world.specs.Heap.{Heap, AreOptions}
-use Rattle.law_world.specs.Steps.{enabled}
-use Rattle.law_known.specs.Items.{is_start, is_used}
-use Rattle.law_rule.specs.declared.contents.Contents.{Contents}
-use Rattle.law_rule.specs.declared.told.Moved.{Moved}
-use Rattle.law_rule.specs.declared.told.Moved.TheVariants as moves
-use Rattle.law_rule.specs.declared.told.Told.{Told}
-use Rattle.law_rule.specs.declared.told.Told.TheVariants.{Did, Saw, Lost}
-use Rattle.law_rule.specs.Logs.{Run, item_of, items_of, own_of, all_of, begins, world, contents_at, puts, MovesWith}
-use Rattle.law_rule.specs.Logs.{IsMoved, IsLegal}
-use Rattle.law_rule.specs.Seen.{contents_on, contents_locked}
-use Rattle.law_rule.proofs.Locked_Contents.{locked_contents}
-use Rattle.law_rule.proofs.Own_Logs.{own_more, own_same}
+use Rattle.brc_count.specs.law.world.declared.event.Change.{Change}
+use Rattle.brc_count.specs.law.world.declared.event.Step.{Step}
+use Rattle.brc_count.specs.law.world.declared.event.Step.TheVariants.{Birth, Unlock, Lock, Register}
+use Rattle.brc_count.specs.law.world.Heap.{Heap, AreOptions}
+use Rattle.brc_count.specs.law.world.Steps.{enabled}
+use Rattle.brc_count.specs.law.known.Items.{is_start, is_used}
+use Rattle.brc_count.specs.law.rule.declared.contents.Contents.{Contents}
+use Rattle.brc_count.specs.law.rule.declared.told.Moved.{Moved}
+use Rattle.brc_count.specs.law.rule.declared.told.Moved.TheVariants as moves
+use Rattle.brc_count.specs.law.rule.declared.told.Told.{Told}
+use Rattle.brc_count.specs.law.rule.declared.told.Told.TheVariants.{Did, Saw, Lost}
+use Rattle.brc_count.specs.law.rule.Logs.{Run, item_of, items_of, own_of, all_of, begins, world, contents_at, puts, MovesWith}
+use Rattle.brc_count.specs.law.rule.Logs.{IsMoved, IsLegal}
+use Rattle.brc_count.specs.law.rule.Seen.{contents_on, contents_locked}
+use Rattle.brc_count.proofs.law.rule.Locked_Contents.{locked_contents}
+use Rattle.brc_count.proofs.law.rule.Own_Logs.{own_more, own_same}
 use Rattle.brc_containers.specs.History.{Call, Bears, Changes, IsSequential, Extends, left_by, with_step, with_call}
 use Rattle.brc_containers.specs.History.{history_of, own_history, calls_of}
 

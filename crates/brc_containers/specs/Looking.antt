@@ -7,13 +7,13 @@ use Rattle.brc_words.specs.declared.fault.Fault.TheVariants as faults
 use Rattle.brc_words.specs.declared.kind.Kind.{Kind}
 use Rattle.brc_words.specs.declared.kind.Kind.TheVariants as kinds
 use Rattle.brc_words.specs.Kinds.{is_container}
-use Rattle.law_world.specs.declared.event.Change.TheVariants.{Keep}
-use Rattle.law_world.specs.declared.event.Step.TheVariants.{Lock, Unlock}
-use Rattle.law_rule.specs.declared.contents.Contents.{Contents}
-use Rattle.law_rule.specs.declared.contents.Contents.TheVariants as contents
-use Rattle.law_rule.specs.declared.told.Moved.TheVariants as moves
-use Rattle.law_rule.specs.declared.told.Told.TheVariants.{Did}
-use Rattle.law_rule.specs.Logs.{kind_in, entries_in}
+use Rattle.brc_count.specs.law.world.declared.event.Change.TheVariants.{Keep}
+use Rattle.brc_count.specs.law.world.declared.event.Step.TheVariants.{Lock, Unlock}
+use Rattle.brc_count.specs.law.rule.declared.contents.Contents.{Contents}
+use Rattle.brc_count.specs.law.rule.declared.contents.Contents.TheVariants as contents
+use Rattle.brc_count.specs.law.rule.declared.told.Moved.TheVariants as moves
+use Rattle.brc_count.specs.law.rule.declared.told.Told.TheVariants.{Did}
+use Rattle.brc_count.specs.law.rule.Logs.{kind_in, entries_in}
 use Rattle.brc_count.specs.Frames.{FrameSeen}
 use Rattle.brc_count.specs.Locking.{Busy, cell_in}
 use Rattle.brc_containers.specs.Called.{Looked}

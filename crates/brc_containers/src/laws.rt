@@ -1,8 +1,8 @@
 //! The law of calls on one object, and that of lost tries, as contracts of functions with nothing to do.
 
 ghost use Rattle.std.specs.Prelude.{◌≡◌, ℕ, ◌<◌, List, ◌++◌};
-ghost use Rattle.law_world.specs.Heap.{AreOptions};
-ghost use Rattle.law_rule.specs.Logs.{Run, all_of, contents_at, IsLegal};
+ghost use Rattle.brc_count.specs.law.world.Heap.{AreOptions};
+ghost use Rattle.brc_count.specs.law.rule.Logs.{Run, all_of, contents_at, IsLegal};
 ghost use Rattle.brc_count.specs.Frames.{FrameSeen};
 ghost use Rattle.brc_count.specs.Locking.{KeepsThread, KeepsFrame};
 ghost use Rattle.brc_lock.specs.Waiting.{Waits};

@@ -2,12 +2,12 @@
 
 ghost use Rattle.std.specs.Prelude.{◌≡◌, ◌<◌, ◌+◌, ◌++◌, ℕ, List, IfSome, IfNone, OnOk, OnErr, IsTrue, IsFalse, length};
 ghost use Rattle.std.specs.String.{string_bytes, string_len, string_capacity};
-ghost use Rattle.law_rule.specs.declared.contents.Contents.TheVariants as contents;
-ghost use Rattle.law_rule.specs.Logs.{entries_in};
-ghost use Rattle.brc_table.specs.Shown.{contents_of};
+ghost use Rattle.brc_count.specs.law.rule.declared.contents.Contents.TheVariants as contents;
+ghost use Rattle.brc_count.specs.law.rule.Logs.{entries_in};
+ghost use Rattle.brc_count.specs.table.Shown.{contents_of};
 ghost use Rattle.brc_containers.specs.Looking.{IsInt, IsText, IsContainer};
 
-use brc_block::{Entries, Payload};
+use brc_count::block::{Entries, Payload};
 use brc_words::Text;
 use std::alloc::{AllocError, Allocator};
 

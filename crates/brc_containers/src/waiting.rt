@@ -11,7 +11,7 @@ ghost use Rattle.brc_containers.specs.Called.{Late};
 ghost use Rattle.brc_containers.specs.Looking.{KindOf, LenOf, IntOf, TextOf, TextInto};
 
 use crate::looking::{append_text, container_len, copy_of_text, int_in, is_text};
-use brc_biased::Home;
+use brc_count::biased::Home;
 use brc_count::{Frame, Handle};
 use brc_lock::begin_late;
 use brc_words::{Fault, Kind, Text};

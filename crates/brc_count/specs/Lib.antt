@@ -4,3 +4,7 @@ pub mod Locking
 pub mod Polling
 pub mod Closing
 pub mod Making
+pub use Rattle.brc_biased.specs as biased
+pub use Rattle.brc_biased.specs.block as block
+pub use Rattle.brc_biased.specs.law as law
+pub use Rattle.brc_biased.specs.table as table

@@ -28,3 +28,7 @@ pub use held::Held;
 pub use ledger::Ledger;
 pub use resting::RestingFrame;
 pub use start::unasked_claims_take_the_lowest_cell;
+
+// what it stands on, for the crates above
+pub use brc_biased as biased;
+pub use brc_biased::{block, law, table};

@@ -9,11 +9,11 @@ ghost use Rattle.std.specs.Prelude.{slice_get, slice_set, IfOk, IfErr, IfSome, I
 ghost use Rattle.slab.specs.Slab.{get, slab_len, Updates};
 ghost use Rattle.brc_words.specs.Kinds.{is_container};
 ghost use Rattle.brc_words.specs.declared.limits.TheConstants.{MOST_ENTRIES, MOST_PLACES};
-ghost use Rattle.law_world.specs.declared.event.Change.TheVariants as changes;
-ghost use Rattle.law_world.specs.declared.event.Source.TheVariants as sources;
-ghost use Rattle.law_rule.specs.Keys.{keys_in, KeyPut};
-ghost use Rattle.law_rule.specs.Logs.{entries_in, kind_in};
-ghost use Rattle.brc_table.specs.Shown.{contents_of};
+ghost use Rattle.brc_biased.specs.law.world.declared.event.Change.TheVariants as changes;
+ghost use Rattle.brc_biased.specs.law.world.declared.event.Source.TheVariants as sources;
+ghost use Rattle.brc_biased.specs.law.rule.Keys.{keys_in, KeyPut};
+ghost use Rattle.brc_biased.specs.law.rule.Logs.{entries_in, kind_in};
+ghost use Rattle.brc_biased.specs.table.Shown.{contents_of};
 ghost use Rattle.brc_count.specs.Frames.{Owns, handle_at, IsActive, Given, Refused, IsAsBefore, IsUnlocked};
 ghost use Rattle.brc_count.specs.Frames.{popped_seen};
 ghost use Rattle.brc_count.specs.Locking.{IsLocked, cell_in, place_locked, cell_locked, contents_found, entries_found};
@@ -25,9 +25,9 @@ use crate::handle::Handle;
 use crate::held::Held;
 use crate::holdings::Holdings;
 use brc_biased::Home;
-use brc_block::Block;
+use brc_biased::block::Block;
 use brc_words::Fault;
-use law_world::{Change, Source};
+use brc_biased::law::world::{Change, Source};
 use slab::Slab;
 use std::alloc::Allocator;
 

@@ -10,7 +10,7 @@ use crate::holdings::Holdings;
 use crate::ledger::Ledger;
 use crate::start::ClaimStart;
 use brc_biased::{Home, RestingCounter};
-use brc_block::Worklist;
+use brc_biased::block::Worklist;
 use slab::Slab;
 use std::alloc::Allocator;
 use std::marker::Model;

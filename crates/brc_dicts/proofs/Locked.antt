@@ -5,17 +5,17 @@ use Rattle.std.specs.Result.{is_ok}
 use Rattle.brc_words.specs.declared.fault.Fault.{Fault}
 use Rattle.brc_words.specs.declared.fault.Fault.TheVariants as faults
 use Rattle.brc_words.specs.declared.limits.TheConstants.{MOST_ENTRIES}
-use Rattle.brc_block.specs.declared.payload.Payload.{Payload}
-use Rattle.brc_block.specs.Payload.{entries_of}
-use Rattle.law_world.specs.declared.event.Change.{Change}
-use Rattle.law_world.specs.declared.event.Change.TheVariants.{Keep, Put, Take, Swap}
-use Rattle.law_world.specs.declared.event.Source.TheVariants as sources
-use Rattle.law_world.specs.declared.event.Step.TheVariants.{Unlock}
-use Rattle.law_rule.specs.declared.contents.Contents.{Contents}
-use Rattle.law_rule.specs.declared.told.Moved.TheVariants as moves
-use Rattle.law_rule.specs.declared.told.Told.TheVariants.{Did}
-use Rattle.law_rule.specs.Logs.{entries_in}
-use Rattle.brc_table.specs.Shown.{contents_of}
+use Rattle.brc_count.specs.block.declared.payload.Payload.{Payload}
+use Rattle.brc_count.specs.block.Payload.{entries_of}
+use Rattle.brc_count.specs.law.world.declared.event.Change.{Change}
+use Rattle.brc_count.specs.law.world.declared.event.Change.TheVariants.{Keep, Put, Take, Swap}
+use Rattle.brc_count.specs.law.world.declared.event.Source.TheVariants as sources
+use Rattle.brc_count.specs.law.world.declared.event.Step.TheVariants.{Unlock}
+use Rattle.brc_count.specs.law.rule.declared.contents.Contents.{Contents}
+use Rattle.brc_count.specs.law.rule.declared.told.Moved.TheVariants as moves
+use Rattle.brc_count.specs.law.rule.declared.told.Told.TheVariants.{Did}
+use Rattle.brc_count.specs.law.rule.Logs.{entries_in}
+use Rattle.brc_count.specs.table.Shown.{contents_of}
 use Rattle.brc_count.specs.Frames.{FrameSeen, HandleSeen, Given, Refused, IsAsBefore}
 use Rattle.brc_count.specs.Locking.{IsLocked, Began, Ended, KeepsThread, KeepsFrame, ChangesPlace, cell_in}
 use Rattle.brc_count.specs.Locking.{contents_found, entries_found}

@@ -4,15 +4,15 @@ use Rattle.std.specs.Option.{option_map}
 use Rattle.brc_words.specs.declared.fault.Fault.TheVariants as faults
 use Rattle.brc_words.specs.declared.key.Key.{Key}
 use Rattle.brc_words.specs.declared.kind.Kind.TheVariants as kinds
-use Rattle.brc_block.specs.Row.{Row}
-use Rattle.brc_block.specs.Payload.{kind_of}
-use Rattle.brc_block.specs.declared.payload.Payload.{Payload}
-use Rattle.brc_block.specs.declared.payload.Payload.TheVariants as payloads
+use Rattle.brc_count.specs.block.Row.{Row}
+use Rattle.brc_count.specs.block.Payload.{kind_of}
+use Rattle.brc_count.specs.block.declared.payload.Payload.{Payload}
+use Rattle.brc_count.specs.block.declared.payload.Payload.TheVariants as payloads
 use Rattle.brc_plain.specs.Outcomes.{leaving, or_fault}
 use Rattle.brc_plain.specs.Dicts.{value_at, Stands}
 use Rattle.brc_plain.proofs.Pairs.{none_apart}
-use Rattle.law_world.specs.declared.event.Change.TheVariants.{Keep}
-use Rattle.brc_table.specs.Shown.{contents_of}
+use Rattle.brc_count.specs.law.world.declared.event.Change.TheVariants.{Keep}
+use Rattle.brc_count.specs.table.Shown.{contents_of}
 use Rattle.brc_count.specs.Frames.{FrameSeen}
 use Rattle.brc_count.specs.Locking.{Ended}
 use Rattle.brc_dicts.specs.Plain.{place_of, plain_place}

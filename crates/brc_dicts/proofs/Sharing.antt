@@ -2,14 +2,14 @@
 use Rattle.std.proofs.Common.{◌≡◌, ℕ, inl, inr, arith, List, [], ◌∷◌, Option, Some, None, refl, ◌∙◌, ap}
 use Rattle.std.proofs.lemmas.Bool.{cases_lt}
 use Rattle.brc_words.specs.declared.limits.TheConstants.{FIRST_MORTAL}
-use Rattle.law_world.specs.declared.event.Source.{Source}
-use Rattle.law_world.specs.declared.event.Step.TheVariants.{LocalUp, SharedUp}
-use Rattle.law_known.specs.Items.{Part, part_by, meant}
-use Rattle.law_rule.specs.declared.told.Moved.TheVariants.{Nothing}
-use Rattle.law_rule.specs.declared.told.Told.{Told}
-use Rattle.law_rule.specs.declared.told.Told.TheVariants.{Did}
-use Rattle.law_rule.specs.Seen.{part_seen, counts_seen}
-use Rattle.brc_table.specs.Seated.{TableSeen}
+use Rattle.brc_count.specs.law.world.declared.event.Source.{Source}
+use Rattle.brc_count.specs.law.world.declared.event.Step.TheVariants.{LocalUp, SharedUp}
+use Rattle.brc_count.specs.law.known.Items.{Part, part_by, meant}
+use Rattle.brc_count.specs.law.rule.declared.told.Moved.TheVariants.{Nothing}
+use Rattle.brc_count.specs.law.rule.declared.told.Told.{Told}
+use Rattle.brc_count.specs.law.rule.declared.told.Told.TheVariants.{Did}
+use Rattle.brc_count.specs.law.rule.Seen.{part_seen, counts_seen}
+use Rattle.brc_count.specs.table.Seated.{TableSeen}
 use Rattle.brc_count.specs.Frames.{FrameSeen, HandleSeen, Given, CountsUp}
 use Rattle.brc_count.specs.Locking.{KeepsThread}
 

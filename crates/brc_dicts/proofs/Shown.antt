@@ -11,15 +11,15 @@ use Rattle.brc_words.specs.declared.key.Key.{Key}
 use Rattle.brc_words.specs.declared.key.Key.TheVariants as keys
 use Rattle.brc_words.specs.declared.kind.Kind.TheVariants as kinds
 use Rattle.brc_words.specs.declared.limits.TheConstants.{MOST_ENTRIES}
-use Rattle.brc_block.specs.Row.{Row}
-use Rattle.brc_block.specs.Pairs.{keys_in, cells_in}
-use Rattle.brc_block.specs.Payload.{kind_of, entries_of, keys_of}
-use Rattle.brc_block.specs.declared.payload.Payload.{Payload}
-use Rattle.brc_block.specs.declared.payload.Payload.TheVariants as payloads
+use Rattle.brc_count.specs.block.Row.{Row}
+use Rattle.brc_count.specs.block.Pairs.{keys_in, cells_in}
+use Rattle.brc_count.specs.block.Payload.{kind_of, entries_of, keys_of}
+use Rattle.brc_count.specs.block.declared.payload.Payload.{Payload}
+use Rattle.brc_count.specs.block.declared.payload.Payload.TheVariants as payloads
 use Rattle.brc_plain.specs.Dicts as dicts
 use Rattle.brc_plain.specs.Dicts.{value_at, replaced, without}
-use Rattle.law_rule.specs.Logs.{kind_in, entries_in}
-use Rattle.brc_table.specs.Shown.{contents_of, plain_key}
+use Rattle.brc_count.specs.law.rule.Logs.{kind_in, entries_in}
+use Rattle.brc_count.specs.table.Shown.{contents_of, plain_key}
 use Rattle.brc_dicts.specs.Plain.{key_of, pairs_of, dict_of, leaving_dict, plain_put, plain_find, plain_del}
 use Rattle.brc_dicts.specs.Seeking.{IsThere, IsAbsent}
 use Rattle.brc_dicts.proofs.Standing.{beside_is, replaced_keys, replaced_cells, without_keys, without_cells}

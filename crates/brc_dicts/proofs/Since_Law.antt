@@ -2,7 +2,7 @@
 use Rattle.std.proofs.Common.{ℕ, Result, Ok, Err, ◌∙◌}
 use Rattle.std.specs.Result.{IfOk, IfErr}
 use Rattle.brc_words.specs.declared.fault.Fault.{Fault}
-use Rattle.brc_block.specs.declared.payload.Payload.{Payload}
+use Rattle.brc_count.specs.block.declared.payload.Payload.{Payload}
 use Rattle.brc_count.specs.declared.handed.Handed.{Handed}
 use Rattle.brc_count.specs.Frames.{FrameSeen}
 use Rattle.brc_count.specs.Locking.{KeepsThread, KeepsFrame}

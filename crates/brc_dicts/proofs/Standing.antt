@@ -3,8 +3,8 @@ use Rattle.std.proofs.Common.{◌≡◌, ◌≢◌, ℕ, zero, suc, Bool, true, 
 use Rattle.std.proofs.Common.{ap, subst, arith, take, slice_get, slice_set, remove, true≢false}
 use Rattle.brc_words.specs.declared.key.Key.{Key}
 use Rattle.brc_words.specs.Keys.{same_key, same_key-exact, same_key-itself}
-use Rattle.brc_block.specs.Pairs.{keys_in, cells_in}
-use Rattle.brc_block.proofs.Columns.{map-remove}
+use Rattle.brc_count.specs.block.Pairs.{keys_in, cells_in}
+use Rattle.brc_count.proofs.block.Columns.{map-remove}
 use Rattle.brc_plain.specs.Dicts.{value_at, Stands, replaced, without}
 use Rattle.brc_plain.proofs.Pairs.{none_apart, without_there}
 

@@ -4,12 +4,12 @@ use Rattle.brc_words.specs.declared.fault.Fault.{Fault}
 use Rattle.brc_words.specs.declared.fault.Fault.TheVariants as faults
 use Rattle.brc_words.specs.declared.key.Key.{Key}
 use Rattle.brc_words.specs.declared.kind.Kind.TheVariants as kinds
-use Rattle.law_world.specs.declared.event.Change.TheVariants.{Keep}
-use Rattle.law_rule.specs.declared.contents.Contents.{Contents}
-use Rattle.brc_block.specs.Row.{Row}
-use Rattle.brc_block.specs.Payload.{kind_of}
-use Rattle.brc_block.specs.declared.payload.Payload.{Payload}
-use Rattle.brc_block.specs.declared.payload.Payload.TheVariants as payloads
+use Rattle.brc_count.specs.law.world.declared.event.Change.TheVariants.{Keep}
+use Rattle.brc_count.specs.law.rule.declared.contents.Contents.{Contents}
+use Rattle.brc_count.specs.block.Row.{Row}
+use Rattle.brc_count.specs.block.Payload.{kind_of}
+use Rattle.brc_count.specs.block.declared.payload.Payload.{Payload}
+use Rattle.brc_count.specs.block.declared.payload.Payload.TheVariants as payloads
 use Rattle.brc_count.specs.Frames.{FrameSeen, HandleSeen, Refused}
 use Rattle.brc_containers.specs.Changing.{PlainCall, Changes, Shares}
 use Rattle.brc_dicts.specs.Plain.{plain_key_at, plain_value_at}

@@ -8,11 +8,11 @@ use Rattle.brc_words.specs.declared.key.Key.TheVariants as keys
 use Rattle.brc_plain.specs.Dicts as dicts
 use Rattle.brc_words.specs.Keys.{same_key}
 use Rattle.brc_plain.specs.Outcomes.{leaving, or_fault}
-use Rattle.law_rule.specs.declared.contents.PlainKey.{PlainKey}
-use Rattle.law_rule.specs.declared.contents.PlainKey.TheVariants as plain
-use Rattle.law_rule.specs.declared.contents.Contents.{Contents}
-use Rattle.law_rule.specs.declared.contents.Contents.TheVariants.{Dict}
-use Rattle.brc_table.specs.Shown.{plain_key}
+use Rattle.brc_count.specs.law.rule.declared.contents.PlainKey.{PlainKey}
+use Rattle.brc_count.specs.law.rule.declared.contents.PlainKey.TheVariants as plain
+use Rattle.brc_count.specs.law.rule.declared.contents.Contents.{Contents}
+use Rattle.brc_count.specs.law.rule.declared.contents.Contents.TheVariants.{Dict}
+use Rattle.brc_count.specs.table.Shown.{plain_key}
 use Rattle.brc_containers.specs.Changing.{PlainCall}
 
 module _ {A : Type 0} where

@@ -4,8 +4,8 @@ use Rattle.brc_words.specs.declared.fault.Fault.{Fault}
 use Rattle.brc_words.specs.declared.fault.Fault.TheVariants as faults
 use Rattle.brc_words.specs.declared.key.Key.{Key}
 use Rattle.brc_words.specs.declared.limits.TheConstants.{MOST_ENTRIES}
-use Rattle.law_world.specs.declared.event.Change.TheVariants.{Keep}
-use Rattle.law_rule.specs.declared.contents.Contents.{Contents}
+use Rattle.brc_count.specs.law.world.declared.event.Change.TheVariants.{Keep}
+use Rattle.brc_count.specs.law.rule.declared.contents.Contents.{Contents}
 use Rattle.brc_count.specs.Frames.{FrameSeen, HandleSeen}
 use Rattle.brc_count.specs.Locking.{Busy, cell_in}
 use Rattle.brc_containers.specs.Changing.{PlainCall, Changes, Puts, Swaps, RefusedPlainly}

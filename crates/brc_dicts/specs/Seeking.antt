@@ -2,11 +2,11 @@
 use Rattle.std.specs.Prelude.{◌≡◌, ◌≢◌, ℕ, Some, None, slice_get}
 use Rattle.brc_words.specs.declared.key.Key.{Key}
 use Rattle.brc_words.specs.declared.kind.Kind.TheVariants as kinds
-use Rattle.brc_block.specs.Row.{Row}
-use Rattle.brc_block.specs.Pairs.{cells_in}
-use Rattle.brc_block.specs.Payload.{kind_of}
-use Rattle.brc_block.specs.declared.payload.Payload.{Payload}
-use Rattle.brc_block.specs.declared.payload.Payload.TheVariants as payloads
+use Rattle.brc_count.specs.block.Row.{Row}
+use Rattle.brc_count.specs.block.Pairs.{cells_in}
+use Rattle.brc_count.specs.block.Payload.{kind_of}
+use Rattle.brc_count.specs.block.declared.payload.Payload.{Payload}
+use Rattle.brc_count.specs.block.declared.payload.Payload.TheVariants as payloads
 use Rattle.brc_plain.specs.Dicts.{Stands, value_at}
 use Rattle.brc_dicts.specs.declared.seeking.Sought.{Sought}
 use Rattle.brc_dicts.specs.declared.seeking.Sought.TheVariants as sought

@@ -1,6 +1,6 @@
 -- A frame since an object was locked.
 use Rattle.std.specs.Prelude.{ℕ}
-use Rattle.brc_block.specs.declared.payload.Payload.{Payload}
+use Rattle.brc_count.specs.block.declared.payload.Payload.{Payload}
 use Rattle.brc_count.specs.Frames.{FrameSeen}
 use Rattle.brc_count.specs.Locking.{Began, KeepsThread, KeepsFrame}
 

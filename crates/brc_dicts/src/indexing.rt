@@ -3,7 +3,7 @@
 ghost use Rattle.std.specs.Prelude.{◌≡◌, ◌≢◌, ◌<◌, Some, None, Ok, IfOk, IfErr, IfSome, IfNone, OnOk, OnErr, slice_get};
 ghost use Rattle.brc_words.specs.declared.fault.Fault.TheVariants as faults;
 ghost use Rattle.brc_words.specs.declared.limits.TheConstants.{MOST_PLACES};
-ghost use Rattle.brc_table.specs.Shown.{contents_of};
+ghost use Rattle.brc_count.specs.table.Shown.{contents_of};
 ghost use Rattle.brc_count.specs.Frames.{IsUnlocked, IsAsBefore, Owns};
 ghost use Rattle.brc_count.specs.Locking.{IsLocked, cell_locked, contents_found, KeepsThread, KeepsFrame};
 ghost use Rattle.brc_count.specs.Owned.{Keeps, Gains};
@@ -14,8 +14,8 @@ ghost use Rattle.brc_dicts.specs.Indexing.{IsAt, NoPair, Reads, SharesPair, Miss
 ghost use Rattle.brc_dicts.specs.Plain.{plain_key_at, plain_value_at};
 ghost use Rattle.brc_dicts.specs.Since.{Since};
 
-use brc_biased::Home;
-use brc_block::{Block, Payload};
+use brc_count::biased::Home;
+use brc_count::block::{Block, Payload};
 use brc_count::{Frame, Handle};
 use brc_lock::begin_late;
 use brc_words::{Fault, Key, MOST_PLACES};

@@ -4,9 +4,9 @@ ghost use Rattle.std.specs.Prelude.{◌≡◌, ◌≢◌, ◌<◌, Some, None, I
 ghost use Rattle.brc_words.specs.declared.fault.Fault.TheVariants as faults;
 ghost use Rattle.brc_words.specs.declared.kind.Kind.TheVariants as kinds;
 ghost use Rattle.brc_words.specs.declared.limits.TheConstants.{MOST_ENTRIES};
-ghost use Rattle.brc_block.specs.Lent_Keys.{key_lent};
-ghost use Rattle.brc_block.specs.Payload.{kind_of, entries_of, keys_of, spare_of};
-ghost use Rattle.brc_table.specs.Shown.{contents_of};
+ghost use Rattle.brc_count.specs.block.Lent_Keys.{key_lent};
+ghost use Rattle.brc_count.specs.block.Payload.{kind_of, entries_of, keys_of, spare_of};
+ghost use Rattle.brc_count.specs.table.Shown.{contents_of};
 ghost use Rattle.brc_count.specs.Frames.{IsUnlocked, Owns};
 ghost use Rattle.brc_count.specs.Locking.{IsLocked, cell_locked, place_locked, contents_found, KeepsThread, KeepsFrame};
 ghost use Rattle.brc_count.specs.Owned.{Keeps};
@@ -17,8 +17,8 @@ ghost use Rattle.brc_dicts.specs.Seeking.{IsThere, IsAbsent};
 ghost use Rattle.brc_dicts.specs.Since.{Since};
 
 use crate::seeking::{Sought, seek};
-use brc_biased::Home;
-use brc_block::{Block, KeyRef, Payload};
+use brc_count::biased::Home;
+use brc_count::block::{Block, KeyRef, Payload};
 use brc_count::{Frame, Handed, Handle};
 use brc_lock::begin_late;
 use brc_words::{Fault, Key, MOST_ENTRIES};

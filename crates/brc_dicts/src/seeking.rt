@@ -1,9 +1,9 @@
 //! Where a key stands in an object.
 
-ghost use Rattle.brc_block.specs.Lent_Keys.{key_lent};
+ghost use Rattle.brc_count.specs.block.Lent_Keys.{key_lent};
 ghost use Rattle.brc_dicts.specs.Seeking.{Seeks};
 
-use brc_block::{KeyRef, Payload};
+use brc_count::block::{KeyRef, Payload};
 use std::alloc::Allocator;
 
 /// What a look for a key in an object finds.

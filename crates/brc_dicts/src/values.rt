@@ -2,8 +2,8 @@
 
 ghost use Rattle.std.specs.Prelude.{◌≡◌, ◌≢◌, Some, IfOk, IfErr, OnErr};
 ghost use Rattle.brc_words.specs.declared.fault.Fault.TheVariants as faults;
-ghost use Rattle.brc_block.specs.Lent_Keys.{key_lent};
-ghost use Rattle.brc_table.specs.Shown.{contents_of};
+ghost use Rattle.brc_count.specs.block.Lent_Keys.{key_lent};
+ghost use Rattle.brc_count.specs.table.Shown.{contents_of};
 ghost use Rattle.brc_count.specs.Frames.{IsUnlocked, Owns};
 ghost use Rattle.brc_count.specs.Locking.{IsLocked, cell_locked, contents_found, KeepsThread};
 ghost use Rattle.brc_count.specs.Owned.{Keeps, Gains};
@@ -14,8 +14,8 @@ ghost use Rattle.brc_dicts.specs.Plain.{plain_find, plain_del};
 ghost use Rattle.brc_dicts.specs.Since.{Since};
 
 use crate::seeking::{Sought, seek};
-use brc_biased::Home;
-use brc_block::{Block, KeyRef};
+use brc_count::biased::Home;
+use brc_count::block::{Block, KeyRef};
 use brc_count::{Frame, Handle};
 use brc_lock::begin_late;
 use brc_words::{Fault, Key};

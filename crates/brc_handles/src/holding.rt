@@ -3,14 +3,14 @@
 ghost use Rattle.std.specs.Prelude.{◌≡◌, ◌≢◌, ◌+◌, ◌<◌, ◌⊎◌, Some, None, [], ◌∷◌, ◌++◌, OnOk, OnErr, IfErr, IsSome};
 ghost use Rattle.std.specs.Prelude.{ℕ, length, slice_set};
 ghost use Rattle.brc_words.specs.declared.fault.Fault.TheVariants.{OutOfMemory};
-ghost use Rattle.law_living.specs.Quiet.{Quietly};
+ghost use Rattle.brc_count.specs.law.living.Quiet.{Quietly};
 ghost use Rattle.brc_count.specs.Frames.{HandleSeen, IsUnlocked, Owns, Refused};
 ghost use Rattle.brc_count.specs.Owned.{Keeps, Loses};
 ghost use Rattle.brc_handles.specs.Handles.{slot, filled, IsApart, OwnsEach, ComesIn, Retains};
 ghost use Rattle.brc_handles.specs.Standing.{Stands, Besides};
 
 use crate::handles::Handles;
-use brc_biased::Home;
+use brc_count::biased::Home;
 use brc_count::{Frame, Handle};
 use brc_words::Fault;
 use std::alloc::Allocator;

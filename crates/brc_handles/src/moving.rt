@@ -10,7 +10,7 @@ ghost use Rattle.brc_handles.specs.Handles.{slot, filled, IsApart, OwnsEach, Swa
 ghost use Rattle.brc_handles.specs.Standing.{Stands, Besides};
 
 use crate::handles::Handles;
-use brc_biased::Home;
+use brc_count::biased::Home;
 use brc_count::{Frame, Handed, Handle};
 use brc_words::Fault;
 use std::alloc::Allocator;

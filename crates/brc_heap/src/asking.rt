@@ -6,7 +6,7 @@ ghost use Rattle.brc_count.specs.Frames.{Owns};
 ghost use Rattle.brc_count.specs.Locking.{cell_in};
 ghost use Rattle.brc_things.specs.Makers.{truth_cell};
 
-use brc_biased::Home;
+use brc_count::biased::Home;
 use brc_count::{Frame, Handle};
 use brc_words::Fault;
 use std::alloc::Allocator;

@@ -20,7 +20,7 @@ pub use asking::{is_same, truth_of};
 pub use brc_close::{CloseFault, NoReport, close, close_or_end};
 pub use brc_count::Ledger;
 pub use brc_report::{Cells, Content, Remain, Report, check_report, write_report};
-pub use brc_table::Rest;
+pub use brc_count::table::Rest;
 pub use brc_thread::{Heap, Options, Resting, Retired, Root, give_back, take_apart};
 pub use fixed::{Leaving, Mutator};
 
@@ -33,7 +33,7 @@ pub use fixed::Frame;
 pub use brc_things::{new_dict, new_int, new_list, new_mailbox, new_text, none, truth};
 
 // what they are and hold
-pub use brc_block::KeyRef;
+pub use brc_count::block::KeyRef;
 pub use brc_containers::{
     int_of, kind_of, len_of, text_into, text_of, try_int_of, try_kind_of, try_len_of,
     try_text_into, try_text_of,

@@ -5,8 +5,8 @@ use Rattle.brc_words.specs.declared.fault.Fault.{Fault}
 use Rattle.brc_words.specs.declared.fault.Fault.TheVariants as faults
 use Rattle.brc_words.specs.declared.key.Key.{Key}
 use Rattle.brc_words.specs.declared.limits.TheConstants.{MOST_PLACES, MOST_BIRTHS}
-use Rattle.law_rule.specs.declared.contents.Contents.{Contents}
-use Rattle.law_rule.specs.declared.told.Told.{Told}
+use Rattle.brc_count.specs.law.rule.declared.contents.Contents.{Contents}
+use Rattle.brc_count.specs.law.rule.declared.told.Told.{Told}
 use Rattle.brc_count.specs.declared.handed.Handed.{Handed}
 use Rattle.brc_count.specs.Frames.{FrameSeen, HandleSeen, Owns, Refused, IsAsBefore, ledger_seen}
 use Rattle.brc_count.specs.Locking.{cell_in}
@@ -19,9 +19,9 @@ use Rattle.brc_lists.specs.Calls.{PutsValue, SwapsValue, TakesEntry, SharesEntry
 use Rattle.brc_dicts.specs.Calls.{DictPut}
 use Rattle.brc_dicts.specs.Plain.{plain_put}
 use Rattle.brc_dicts.specs.Putting.{RefusedPair}
-use Rattle.law_living.specs.Later.{IsLater}
-use Rattle.law_living.specs.Quiet.{Quietly}
-use Rattle.law_living.proofs.Earlier.{later_same, later_both, quietly_later}
+use Rattle.brc_count.specs.law.living.Later.{IsLater}
+use Rattle.brc_count.specs.law.living.Quiet.{Quietly}
+use Rattle.brc_count.proofs.law.living.Earlier.{later_same, later_both, quietly_later}
 use Rattle.law_isolation.proofs.Quiet_Lives.{allocs_quietly}
 use Rattle.brc_instructions.specs.Causes.{NoneWasFree, WantsNoRoom, Caused}
 use Rattle.brc_instructions.proofs.Plain_Refusals.{NeedsNoRoom}

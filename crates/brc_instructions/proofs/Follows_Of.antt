@@ -6,8 +6,8 @@ use Rattle.brc_words.specs.declared.fault.Fault.{Fault}
 use Rattle.brc_words.specs.declared.fault.Fault.TheVariants as faults
 use Rattle.brc_words.specs.declared.key.Key.{Key}
 use Rattle.brc_script.specs.declared.instruction.Instruction.TheVariants as does
-use Rattle.law_rule.specs.declared.contents.Contents.{Contents}
-use Rattle.law_rule.specs.declared.contents.Contents.TheVariants as contents
+use Rattle.brc_count.specs.law.rule.declared.contents.Contents.{Contents}
+use Rattle.brc_count.specs.law.rule.declared.contents.Contents.TheVariants as contents
 use Rattle.brc_count.specs.declared.handed.Handed.{Handed}
 use Rattle.brc_count.specs.Frames.{FrameSeen, HandleSeen, Owns, IsAsBefore, ReleasedOf, place_seen}
 use Rattle.brc_count.specs.Locking.{Busy, cell_in}
@@ -26,10 +26,10 @@ use Rattle.brc_meaning.specs.declared.state.State.{State}
 use Rattle.brc_meaning.specs.Outcomes.{◌>>=◌}
 use Rattle.brc_meaning.specs.States.{held, holding, called, with_register}
 use Rattle.brc_meaning.specs.Steps.{after}
-use Rattle.law_living.specs.Living.{OwnLog}
-use Rattle.law_living.specs.Later.{IsLater}
-use Rattle.law_living.specs.Quiet.{Quietly}
-use Rattle.law_living.proofs.Earlier.{own_earlier, later_same, later_one, later_both, later_is, quietly_later}
+use Rattle.brc_count.specs.law.living.Living.{OwnLog}
+use Rattle.brc_count.specs.law.living.Later.{IsLater}
+use Rattle.brc_count.specs.law.living.Quiet.{Quietly}
+use Rattle.brc_count.proofs.law.living.Earlier.{own_earlier, later_same, later_one, later_both, later_is, quietly_later}
 use Rattle.law_isolation.specs.Means.{Means, MeansBesides}
 use Rattle.law_isolation.specs.Goes.{is_want}
 use Rattle.law_isolation.specs.Calls.{with_objects, Comes, GivesOne}

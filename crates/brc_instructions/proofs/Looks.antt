@@ -3,11 +3,11 @@ use Rattle.std.proofs.Common.{ℕ, ℤ, List, Result, Ok, Err}
 use Rattle.brc_words.specs.declared.fault.Fault.{Fault}
 use Rattle.brc_words.specs.declared.fault.Fault.TheVariants as faults
 use Rattle.brc_words.specs.declared.kind.Kind.{Kind}
-use Rattle.law_rule.specs.declared.contents.Contents.{Contents}
+use Rattle.brc_count.specs.law.rule.declared.contents.Contents.{Contents}
 use Rattle.brc_count.specs.Frames.{FrameSeen}
 use Rattle.brc_containers.specs.Called.{Late}
 use Rattle.brc_containers.specs.Looking.{RefusedLook, RefusedCopy, LenOf, IntOf, TextOf, KindOf}
-use Rattle.law_living.specs.Later.{IsLater}
+use Rattle.brc_count.specs.law.living.Later.{IsLater}
 use Rattle.law_isolation.proofs.Later_Calls.{later_looks, later_late}
 use Rattle.brc_instructions.proofs.Follows_Of.{later_busy}
 

@@ -9,8 +9,8 @@ use Rattle.brc_plain.specs.Outcomes.{or_fault, leaving}
 use Rattle.brc_plain.specs.Lists as lists
 use Rattle.brc_plain.specs.Queues as queues
 use Rattle.brc_plain.specs.Dicts as dicts
-use Rattle.law_rule.specs.declared.contents.Contents.{Contents}
-use Rattle.law_rule.specs.declared.contents.Contents.TheVariants as contents
+use Rattle.brc_count.specs.law.rule.declared.contents.Contents.{Contents}
+use Rattle.brc_count.specs.law.rule.declared.contents.Contents.TheVariants as contents
 use Rattle.brc_containers.specs.Changing.{PlainCall}
 use Rattle.brc_lists.specs.Plain.{left_in, on_list, on_mailbox, plain_push, plain_pop, plain_get, plain_set, plain_send}
 use Rattle.brc_lists.specs.Plain.{plain_receive}

@@ -3,10 +3,10 @@ use Rattle.std.specs.Prelude.{◌≡◌, ◌≤◌, ℕ, Bool, true, false, List
 use Rattle.brc_words.specs.declared.fault.Fault.{Fault}
 use Rattle.brc_words.specs.declared.fault.Fault.TheVariants as faults
 use Rattle.brc_words.specs.declared.limits.TheConstants.{MOST_PLACES, MOST_BIRTHS}
-use Rattle.law_rule.specs.declared.told.Told.{Told}
-use Rattle.brc_biased.specs.Seeking.{PassesOver}
+use Rattle.brc_count.specs.law.rule.declared.told.Told.{Told}
+use Rattle.brc_count.specs.biased.Seeking.{PassesOver}
 use Rattle.brc_count.specs.Frames.{FrameSeen, ledger_seen}
-use Rattle.law_living.specs.Later.{IsLater}
+use Rattle.brc_count.specs.law.living.Later.{IsLater}
 
 -- Between these two logs, in a heap of n cells, there was a search for a free cell, in which the thread only looked at
 -- free words: of each mortal cell it has a note that it wasn't free.

@@ -3,7 +3,7 @@ use Rattle.std.specs.Prelude.{◌≡◌, ℕ, List, Option, Result}
 use Rattle.brc_words.specs.declared.fault.Fault.{Fault}
 use Rattle.brc_count.specs.Frames.{FrameSeen, HandleSeen}
 use Rattle.brc_meaning.specs.declared.state.State.{State}
-use Rattle.law_living.specs.Living.{OwnLog}
+use Rattle.brc_count.specs.law.living.Living.{OwnLog}
 use Rattle.law_isolation.specs.Means.{Means}
 
 -- of the frame before and after it, of the registers before and after it, and of its answer

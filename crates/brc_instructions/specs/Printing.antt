@@ -8,7 +8,7 @@ use Rattle.brc_count.specs.Frames.{FrameSeen, HandleSeen}
 use Rattle.brc_meaning.specs.declared.state.State.{State}
 use Rattle.brc_meaning.specs.Objects.{text_in}
 use Rattle.brc_meaning.specs.Steps.{after}
-use Rattle.law_living.specs.Living.{OwnLog}
+use Rattle.brc_count.specs.law.living.Living.{OwnLog}
 use Rattle.law_isolation.specs.Means.{Means}
 use Rattle.law_isolation.specs.Goes.{is_want}
 use Rattle.law_isolation.specs.Calls.{Finds}

@@ -2,12 +2,12 @@
 
 ghost use Rattle.std.specs.Prelude.{◌≡◌, ◌≢◌, IfErr};
 ghost use Rattle.brc_words.specs.declared.fault.Fault.TheVariants as faults;
-ghost use Rattle.law_living.specs.Later.{IsLater};
+ghost use Rattle.brc_count.specs.law.living.Later.{IsLater};
 ghost use Rattle.brc_instructions.specs.Doing.{Refusing, Telling};
 ghost use Rattle.brc_instructions.specs.Registers.{Stands};
 
 use crate::registers::Registers;
-use brc_biased::Home;
+use brc_count::biased::Home;
 use brc_count::Frame;
 use brc_words::Fault;
 use std::alloc::Allocator;

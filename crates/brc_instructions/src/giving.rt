@@ -6,14 +6,14 @@ ghost use Rattle.brc_count.specs.Frames.{HandleSeen as handle_seen, IsUnlocked, 
 ghost use Rattle.brc_count.specs.Owned.{Keeps, Gains};
 ghost use Rattle.brc_handles.specs.Handles.{slot};
 ghost use Rattle.brc_meaning.specs.declared.state.State.{State as state};
-ghost use Rattle.law_living.specs.Living.{OwnLog};
-ghost use Rattle.law_living.specs.Later.{IsLater};
+ghost use Rattle.brc_count.specs.law.living.Living.{OwnLog};
+ghost use Rattle.brc_count.specs.law.living.Later.{IsLater};
 ghost use Rattle.law_isolation.specs.Calls.{HandsMeant};
 ghost use Rattle.law_isolation.specs.Means.{Means};
 ghost use Rattle.brc_instructions.specs.Calls.{given_by};
 ghost use Rattle.brc_instructions.specs.Causes.{Caused};
 
-use brc_biased::Home;
+use brc_count::biased::Home;
 use brc_count::{Frame, Handle};
 use brc_heap::{dict_del, dict_find, list_get, list_pop, recv};
 use brc_words::{Fault, Key};

@@ -4,12 +4,12 @@ ghost use Rattle.std.specs.Prelude.{◌≡◌, ◌≢◌, MatchOption, IfOk, IfE
 ghost use Rattle.brc_words.specs.declared.fault.Fault.TheVariants as faults;
 ghost use Rattle.brc_count.specs.Frames.{IsUnlocked};
 ghost use Rattle.brc_count.specs.Owned.{Keeps, Gains};
-ghost use Rattle.law_living.specs.Later.{IsLater};
+ghost use Rattle.brc_count.specs.law.living.Later.{IsLater};
 ghost use Rattle.brc_instructions.specs.Registers.{Stands, Besides};
 
 use crate::giving::{Giving, given};
 use crate::registers::Registers;
-use brc_biased::Home;
+use brc_count::biased::Home;
 use brc_count::{Frame, Handed, Handle};
 use brc_heap::dict_put;
 use brc_words::{Fault, GLOBALS, Key};

@@ -3,14 +3,14 @@
 ghost use Rattle.std.specs.Prelude.{◌≡◌, ℕ, Some};
 ghost use Rattle.brc_meaning.specs.declared.state.State.{State as state};
 ghost use Rattle.brc_meaning.specs.declared.reference.Reference.{Reference as reference};
-ghost use Rattle.law_living.specs.Living.{OwnLog};
-ghost use Rattle.law_living.specs.Quiet.{Quietly};
+ghost use Rattle.brc_count.specs.law.living.Living.{OwnLog};
+ghost use Rattle.brc_count.specs.law.living.Quiet.{Quietly};
 ghost use Rattle.brc_meaning.specs.States.{with_register};
 ghost use Rattle.law_isolation.specs.Means.{Means, MeansBesides};
 ghost use Rattle.brc_instructions.specs.Registers.{Stands, Besides};
 
 use crate::registers::Registers;
-use brc_biased::Home;
+use brc_count::biased::Home;
 use brc_count::{Frame, Handle};
 use brc_script::Register;
 use std::alloc::Allocator;

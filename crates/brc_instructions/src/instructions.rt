@@ -14,7 +14,7 @@ use crate::making::{Empty, new_empty};
 use crate::reading::{Reads, Sum};
 use crate::registers::Registers;
 use crate::taking::{Taking, taken};
-use brc_biased::Home;
+use brc_count::biased::Home;
 use brc_count::Frame;
 use brc_heap::{len_of, new_int, new_text};
 use brc_script::Register;

@@ -6,7 +6,7 @@ ghost use Rattle.brc_count.specs.Making.{Made, RefusedMaking};
 ghost use Rattle.brc_count.specs.Owned.{Keeps, Gains};
 ghost use Rattle.brc_instructions.specs.Calls.{contents_of};
 
-use brc_biased::Home;
+use brc_count::biased::Home;
 use brc_count::{Frame, Handle};
 use brc_heap::{new_dict, new_list, new_mailbox};
 use brc_words::Fault;

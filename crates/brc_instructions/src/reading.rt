@@ -4,7 +4,7 @@
 ghost use Rattle.std.specs.Prelude.{◌≡◌, ◌≢◌, IfErr};
 ghost use Rattle.brc_words.specs.declared.fault.Fault.TheVariants as faults;
 ghost use Rattle.brc_meaning.specs.Objects.{number_in};
-ghost use Rattle.law_living.specs.Later.{IsLater};
+ghost use Rattle.brc_count.specs.law.living.Later.{IsLater};
 ghost use Rattle.law_isolation.specs.Asked.{read as read_off, summed};
 ghost use Rattle.brc_instructions.specs.Causes.{WantsNoRoom};
 ghost use Rattle.brc_instructions.specs.Doing.{Reading, ReadsAs};
@@ -14,7 +14,7 @@ ghost use Rattle.brc_instructions.specs.Registers.{Stands};
 use crate::printing::show;
 use crate::registers::Registers;
 use crate::shown::Shown;
-use brc_biased::Home;
+use brc_count::biased::Home;
 use brc_count::Frame;
 use brc_heap::int_of;
 use brc_script::Register;

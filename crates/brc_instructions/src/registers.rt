@@ -4,10 +4,10 @@ ghost use Rattle.std.specs.Prelude.{◌≡◌, ◌<◌, ◌≤◌, ◌+◌, None
 ghost use Rattle.std.specs.Option.{option_copied};
 ghost use Rattle.brc_words.specs.declared.fault.Fault.TheVariants.{OutOfMemory};
 ghost use Rattle.brc_count.specs.Frames.{IsUnlocked};
-ghost use Rattle.law_living.specs.Quiet.{Quietly};
+ghost use Rattle.brc_count.specs.law.living.Quiet.{Quietly};
 ghost use Rattle.brc_handles.specs.Handles.{slot, filled, IsApart, IsBare, OwnsEach, ComesIn, ComesOut, Exchanges};
 
-use brc_biased::Home;
+use brc_count::biased::Home;
 use brc_count::{Frame, Handle};
 use brc_handles::Handles;
 use brc_script::{REGISTERS, Register};

@@ -4,8 +4,8 @@ ghost use Rattle.std.specs.Prelude.{◌≡◌, ◌≢◌, ℕ, MatchOption, IfOk
 ghost use Rattle.brc_words.specs.declared.fault.Fault.TheVariants as faults;
 ghost use Rattle.brc_meaning.specs.declared.state.State.{State as state};
 ghost use Rattle.brc_meaning.specs.declared.reference.Reference.{Reference as reference};
-ghost use Rattle.law_living.specs.Living.{OwnLog};
-ghost use Rattle.law_living.specs.Later.{IsLater};
+ghost use Rattle.brc_count.specs.law.living.Living.{OwnLog};
+ghost use Rattle.brc_count.specs.law.living.Later.{IsLater};
 ghost use Rattle.law_isolation.specs.Asked.{PutsAsked};
 ghost use Rattle.law_isolation.specs.Means.{MeansBesides};
 ghost use Rattle.brc_instructions.specs.Calls.{taken_by};
@@ -13,7 +13,7 @@ ghost use Rattle.brc_instructions.specs.Causes.{WantsNoRoom};
 ghost use Rattle.brc_instructions.specs.Registers.{Stands, Besides};
 
 use crate::registers::Registers;
-use brc_biased::Home;
+use brc_count::biased::Home;
 use brc_count::{Frame, Handed, Handle};
 use brc_heap::{KeyRef, dict_set, list_push, list_set, send};
 use brc_script::Register;

@@ -9,15 +9,15 @@ use Rattle.brc_words.specs.declared.fault.Fault.TheVariants as faults
 use Rattle.brc_words.specs.declared.kind.Kind.{Kind}
 use Rattle.brc_words.specs.declared.kind.Kind.TheVariants as kinds
 use Rattle.brc_words.specs.declared.limits.TheConstants.{MOST_ENTRIES}
-use Rattle.brc_block.specs.declared.payload.Payload.{Payload}
-use Rattle.brc_block.specs.declared.payload.Payload.TheVariants as payloads
-use Rattle.brc_block.specs.Payload.{kind_of, entries_of}
+use Rattle.brc_count.specs.block.declared.payload.Payload.{Payload}
+use Rattle.brc_count.specs.block.declared.payload.Payload.TheVariants as payloads
+use Rattle.brc_count.specs.block.Payload.{kind_of, entries_of}
 use Rattle.brc_plain.specs.Outcomes.{leaving, or_fault}
 use Rattle.brc_plain.specs.Lists as lists
-use Rattle.law_rule.specs.declared.contents.Contents.{Contents}
-use Rattle.law_rule.specs.declared.contents.Contents.TheVariants as contents
-use Rattle.law_rule.specs.Logs.{kind_in, entries_in}
-use Rattle.brc_table.specs.Shown.{contents_of, plain_key}
+use Rattle.brc_count.specs.law.rule.declared.contents.Contents.{Contents}
+use Rattle.brc_count.specs.law.rule.declared.contents.Contents.TheVariants as contents
+use Rattle.brc_count.specs.law.rule.Logs.{kind_in, entries_in}
+use Rattle.brc_count.specs.table.Shown.{contents_of, plain_key}
 use Rattle.brc_lists.specs.Plain.{left_in, plain_pop}
 use Rattle.brc_lists.specs.Rows.{is_row, on_row, plain_put, plain_at, plain_take}
 

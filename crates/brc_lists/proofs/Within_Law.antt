@@ -5,17 +5,17 @@ use Rattle.brc_words.specs.declared.fault.Fault.{Fault}
 use Rattle.brc_words.specs.declared.kind.Kind.{Kind}
 use Rattle.brc_words.specs.declared.kind.Kind.TheVariants as kinds
 use Rattle.brc_words.specs.declared.limits.TheConstants.{MOST_ENTRIES}
-use Rattle.brc_block.specs.declared.payload.Payload.{Payload}
-use Rattle.brc_block.specs.Payload.{kind_of, entries_of}
-use Rattle.law_world.specs.declared.event.Change.{Change}
-use Rattle.law_world.specs.declared.event.Change.TheVariants.{Put, Take, Swap}
-use Rattle.law_world.specs.declared.event.Step.TheVariants.{Unlock}
-use Rattle.law_rule.specs.declared.contents.Contents.{Contents}
-use Rattle.law_rule.specs.declared.told.Moved.TheVariants as moves
-use Rattle.law_rule.specs.declared.told.Told.TheVariants.{Did}
-use Rattle.law_rule.specs.Logs.{kind_in, entries_in}
-use Rattle.law_rule.specs.Seen.{part_seen}
-use Rattle.brc_table.specs.Shown.{contents_of}
+use Rattle.brc_count.specs.block.declared.payload.Payload.{Payload}
+use Rattle.brc_count.specs.block.Payload.{kind_of, entries_of}
+use Rattle.brc_count.specs.law.world.declared.event.Change.{Change}
+use Rattle.brc_count.specs.law.world.declared.event.Change.TheVariants.{Put, Take, Swap}
+use Rattle.brc_count.specs.law.world.declared.event.Step.TheVariants.{Unlock}
+use Rattle.brc_count.specs.law.rule.declared.contents.Contents.{Contents}
+use Rattle.brc_count.specs.law.rule.declared.told.Moved.TheVariants as moves
+use Rattle.brc_count.specs.law.rule.declared.told.Told.TheVariants.{Did}
+use Rattle.brc_count.specs.law.rule.Logs.{kind_in, entries_in}
+use Rattle.brc_count.specs.law.rule.Seen.{part_seen}
+use Rattle.brc_count.specs.table.Shown.{contents_of}
 use Rattle.brc_count.specs.Frames.{FrameSeen, HandleSeen, IsAsBefore, popped_seen}
 use Rattle.brc_count.specs.Locking.{Ended, ChangesPlace, cell_in, cell_locked, contents_found}
 use Rattle.brc_lists.specs.Plain.{plain_set}

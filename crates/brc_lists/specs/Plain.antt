@@ -6,8 +6,8 @@ use Rattle.brc_words.specs.declared.fault.Fault.TheVariants as faults
 use Rattle.brc_plain.specs.Outcomes.{leaving}
 use Rattle.brc_plain.specs.Lists as lists
 use Rattle.brc_plain.specs.Queues as queues
-use Rattle.law_rule.specs.declared.contents.Contents.{Contents}
-use Rattle.law_rule.specs.declared.contents.Contents.TheVariants as contents
+use Rattle.brc_count.specs.law.rule.declared.contents.Contents.{Contents}
+use Rattle.brc_count.specs.law.rule.declared.contents.Contents.TheVariants as contents
 use Rattle.brc_containers.specs.Changing.{PlainCall}
 
 module _ {R : Type 0} where

@@ -2,12 +2,12 @@
 use Rattle.std.specs.Prelude.{◌≡◌, ◌+◌, ℕ, Some, None, Result, Ok, Err, is_ok, true, slice_get}
 use Rattle.brc_words.specs.declared.fault.Fault.{Fault}
 use Rattle.brc_words.specs.declared.fault.Fault.TheVariants as faults
-use Rattle.brc_block.specs.declared.payload.Payload.{Payload}
-use Rattle.law_world.specs.declared.event.Change.{Change}
-use Rattle.law_world.specs.declared.event.Change.TheVariants.{Keep, Put, Take, Swap}
-use Rattle.law_world.specs.declared.event.Source.TheVariants as sources
-use Rattle.law_rule.specs.declared.contents.Contents.{Contents}
-use Rattle.brc_table.specs.Shown.{contents_of}
+use Rattle.brc_count.specs.block.declared.payload.Payload.{Payload}
+use Rattle.brc_count.specs.law.world.declared.event.Change.{Change}
+use Rattle.brc_count.specs.law.world.declared.event.Change.TheVariants.{Keep, Put, Take, Swap}
+use Rattle.brc_count.specs.law.world.declared.event.Source.TheVariants as sources
+use Rattle.brc_count.specs.law.rule.declared.contents.Contents.{Contents}
+use Rattle.brc_count.specs.table.Shown.{contents_of}
 use Rattle.brc_count.specs.Frames.{FrameSeen, HandleSeen, Given, Refused}
 use Rattle.brc_count.specs.Locking.{IsLocked, KeepsFrame, ChangesPlace, Ended, cell_in, cell_locked, contents_found}
 use Rattle.brc_count.specs.Locking.{entries_found}

@@ -6,7 +6,7 @@ ghost use Rattle.brc_count.specs.Owned.{Keeps, Gains, Loses};
 ghost use Rattle.brc_lists.specs.Calls.{ListPush, ListPop, ListTake, ListGet, ListSet};
 
 use crate::within::{put_locked, share_locked, swap_locked, take_locked};
-use brc_biased::Home;
+use brc_count::biased::Home;
 use brc_count::{Frame, Handed, Handle};
 use brc_words::{Fault, Kind};
 use std::alloc::Allocator;

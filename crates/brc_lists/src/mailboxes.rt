@@ -6,7 +6,7 @@ ghost use Rattle.brc_count.specs.Owned.{Keeps, Gains, Loses};
 ghost use Rattle.brc_lists.specs.Calls.{MailboxSend, MailboxReceive};
 
 use crate::within::{put_locked, take_locked};
-use brc_biased::Home;
+use brc_count::biased::Home;
 use brc_count::{Frame, Handed, Handle};
 use brc_words::{Fault, Kind};
 use std::alloc::Allocator;

@@ -2,10 +2,10 @@
 
 ghost use Rattle.std.specs.Prelude.{◌≡◌, ◌<◌, length, true, Some, IfOk, IfErr, OnOk, OnErr, slice_get};
 ghost use Rattle.brc_words.specs.declared.limits.TheConstants.{MOST_ENTRIES};
-ghost use Rattle.brc_block.specs.Payload.{kind_of, entries_of, spare_of};
+ghost use Rattle.brc_count.specs.block.Payload.{kind_of, entries_of, spare_of};
 ghost use Rattle.brc_lists.specs.Rows.{is_row, NoRoom, NoEntry};
 
-use brc_block::{Entries, Payload};
+use brc_count::block::{Entries, Payload};
 use brc_words::{Fault, Kind, MOST_ENTRIES};
 use std::alloc::Allocator;
 

@@ -9,7 +9,7 @@ ghost use Rattle.brc_containers.specs.Called.{Late};
 ghost use Rattle.brc_lists.specs.Calls.{ListPush, ListPop, ListTake, ListGet, ListSet, MailboxSend, MailboxReceive};
 
 use crate::within::{put_locked, share_locked, swap_locked, take_locked};
-use brc_biased::Home;
+use brc_count::biased::Home;
 use brc_count::{Frame, Handed, Handle};
 use brc_lock::begin_late;
 use brc_words::{Fault, Kind};

@@ -6,9 +6,9 @@ ghost use Rattle.std.specs.Prelude.{◌≡◌, ◌≢◌, ◌<◌, ℕ, List, tr
 ghost use Rattle.brc_words.specs.declared.fault.Fault.TheVariants as faults;
 ghost use Rattle.brc_words.specs.declared.kind.Kind.TheVariants as kinds;
 ghost use Rattle.brc_words.specs.declared.limits.TheConstants.{MOST_PLACES};
-ghost use Rattle.brc_block.specs.Payload.{kind_of, entries_of};
-ghost use Rattle.law_world.specs.declared.event.Change.TheVariants as changes;
-ghost use Rattle.brc_table.specs.Shown.{contents_of};
+ghost use Rattle.brc_count.specs.block.Payload.{kind_of, entries_of};
+ghost use Rattle.brc_count.specs.law.world.declared.event.Change.TheVariants as changes;
+ghost use Rattle.brc_count.specs.table.Shown.{contents_of};
 ghost use Rattle.brc_count.specs.Frames.{IsUnlocked, IsAsBefore, Owns};
 ghost use Rattle.brc_count.specs.Locking.{KeepsThread, KeepsFrame, contents_found, place_locked};
 ghost use Rattle.brc_count.specs.Owned.{Keeps, Gains, Loses};
@@ -19,8 +19,8 @@ ghost use Rattle.brc_lists.specs.Within.{HasLocked, EndsWith, PutsIn, SwapsIn, T
 ghost use Rattle.brc_lists.specs.Within.{RefusesEntry, RefusesPlace};
 
 use crate::rows::{entry_in, make_room};
-use brc_biased::Home;
-use brc_block::Block;
+use brc_count::biased::Home;
+use brc_count::block::Block;
 use brc_count::{Frame, Handed, Handle};
 use brc_words::{Fault, Kind};
 use std::alloc::Allocator;

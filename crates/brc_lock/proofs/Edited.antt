@@ -3,18 +3,18 @@ use Rattle.std.proofs.Common.{◌≡◌, ◌≢◌, All, ℕ, List, [], ◌∷�
 use Rattle.std.proofs.Common.{slice_get, slice_set, remove, zero, suc, length, ◌<◌, arith}
 use Rattle.std.proofs.lemmas.List.Elements.{All-map}
 use Rattle.brc_words.specs.declared.key.Key.{Key}
-use Rattle.brc_block.specs.Pairs.{keys_in as pair_keys, cells_in}
-use Rattle.brc_block.specs.Payload.{entries_of}
-use Rattle.brc_block.proofs.Columns.{map-remove}
-use Rattle.brc_block.specs.declared.payload.Payload.{Payload}
-use Rattle.brc_block.specs.declared.payload.Payload.TheVariants as payloads
-use Rattle.law_rule.specs.declared.contents.PlainKey.{PlainKey}
-use Rattle.law_rule.specs.declared.contents.Contents.{Contents}
-use Rattle.law_rule.specs.declared.contents.Contents.TheVariants.{Nothing, Truth, Int, Text, «List» as Cells, Dict}
-use Rattle.law_rule.specs.declared.contents.Contents.TheVariants.{Mailbox}
-use Rattle.law_rule.specs.Keys.{keys_in, KeyPut}
-use Rattle.law_rule.specs.Logs.{entries_in}
-use Rattle.brc_table.specs.Shown.{contents_of, plain_key}
+use Rattle.brc_count.specs.block.Pairs.{keys_in as pair_keys, cells_in}
+use Rattle.brc_count.specs.block.Payload.{entries_of}
+use Rattle.brc_count.proofs.block.Columns.{map-remove}
+use Rattle.brc_count.specs.block.declared.payload.Payload.{Payload}
+use Rattle.brc_count.specs.block.declared.payload.Payload.TheVariants as payloads
+use Rattle.brc_count.specs.law.rule.declared.contents.PlainKey.{PlainKey}
+use Rattle.brc_count.specs.law.rule.declared.contents.Contents.{Contents}
+use Rattle.brc_count.specs.law.rule.declared.contents.Contents.TheVariants.{Nothing, Truth, Int, Text, «List» as Cells, Dict}
+use Rattle.brc_count.specs.law.rule.declared.contents.Contents.TheVariants.{Mailbox}
+use Rattle.brc_count.specs.law.rule.Keys.{keys_in, KeyPut}
+use Rattle.brc_count.specs.law.rule.Logs.{entries_in}
+use Rattle.brc_count.specs.table.Shown.{contents_of, plain_key}
 use Rattle.brc_lock.specs.Edits.{with_value, with_last, without, replaced, KeyFits}
 
 first_same : {X : Type 0} {x y : X} {xs ys : List X} → x ∷ xs ≡ y ∷ ys → x ≡ y

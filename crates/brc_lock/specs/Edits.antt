@@ -2,10 +2,10 @@
 use Rattle.std.specs.Prelude.{◌≢◌, ℕ, ◌++◌, List, [], ◌∷◌, Option, Some, None, slice_set, remove, zero, suc}
 use Rattle.std.specs.List.{All}
 use Rattle.brc_words.specs.declared.key.Key.{Key}
-use Rattle.brc_table.specs.Shown.{plain_key}
-use Rattle.law_rule.specs.declared.contents.PlainKey.{PlainKey}
-use Rattle.law_rule.specs.declared.contents.Contents.{Contents}
-use Rattle.law_rule.specs.declared.contents.Contents.TheVariants.{«List» as Cells, Dict, Mailbox}
+use Rattle.brc_count.specs.table.Shown.{plain_key}
+use Rattle.brc_count.specs.law.rule.declared.contents.PlainKey.{PlainKey}
+use Rattle.brc_count.specs.law.rule.declared.contents.Contents.{Contents}
+use Rattle.brc_count.specs.law.rule.declared.contents.Contents.TheVariants.{«List» as Cells, Dict, Mailbox}
 
 -- another cell beside the key of a pair
 abbrev pub with_value : List (PlainKey × ℕ) → ℕ → ℕ → List (PlainKey × ℕ)

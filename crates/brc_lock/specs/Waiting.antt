@@ -1,6 +1,6 @@
 -- Locking an object once no other thread has it locked.
 use Rattle.std.specs.Prelude.{ℕ}
-use Rattle.brc_block.specs.declared.payload.Payload.{Payload}
+use Rattle.brc_count.specs.block.declared.payload.Payload.{Payload}
 use Rattle.brc_count.specs.Frames.{FrameSeen}
 use Rattle.brc_count.specs.Locking.{Began, Busy, KeepsThread, KeepsFrame}
 

@@ -2,12 +2,12 @@
 
 ghost use Rattle.std.specs.Prelude.{◌≡◌, ◌<◌, ◌≤◌, Some, true, length, slice_get, OnOk, OnErr};
 ghost use Rattle.brc_words.specs.Kinds.{is_container};
-ghost use Rattle.law_rule.specs.Logs.{kind_in, entries_in};
-ghost use Rattle.brc_block.specs.Payload.{spare_of};
-ghost use Rattle.brc_table.specs.Shown.{contents_of};
+ghost use Rattle.brc_count.specs.law.rule.Logs.{kind_in, entries_in};
+ghost use Rattle.brc_count.specs.block.Payload.{spare_of};
+ghost use Rattle.brc_count.specs.table.Shown.{contents_of};
 ghost use Rattle.brc_lock.specs.Edits.{with_last, without, replaced, KeyFits};
 
-use brc_block::{Entries, Payload};
+use brc_count::block::{Entries, Payload};
 use brc_words::Key;
 use std::alloc::{AllocError, Allocator};
 

@@ -3,10 +3,10 @@
 ghost use Rattle.std.specs.Prelude.{◌≡◌, ◌≢◌, ◌<◌, ◌+◌, ◌≤◌, ℕ, Some, None, true, length, slice_get, IfOk, IfErr};
 ghost use Rattle.brc_words.specs.Kinds.{is_container};
 ghost use Rattle.brc_words.specs.declared.limits.TheConstants.{MOST_PLACES};
-ghost use Rattle.law_world.specs.declared.event.Change.TheVariants as changes;
-ghost use Rattle.law_world.specs.declared.event.Source.TheVariants as sources;
-ghost use Rattle.law_rule.specs.Logs.{kind_in, entries_in};
-ghost use Rattle.brc_table.specs.Shown.{contents_of};
+ghost use Rattle.brc_count.specs.law.world.declared.event.Change.TheVariants as changes;
+ghost use Rattle.brc_count.specs.law.world.declared.event.Source.TheVariants as sources;
+ghost use Rattle.brc_count.specs.law.rule.Logs.{kind_in, entries_in};
+ghost use Rattle.brc_count.specs.table.Shown.{contents_of};
 ghost use Rattle.brc_count.specs.Frames.{Owns, Given, Refused, IsAsBefore, IsUnlocked};
 ghost use Rattle.brc_count.specs.Owned.{Keeps, Gains, Loses};
 ghost use Rattle.brc_count.specs.Locking.{KeepsFrame, KeepsLock, ChangesPlace, cell_in};
@@ -14,8 +14,8 @@ ghost use Rattle.brc_lock.specs.Edits.{with_last, without, replaced, KeyFits};
 ghost use Rattle.brc_lock.specs.Holding.{Holds, Unlocks, HasRoom, RefusedRoom};
 
 use crate::edits::{make_room, put_last, set_at, take_at};
-use brc_biased::Home;
-use brc_block::{Block, Payload};
+use brc_count::biased::Home;
+use brc_count::block::{Block, Payload};
 use brc_count::{Frame, Handle};
 use brc_words::{Fault, Key, MOST_ENTRIES};
 use std::alloc::Allocator;

@@ -11,8 +11,8 @@ ghost use Rattle.brc_lock.specs.Waiting.{IsBusy, BeginsLate};
 ghost use Rattle.brc_lock.specs.Holding.{Holds};
 
 use crate::locked::Locked;
-use brc_biased::Home;
-use brc_block::Block;
+use brc_count::biased::Home;
+use brc_count::block::Block;
 use brc_count::{Frame, Handle};
 use brc_words::Fault;
 use std::alloc::Allocator;

@@ -4,7 +4,7 @@ use Rattle.std.specs.List.{All}
 use Rattle.std.proofs.lemmas.List.{map-append}
 use Rattle.std.proofs.lemmas.List.Elements.{All-head, All-rest, All-push, All-same}
 use Rattle.brc_count.specs.Frames.{FrameSeen}
-use Rattle.brc_table.specs.Seated.{TableSeen}
+use Rattle.brc_count.specs.table.Seated.{TableSeen}
 use Rattle.brc_loops.specs.declared.threads.Ended.{Ended}
 
 -- one more rests beside the others, for which room was made

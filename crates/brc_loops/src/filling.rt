@@ -6,7 +6,7 @@ ghost use Rattle.brc_count.specs.Owned.{Keeps, Gains};
 ghost use Rattle.brc_handles.specs.Handles.{filled, IsApart, OwnsEach};
 ghost use Rattle.brc_loops.specs.Turns.{Turns, Fills, LacksIn};
 
-use brc_biased::Home;
+use brc_count::biased::Home;
 use brc_count::{Frame, Handle};
 use brc_handles::Handles;
 use std::alloc::Allocator;

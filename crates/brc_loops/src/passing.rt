@@ -5,7 +5,7 @@ ghost use Rattle.brc_count.specs.Frames.{FrameSeen, HandleSeen, IsUnlocked, Owns
 ghost use Rattle.brc_count.specs.Owned.{Loses, Trades};
 ghost use Rattle.brc_loops.specs.Turns.{Turns, Passes, FailsPassing};
 
-use brc_biased::Home;
+use brc_count::biased::Home;
 use brc_count::Frame;
 use std::alloc::Allocator;
 

@@ -5,7 +5,7 @@ ghost use Rattle.brc_count.specs.Frames.{FrameSeen, IsUnlocked};
 ghost use Rattle.brc_count.specs.Owned.{Keeps};
 ghost use Rattle.brc_loops.specs.Turns.{Turns, FailsIn};
 
-use brc_biased::Home;
+use brc_count::biased::Home;
 use brc_count::Frame;
 use std::alloc::Allocator;
 

@@ -12,7 +12,7 @@ ghost use Rattle.brc_lists.specs.Calls.{MailboxReceive};
 ghost use Rattle.brc_dicts.specs.Calls.{DictFind};
 ghost use Rattle.brc_loops.specs.Stopping.{IfGot, UnlessGot, IfStopped, IfRefused, LastTry};
 
-use brc_biased::Home;
+use brc_count::biased::Home;
 use brc_count::{Frame, Handle};
 use brc_dicts::try_dict_find;
 use brc_lists::try_recv;

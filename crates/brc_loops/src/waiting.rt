@@ -7,7 +7,7 @@ ghost use Rattle.brc_loops.specs.declared.waiting.Look.{Look};
 ghost use Rattle.brc_loops.specs.declared.waiting.Look.TheVariants as looks;
 ghost use Rattle.brc_loops.specs.Turns.{LooksUntil};
 
-use brc_biased::Home;
+use brc_count::biased::Home;
 use brc_count::Frame;
 use std::alloc::Allocator;
 use std::sync::Wait;

@@ -10,8 +10,8 @@ ghost use Rattle.brc_places.specs.Calls.{GaveBy, GaveLate};
 ghost use Rattle.brc_places.specs.Placing.{Gives, GivesNot};
 
 use crate::placing::{To, is_there, place};
-use brc_biased::Home;
-use brc_block::KeyRef;
+use brc_count::biased::Home;
+use brc_count::block::KeyRef;
 use brc_count::{Frame, Handle};
 use brc_dicts::{dict_del_by, dict_find_by, try_dict_del_by, try_dict_find_by};
 use brc_handles::Handles;

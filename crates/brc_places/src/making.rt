@@ -1,7 +1,7 @@
 //! Makers: what is made goes into a place.
 
 ghost use Rattle.std.specs.Prelude.{◌≡◌, IfOk, IfErr, OnOk, OnErr};
-ghost use Rattle.law_rule.specs.declared.contents.Contents.TheVariants as contents;
+ghost use Rattle.brc_count.specs.law.rule.declared.contents.Contents.TheVariants as contents;
 ghost use Rattle.brc_count.specs.Frames.{IsUnlocked};
 ghost use Rattle.brc_count.specs.Making.{Made};
 ghost use Rattle.brc_count.specs.Owned.{Keeps, Gains};
@@ -11,7 +11,7 @@ ghost use Rattle.brc_places.specs.Calls.{MadeBy, RefusedText};
 ghost use Rattle.brc_places.specs.Placing.{Comes, Lacks};
 
 use crate::placing::{To, is_there, place};
-use brc_biased::Home;
+use brc_count::biased::Home;
 use brc_count::{Frame, Handle};
 use brc_handles::Handles;
 use brc_things::{new_dict, new_int, new_list, new_mailbox, new_text, none, truth};

@@ -8,7 +8,7 @@ ghost use Rattle.brc_handles.specs.Handles.{filled, IsApart, OwnsEach};
 ghost use Rattle.brc_places.specs.declared.placing.To.TheVariants as tos;
 ghost use Rattle.brc_places.specs.Placing.{IsThere, Placed};
 
-use brc_biased::Home;
+use brc_count::biased::Home;
 use brc_count::{Frame, Handle};
 use brc_handles::Handles;
 use brc_words::Fault;

@@ -5,7 +5,7 @@ ghost use Rattle.brc_handles.specs.Handles.{OwnsEach};
 ghost use Rattle.brc_handles.specs.Standing.{KeepsStanding};
 
 use crate::stack::Stack;
-use brc_biased::Home;
+use brc_count::biased::Home;
 use brc_count::Frame;
 use std::alloc::Allocator;
 use std::sync::Wait;

@@ -22,7 +22,7 @@ use crate::making::{Make, make_at};
 use crate::placing::{To, place};
 use crate::reading::int_at;
 use crate::taking::{TakeBy, take_at};
-use brc_biased::Home;
+use brc_count::biased::Home;
 use brc_count::{Frame, Handle};
 use brc_handles::Handles;
 use brc_words::Fault;

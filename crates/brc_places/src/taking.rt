@@ -10,8 +10,8 @@ ghost use Rattle.brc_handles.specs.Standing.{KeepsStanding};
 ghost use Rattle.brc_places.specs.Calls.{TookBy, TookLate};
 ghost use Rattle.brc_places.specs.Placing.{Takes, TakesNot};
 
-use brc_biased::Home;
-use brc_block::KeyRef;
+use brc_count::biased::Home;
+use brc_count::block::KeyRef;
 use brc_count::{Frame, Handed, Handle};
 use brc_dicts::{dict_set, try_dict_set};
 use brc_handles::Handles;

@@ -1,13 +1,13 @@
 -- What an entry into a queue word tells.
 use Rattle.std.specs.Prelude.{◌≡◌, ℕ, if◌then◌else◌, List, ◌∷◌}
-use Rattle.law_world.specs.declared.event.Step.TheVariants.{Enqueue}
-use Rattle.law_world.specs.declared.row.Hand.{Hand}
-use Rattle.law_world.specs.declared.row.Hand.TheVariants as hands
-use Rattle.law_world.specs.declared.row.Phase.TheVariants as phases
-use Rattle.law_rule.specs.declared.told.Moved.TheVariants.{Nothing}
-use Rattle.law_rule.specs.declared.told.Told.{Told}
-use Rattle.law_rule.specs.declared.told.Told.TheVariants.{Did}
-use Rattle.law_known.specs.Items.{is_shut_word}
+use Rattle.law.specs.world.declared.event.Step.TheVariants.{Enqueue}
+use Rattle.law.specs.world.declared.row.Hand.{Hand}
+use Rattle.law.specs.world.declared.row.Hand.TheVariants as hands
+use Rattle.law.specs.world.declared.row.Phase.TheVariants as phases
+use Rattle.law.specs.rule.declared.told.Moved.TheVariants.{Nothing}
+use Rattle.law.specs.rule.declared.told.Told.{Told}
+use Rattle.law.specs.rule.declared.told.Told.TheVariants.{Did}
+use Rattle.law.specs.known.Items.{is_shut_word}
 use Rattle.brc_queue.specs.declared.queue.Enqueued.{Enqueued}
 use Rattle.brc_queue.specs.declared.queue.Enqueued.TheVariants.{Accepted, Closed}
 

@@ -2,17 +2,17 @@
 //! look at, and a popped object's local count joins its shared one.
 
 ghost use Rattle.std.specs.Prelude.{◌+◌, ◌*◌, ◌%◌, ◌^◌, ◌≡◌, ◌<◌, ◌∷◌, Some};
-ghost use Rattle.law_world.specs.Heap.{words_for};
-ghost use Rattle.law_world.specs.declared.event.Step.TheVariants as steps;
-ghost use Rattle.law_rule.specs.declared.told.Moved.TheVariants as moves;
-ghost use Rattle.law_rule.specs.declared.told.Told.TheVariants as told;
-ghost use Rattle.law_world.specs.Steps.{added_hand};
-ghost use Rattle.law_rule.specs.Noted.{newest_step};
-ghost use Rattle.law_rule.specs.Seen.{part_seen};
-ghost use Rattle.law_world.specs.declared.row.Hand.TheVariants as hands;
-ghost use Rattle.law_world.specs.declared.row.Phase.TheVariants as phases;
-ghost use Rattle.law_steps.specs.Owing.{AddsLocal, Allowed, Closes, Enqueues, Offers, Tells};
-ghost use Rattle.law_known.specs.Going_On.{handing, popping, closing, reopening};
+ghost use Rattle.law.specs.world.Heap.{words_for};
+ghost use Rattle.law.specs.world.declared.event.Step.TheVariants as steps;
+ghost use Rattle.law.specs.rule.declared.told.Moved.TheVariants as moves;
+ghost use Rattle.law.specs.rule.declared.told.Told.TheVariants as told;
+ghost use Rattle.law.specs.world.Steps.{added_hand};
+ghost use Rattle.law.specs.rule.Noted.{newest_step};
+ghost use Rattle.law.specs.rule.Seen.{part_seen};
+ghost use Rattle.law.specs.world.declared.row.Hand.TheVariants as hands;
+ghost use Rattle.law.specs.world.declared.row.Phase.TheVariants as phases;
+ghost use Rattle.law.specs.steps.Owing.{AddsLocal, Allowed, Closes, Enqueues, Offers, Tells};
+ghost use Rattle.law.specs.known.Going_On.{handing, popping, closing, reopening};
 ghost use Rattle.brc_table.specs.Knowing.{known_seen, Knows, Keeps};
 ghost use Rattle.brc_table.specs.Seated.{Stays};
 ghost use Rattle.brc_queue.specs.Queue.{PutIn, hand_left};

@@ -4,17 +4,17 @@ use Rattle.std.proofs.Common.{refl, sym, ◌∙◌, ap}
 use Rattle.std.specs.Prelude.{Ok}
 use Rattle.std.proofs.lemmas.Bool.{and_parts, eq-eqb, true≢false}
 use Rattle.brc_words.specs.declared.limits.TheConstants.{GLOBALS}
-use Rattle.law_world.specs.declared.event.Change.TheVariants.{Keep}
-use Rattle.law_world.specs.declared.event.Step.TheVariants.{Lock, Unlock}
-use Rattle.law_known.proofs.Kept_Law.{places_kept}
-use Rattle.law_rule.specs.declared.contents.Contents.{Contents}
-use Rattle.law_rule.specs.declared.told.Moved.TheVariants as moves
-use Rattle.law_rule.specs.declared.told.Told.{Told}
-use Rattle.law_rule.specs.declared.told.Told.TheVariants.{Did, Saw, Lost}
-use Rattle.law_rule.specs.Logs.{log_items, put_in, entries_in}
-use Rattle.law_living.specs.Quiet.{is_quiet, only_lets_go, Quietly, NoItem, OneMore}
-use Rattle.law_living.proofs.Quiet_Items.{lock_names}
-use Rattle.brc_table.specs.Seated.{TableSeen}
+use Rattle.brc_count.specs.law.world.declared.event.Change.TheVariants.{Keep}
+use Rattle.brc_count.specs.law.world.declared.event.Step.TheVariants.{Lock, Unlock}
+use Rattle.brc_count.proofs.law.known.Kept_Law.{places_kept}
+use Rattle.brc_count.specs.law.rule.declared.contents.Contents.{Contents}
+use Rattle.brc_count.specs.law.rule.declared.told.Moved.TheVariants as moves
+use Rattle.brc_count.specs.law.rule.declared.told.Told.{Told}
+use Rattle.brc_count.specs.law.rule.declared.told.Told.TheVariants.{Did, Saw, Lost}
+use Rattle.brc_count.specs.law.rule.Logs.{log_items, put_in, entries_in}
+use Rattle.brc_count.specs.law.living.Quiet.{is_quiet, only_lets_go, Quietly, NoItem, OneMore}
+use Rattle.brc_count.proofs.law.living.Quiet_Items.{lock_names}
+use Rattle.brc_count.specs.table.Seated.{TableSeen}
 use Rattle.brc_count.specs.Frames.{FrameSeen, place_seen}
 use Rattle.brc_count.specs.Locking.{cell_in}
 use Rattle.brc_count.proofs.Quiet.{release_quietly}

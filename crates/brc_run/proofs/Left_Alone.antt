@@ -5,33 +5,33 @@ use Rattle.std.proofs.Common.{Some, None, refl, sym, ◌∙◌, ap, subst, inl, 
 use Rattle.std.proofs.lemmas.Bool.{cases_eq, eq-eqb, ne_eqb, and_parts, lt-ltb, ltb-true, true≢false}
 use Rattle.std.proofs.lemmas.List.{length-set, get_or-set_same, get_or_push}
 use Rattle.std.specs.Cmp.Derive.{both_true}
-use Rattle.law_world.specs.declared.event.Event.{Event}
-use Rattle.law_world.specs.declared.event.Step.{Step}
-use Rattle.law_world.specs.declared.event.Step.TheVariants.{Register, Gather}
-use Rattle.law_world.specs.Heap.{Heap, new_row, again_row, is_registered, is_gathered, AreOptions}
-use Rattle.law_world.specs.Runs.{IsReached}
-use Rattle.law_world.specs.Sound.{IsSound}
-use Rattle.law_world.specs.Steps.{root_after, root_may, thread_may, registered, registered_again}
-use Rattle.law_world.proofs.Asking.{May, may_parts}
-use Rattle.law_world.proofs.Reached.{reached_sound}
-use Rattle.law_world.proofs.Registering.{length-push}
-use Rattle.law_world.proofs.Reusing.{fresh, reused, registers}
-use Rattle.law_lasting.proofs.Lasting.{others_own}
-use Rattle.law_known.specs.Start.{start_of}
-use Rattle.law_known.specs.Items.{events_of, is_start, is_used, own}
-use Rattle.law_known.specs.Root.{gathered_of, rows_of}
-use Rattle.law_known.proofs.Items_Runs.{events_run}
-use Rattle.law_known.proofs.Root_Law.{never_root, gathered_are_told, rows_are_told}
-use Rattle.law_known.proofs.Starting.{run_reached}
-use Rattle.law_rule.specs.declared.contents.Contents.{Contents}
-use Rattle.law_rule.specs.declared.told.Moved.{Moved}
-use Rattle.law_rule.specs.declared.told.Moved.TheVariants as moves
-use Rattle.law_rule.specs.declared.told.Told.{Told}
-use Rattle.law_rule.specs.declared.told.Told.TheVariants.{Did, Saw, Lost}
-use Rattle.law_rule.specs.Logs.{item_of, log_items, Run, items_of, begins, own_of, gathered_by, lives_on, lives_of, world}
-use Rattle.law_rule.specs.Logs.{put_in, contents_at, entries_found, puts, MovesWith, IsLegal}
-use Rattle.law_rule.proofs.Own_Logs.{own_items, own_more, own_same}
-use Rattle.law_rule.proofs.Stepping.{no_start}
+use Rattle.brc_count.specs.law.world.declared.event.Event.{Event}
+use Rattle.brc_count.specs.law.world.declared.event.Step.{Step}
+use Rattle.brc_count.specs.law.world.declared.event.Step.TheVariants.{Register, Gather}
+use Rattle.brc_count.specs.law.world.Heap.{Heap, new_row, again_row, is_registered, is_gathered, AreOptions}
+use Rattle.brc_count.specs.law.world.Runs.{IsReached}
+use Rattle.brc_count.specs.law.world.Sound.{IsSound}
+use Rattle.brc_count.specs.law.world.Steps.{root_after, root_may, thread_may, registered, registered_again}
+use Rattle.brc_count.proofs.law.world.Asking.{May, may_parts}
+use Rattle.brc_count.proofs.law.world.Reached.{reached_sound}
+use Rattle.brc_count.proofs.law.world.Registering.{length-push}
+use Rattle.brc_count.proofs.law.world.Reusing.{fresh, reused, registers}
+use Rattle.brc_count.proofs.law.lasting.Lasting.{others_own}
+use Rattle.brc_count.specs.law.known.Start.{start_of}
+use Rattle.brc_count.specs.law.known.Items.{events_of, is_start, is_used, own}
+use Rattle.brc_count.specs.law.known.Root.{gathered_of, rows_of}
+use Rattle.brc_count.proofs.law.known.Items_Runs.{events_run}
+use Rattle.brc_count.proofs.law.known.Root_Law.{never_root, gathered_are_told, rows_are_told}
+use Rattle.brc_count.proofs.law.known.Starting.{run_reached}
+use Rattle.brc_count.specs.law.rule.declared.contents.Contents.{Contents}
+use Rattle.brc_count.specs.law.rule.declared.told.Moved.{Moved}
+use Rattle.brc_count.specs.law.rule.declared.told.Moved.TheVariants as moves
+use Rattle.brc_count.specs.law.rule.declared.told.Told.{Told}
+use Rattle.brc_count.specs.law.rule.declared.told.Told.TheVariants.{Did, Saw, Lost}
+use Rattle.brc_count.specs.law.rule.Logs.{item_of, log_items, Run, items_of, begins, own_of, gathered_by, lives_on, lives_of, world}
+use Rattle.brc_count.specs.law.rule.Logs.{put_in, contents_at, entries_found, puts, MovesWith, IsLegal}
+use Rattle.brc_count.proofs.law.rule.Own_Logs.{own_items, own_more, own_same}
+use Rattle.brc_count.proofs.law.rule.Stepping.{no_start}
 use Rattle.brc_thread.specs.Emptied.{AllGathered}
 use Rattle.brc_run.specs.Runs.{Life, left_in}
 
@@ -57,11 +57,11 @@ rest_is e = cc
 none_first : {X : Type 0} {y : X} {ys : List X} → [] ≡ y ∷ ys → ⊥
 none_first e = cc
 
-saw_is_no_step : (s : Step) (m : ℕ) (moved : Moved) (w : Rattle.law_known.specs.declared.word.Word.Word) (k : ℕ)
+saw_is_no_step : (s : Step) (m : ℕ) (moved : Moved) (w : Rattle.brc_count.specs.law.known.declared.word.Word.Word) (k : ℕ)
     → Saw w k ≡ Did s m moved → ⊥
 saw_is_no_step s m moved w k e = cc
 
-lost_is_no_step : (s : Step) (m : ℕ) (moved : Moved) (w : Rattle.law_known.specs.declared.word.Word.Word) (k : ℕ)
+lost_is_no_step : (s : Step) (m : ℕ) (moved : Moved) (w : Rattle.brc_count.specs.law.known.declared.word.Word.Word) (k : ℕ)
     → Lost w k ≡ Did s m moved → ⊥
 lost_is_no_step s m moved w k e = cc
 

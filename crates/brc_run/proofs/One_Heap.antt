@@ -7,7 +7,7 @@ use Rattle.std.specs.List.{All}
 use Rattle.std.proofs.lemmas.List.{append_assoc, append-nil, map-append, length_push, reverse-append}
 use Rattle.std.proofs.lemmas.List.Elements.{All-head, All-rest, All-push}
 use Rattle.brc_count.specs.Frames.{FrameSeen}
-use Rattle.brc_table.specs.Seated.{TableSeen, RootSeen}
+use Rattle.brc_count.specs.table.Seated.{TableSeen, RootSeen}
 use Rattle.brc_run.specs.declared.crew.Done.{Done}
 use Rattle.brc_run.specs.Runs.{IsReady, Life, TakesIn}
 use Rattle.brc_run.proofs.Taken.{takes_none, takes_both}

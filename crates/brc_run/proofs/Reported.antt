@@ -6,20 +6,20 @@ use Rattle.std.proofs.lemmas.List.{append-nil, length-append, length-map, length
 use Rattle.std.specs.Prelude.{IfSome}
 use Rattle.brc_script.specs.declared.script.Section.{Section}
 use Rattle.brc_section.specs.declared.section.SectionEnd.{SectionEnd}
-use Rattle.brc_table.specs.Seated.{TableSeen, RootSeen}
+use Rattle.brc_count.specs.table.Seated.{TableSeen, RootSeen}
 use Rattle.brc_run.specs.declared.crew.Done.{Done}
-use Rattle.law_rule.specs.declared.view.View.{View}
-use Rattle.law_rule.specs.declared.told.Moved.TheVariants.{Nothing}
-use Rattle.law_rule.specs.declared.told.Told.TheVariants.{Did}
-use Rattle.law_rule.specs.Logs.{Run, own_of, lives_of, world, entries_in, contents_at}
-use Rattle.law_steps.specs.Joining.{next_thread}
-use Rattle.law_world.specs.declared.event.Step.TheVariants.{Register, Gather}
-use Rattle.law_world.specs.Heap.{Heap, AreOptions}
+use Rattle.brc_count.specs.law.rule.declared.view.View.{View}
+use Rattle.brc_count.specs.law.rule.declared.told.Moved.TheVariants.{Nothing}
+use Rattle.brc_count.specs.law.rule.declared.told.Told.TheVariants.{Did}
+use Rattle.brc_count.specs.law.rule.Logs.{Run, own_of, lives_of, world, entries_in, contents_at}
+use Rattle.brc_count.specs.law.steps.Joining.{next_thread}
+use Rattle.brc_count.specs.law.world.declared.event.Step.TheVariants.{Register, Gather}
+use Rattle.brc_count.specs.law.world.Heap.{Heap, AreOptions}
 use Rattle.brc_words.specs.declared.limits.TheConstants.{FIRST_MORTAL, GLOBALS}
 use Rattle.brc_report.specs.Running.{entries_of_first}
 use Rattle.brc_thread.specs.Emptied.{used_from}
 use Rattle.brc_close.specs.Contents.{content_at, contents_of_heap}
-use Rattle.law_rule.specs.Opening.{first_view}
+use Rattle.brc_count.specs.law.rule.Opening.{first_view}
 use Rattle.brc_report.specs.declared.report.Report.{Report}
 use Rattle.brc_thread.specs.Counting.{registrations, gatherings}
 use Rattle.brc_close.specs.Closing.{Closes}

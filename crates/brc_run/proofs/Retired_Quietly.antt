@@ -1,24 +1,24 @@
 -- As a thread retires its log goes on, nothing is born, and nothing is put home. Before it hands over it only lets go,
 -- and after that, too; a hand-over begins with an Offer, by which an object is private no more.
 use Rattle.std.proofs.Common.{◌≡◌, ℕ, List, ◌∷◌, Option, refl, sym, ap, subst, ◌∙◌}
-use Rattle.law_rule.specs.declared.contents.Contents.{Contents}
-use Rattle.law_rule.specs.declared.told.Moved.TheVariants.{Nothing}
-use Rattle.law_rule.specs.declared.told.Told.{Told}
-use Rattle.law_rule.specs.declared.told.Told.TheVariants.{Did, Saw}
-use Rattle.law_world.specs.declared.event.LastDropped.TheVariants as lasts
-use Rattle.law_world.specs.declared.event.Step.TheVariants.{Close, Offer, Untie, MergeAdd, LastDown}
-use Rattle.law_living.specs.Quiet.{Quietly, NoItem, OneMore}
-use Rattle.law_living.specs.Later.{IsLater}
-use Rattle.law_living.proofs.Earlier.{later_same, later_one, later_both, quietly_later}
-use Rattle.law_living.proofs.Quiet_Items.{quietly_joined}
+use Rattle.brc_count.specs.law.rule.declared.contents.Contents.{Contents}
+use Rattle.brc_count.specs.law.rule.declared.told.Moved.TheVariants.{Nothing}
+use Rattle.brc_count.specs.law.rule.declared.told.Told.{Told}
+use Rattle.brc_count.specs.law.rule.declared.told.Told.TheVariants.{Did, Saw}
+use Rattle.brc_count.specs.law.world.declared.event.LastDropped.TheVariants as lasts
+use Rattle.brc_count.specs.law.world.declared.event.Step.TheVariants.{Close, Offer, Untie, MergeAdd, LastDown}
+use Rattle.brc_count.specs.law.living.Quiet.{Quietly, NoItem, OneMore}
+use Rattle.brc_count.specs.law.living.Later.{IsLater}
+use Rattle.brc_count.proofs.law.living.Earlier.{later_same, later_one, later_both, quietly_later}
+use Rattle.brc_count.proofs.law.living.Quiet_Items.{quietly_joined}
 use Rattle.law_isolation.proofs.Quiet_Lives.{allocs_quietly}
-use Rattle.law_known.specs.declared.word.Field.TheVariants.{Local}
-use Rattle.law_known.specs.declared.word.Word.TheVariants.{Of}
-use Rattle.law_rule.specs.Seen.{part_seen}
-use Rattle.brc_block.specs.declared.payload.Payload.{Payload}
-use Rattle.brc_table.specs.Seated.{SeatSeen}
-use Rattle.brc_biased.specs.Released.{HandsOver}
-use Rattle.brc_biased.proofs.Quiet.{ends_quietly}
+use Rattle.brc_count.specs.law.known.declared.word.Field.TheVariants.{Local}
+use Rattle.brc_count.specs.law.known.declared.word.Word.TheVariants.{Of}
+use Rattle.brc_count.specs.law.rule.Seen.{part_seen}
+use Rattle.brc_count.specs.block.declared.payload.Payload.{Payload}
+use Rattle.brc_count.specs.table.Seated.{SeatSeen}
+use Rattle.brc_count.specs.biased.Released.{HandsOver}
+use Rattle.brc_count.proofs.biased.Quiet.{ends_quietly}
 use Rattle.brc_count.specs.Closing as closing
 use Rattle.brc_count.specs.Closing.{Closes, HandsEach, GoesOut, TurnedLeaving, TurnsLeaving}
 use Rattle.brc_count.specs.Frames.{FrameSeen}

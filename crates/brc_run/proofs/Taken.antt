@@ -5,17 +5,17 @@ use Rattle.std.proofs.lemmas.List.{append_assoc}
 use Rattle.brc_words.specs.declared.fault.Fault.{Fault}
 use Rattle.brc_words.specs.declared.fault.Fault.TheVariants as faults
 use Rattle.brc_words.specs.declared.limits.TheConstants.{GLOBALS}
-use Rattle.law_known.specs.Items.{Item}
-use Rattle.law_known.specs.Items as logged
-use Rattle.law_known.specs.Root.{marks_of, marks_on, registrations_of, registrations_on}
-use Rattle.law_world.specs.Steps.{first_gathered}
+use Rattle.brc_count.specs.law.known.Items.{Item}
+use Rattle.brc_count.specs.law.known.Items as logged
+use Rattle.brc_count.specs.law.known.Root.{marks_of, marks_on, registrations_of, registrations_on}
+use Rattle.brc_count.specs.law.world.Steps.{first_gathered}
 use Rattle.std.proofs.lemmas.Bool.{cases_lt, lt-ltb, le-ltb}
 use Rattle.std.proofs.lemmas.List.{length-set, length-append}
-use Rattle.law_world.specs.declared.event.Step.TheVariants.{Register, Gather}
-use Rattle.law_rule.specs.declared.view.View.{View}
-use Rattle.law_rule.specs.Logs.{log_items, entries_in}
-use Rattle.law_steps.specs.Joining.{next_thread, registering, gathering}
-use Rattle.brc_table.specs.Seated.{RootSeen, view_of}
+use Rattle.brc_count.specs.law.world.declared.event.Step.TheVariants.{Register, Gather}
+use Rattle.brc_count.specs.law.rule.declared.view.View.{View}
+use Rattle.brc_count.specs.law.rule.Logs.{log_items, entries_in}
+use Rattle.brc_count.specs.law.steps.Joining.{next_thread, registering, gathering}
+use Rattle.brc_count.specs.table.Seated.{RootSeen, view_of}
 use Rattle.brc_count.specs.declared.ledger.Ledger.{Ledger}
 use Rattle.brc_count.specs.Frames.{FrameSeen}
 use Rattle.brc_thread.specs.Counting.{registrations}

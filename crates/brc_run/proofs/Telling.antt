@@ -9,10 +9,10 @@ use Rattle.brc_words.specs.declared.limits.TheConstants.{MOST_BIRTHS}
 use Rattle.brc_words.specs.Faults.{number_of}
 use Rattle.brc_script.specs.declared.script.Section.{Section}
 use Rattle.brc_script.specs.Scripts.{is_private}
-use Rattle.law_rule.specs.declared.told.Told.{Told}
-use Rattle.law_living.specs.Later.{IsLater}
-use Rattle.law_living.proofs.Earlier.{later_both}
-use Rattle.brc_table.specs.Seated.{TableSeen}
+use Rattle.brc_count.specs.law.rule.declared.told.Told.{Told}
+use Rattle.brc_count.specs.law.living.Later.{IsLater}
+use Rattle.brc_count.proofs.law.living.Earlier.{later_both}
+use Rattle.brc_count.specs.table.Seated.{TableSeen}
 use Rattle.brc_count.specs.declared.ledger.Ledger.{Ledger}
 use Rattle.brc_count.specs.Frames.{FrameSeen, ledger_seen}
 use Rattle.brc_meaning.specs.Sections.{meaning}

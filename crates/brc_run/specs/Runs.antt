@@ -14,12 +14,12 @@ use Rattle.brc_section.specs.declared.section.SectionEnd.{SectionEnd}
 use Rattle.brc_report.specs.declared.report.Report.{Report}
 use Rattle.brc_report.specs.Cycles.{holder_in}
 use Rattle.brc_report.specs.Running.{entries_of_first, RunsInto}
-use Rattle.law_rule.specs.declared.contents.Contents.{Contents}
-use Rattle.law_rule.specs.declared.told.Told.{Told}
-use Rattle.law_rule.specs.declared.view.View.{View}
-use Rattle.law_rule.specs.Logs.{lives_of, put_in, entries_in}
-use Rattle.law_steps.specs.Joining.{registering, gathering}
-use Rattle.brc_table.specs.Seated.{TableSeen, RootSeen}
+use Rattle.brc_count.specs.law.rule.declared.contents.Contents.{Contents}
+use Rattle.brc_count.specs.law.rule.declared.told.Told.{Told}
+use Rattle.brc_count.specs.law.rule.declared.view.View.{View}
+use Rattle.brc_count.specs.law.rule.Logs.{lives_of, put_in, entries_in}
+use Rattle.brc_count.specs.law.steps.Joining.{registering, gathering}
+use Rattle.brc_count.specs.table.Seated.{TableSeen, RootSeen}
 use Rattle.brc_count.specs.Frames.{FrameSeen, ledger_seen}
 use Rattle.brc_thread.specs.Counting.{registrations, gatherings}
 use Rattle.brc_thread.specs.Threads.{ledger_of}

@@ -6,7 +6,7 @@ ghost use Rattle.brc_count.specs.Frames.{IsUnlocked};
 ghost use Rattle.brc_thread.specs.Counting.{registrations};
 ghost use Rattle.brc_run.specs.Runs.{ClearsUp, LeavesNone};
 
-use brc_biased::Home;
+use brc_count::biased::Home;
 use brc_heap::{Heap, Root};
 use brc_thread::Mutator;
 use brc_words::Fault;

@@ -2,7 +2,7 @@
 
 ghost use Rattle.std.specs.Prelude.{◌≡◌, ◌<◌, ◌≤◌, List, [], All, length, vec_capacity};
 ghost use Rattle.brc_script.specs.declared.script.Section.{Section as section_data};
-ghost use Rattle.brc_table.specs.Seated.{TableSeen};
+ghost use Rattle.brc_count.specs.table.Seated.{TableSeen};
 ghost use Rattle.brc_run.specs.Runs.{IsDone, IsBegun, IsReady, InOrder};
 
 use crate::crew::{Done, run_one};

@@ -7,7 +7,7 @@ use Rattle.brc_words.specs.declared.fault.Fault.TheVariants as faults
 use Rattle.brc_script.specs.declared.instruction.Instruction.{Instruction}
 use Rattle.brc_script.specs.Instructions.{is_shared, registers_of, registers_differ, all_differ}
 use Rattle.brc_count.specs.Frames.{FrameSeen, HandleSeen}
-use Rattle.law_living.specs.Later.{IsLater}
+use Rattle.brc_count.specs.law.living.Later.{IsLater}
 use Rattle.law_isolation.specs.Asked.{Follows}
 use Rattle.brc_instructions.specs.Causes.{Caused}
 use Rattle.brc_instructions.specs.Registers.{Stands}

@@ -4,16 +4,16 @@ use Rattle.std.proofs.Common.{sym, ap, subst, false, true≢false}
 use Rattle.brc_words.specs.declared.fault.Fault.{Fault}
 use Rattle.brc_script.specs.declared.instruction.Instruction.{Instruction}
 use Rattle.brc_script.specs.declared.instruction.Instruction.TheVariants as does
-use Rattle.brc_table.specs.Seated.{TableSeen}
+use Rattle.brc_count.specs.table.Seated.{TableSeen}
 use Rattle.brc_count.specs.Frames.{FrameSeen, HandleSeen, KeepsHandles, Turns}
 use Rattle.brc_count.specs.Polling.{Polled}
 use Rattle.brc_meaning.specs.declared.state.State.{State}
 use Rattle.brc_meaning.specs.Steps.{after}
 use Rattle.brc_instructions.specs.declared.shown.Shown.{Shown}
 use Rattle.brc_instructions.specs.Printing.{text_shown, with_line, PrintsFrom}
-use Rattle.law_living.specs.Living.{OwnLog}
-use Rattle.law_living.specs.Later.{IsLater}
-use Rattle.law_living.proofs.Earlier.{own_earlier, quietly_later}
+use Rattle.brc_count.specs.law.living.Living.{OwnLog}
+use Rattle.brc_count.specs.law.living.Later.{IsLater}
+use Rattle.brc_count.proofs.law.living.Earlier.{own_earlier, quietly_later}
 use Rattle.law_isolation.specs.Asked.{Follows}
 use Rattle.law_isolation.specs.Means.{Means, Shows}
 use Rattle.law_isolation.specs.Goes.{is_want}

@@ -8,7 +8,7 @@ use Rattle.brc_words.specs.declared.fault.Fault.TheVariants as faults
 use Rattle.brc_script.specs.declared.script.Section.{Section}
 use Rattle.brc_script.specs.Instructions.{NumberedLine}
 use Rattle.brc_script.specs.Scripts.{is_private}
-use Rattle.brc_table.specs.Seated.{TableSeen}
+use Rattle.brc_count.specs.table.Seated.{TableSeen}
 use Rattle.brc_count.specs.Frames.{FrameSeen, HandleSeen, ledger_seen}
 use Rattle.brc_handles.specs.Handles.{IsBare}
 use Rattle.brc_meaning.specs.declared.state.State.{State}
@@ -19,9 +19,9 @@ use Rattle.brc_meaning.proofs.WrittenOut.{section_written_out}
 use Rattle.law_means.specs.Fronts.{IsFront}
 use Rattle.law_means.proofs.Fronts_Law.{front_meant}
 use Rattle.law_means.proofs.Private_Lines.{private_lines}
-use Rattle.law_living.specs.Living.{OwnLog}
-use Rattle.law_living.specs.Quiet.{Quietly}
-use Rattle.law_living.proofs.Earlier.{own_before}
+use Rattle.brc_count.specs.law.living.Living.{OwnLog}
+use Rattle.brc_count.specs.law.living.Quiet.{Quietly}
+use Rattle.brc_count.proofs.law.living.Earlier.{own_before}
 use Rattle.law_isolation.specs.Means.{Means, SIXTEEN}
 use Rattle.law_isolation.specs.Goes.{is_machines}
 use Rattle.law_isolation.specs.Lines.{At, WentOn, BrokeOff, Stopped, Faulted}

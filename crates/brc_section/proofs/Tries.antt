@@ -5,13 +5,13 @@ use Rattle.brc_words.specs.declared.fault.Fault.{Fault}
 use Rattle.brc_words.specs.declared.fault.Fault.TheVariants as faults
 use Rattle.brc_words.specs.declared.key.Key.{Key}
 use Rattle.brc_script.specs.declared.instruction.Instruction.{Instruction}
-use Rattle.brc_table.specs.Seated.{TableSeen}
+use Rattle.brc_count.specs.table.Seated.{TableSeen}
 use Rattle.brc_count.specs.Frames.{FrameSeen, HandleSeen, KeepsHandles, Turns}
 use Rattle.brc_count.specs.Polling.{Polled}
 use Rattle.brc_meaning.specs.Steps.{after}
-use Rattle.law_living.specs.Living.{OwnLog}
-use Rattle.law_living.specs.Later.{IsLater}
-use Rattle.law_living.proofs.Earlier.{own_earlier, later_same, later_both, quietly_later}
+use Rattle.brc_count.specs.law.living.Living.{OwnLog}
+use Rattle.brc_count.specs.law.living.Later.{IsLater}
+use Rattle.brc_count.proofs.law.living.Earlier.{own_earlier, later_same, later_both, quietly_later}
 use Rattle.law_isolation.specs.Goes.{is_want, Goes}
 use Rattle.law_isolation.specs.Asked.{Follows}
 use Rattle.brc_count.proofs.Quiet.{turns_quietly, polled_quietly}

@@ -11,9 +11,9 @@ use Rattle.brc_meaning.specs.Sections.{written_out}
 use Rattle.brc_count.specs.Frames.{FrameSeen, KeepsHandles, Turns, ledger_seen}
 use Rattle.brc_count.specs.Polling.{Polled}
 use Rattle.brc_count.proofs.Quiet.{turns_quietly, polled_quietly}
-use Rattle.law_living.specs.Later.{IsLater}
-use Rattle.law_living.specs.Quiet.{Quietly}
-use Rattle.law_living.proofs.Earlier.{later_both, quietly_later}
+use Rattle.brc_count.specs.law.living.Later.{IsLater}
+use Rattle.brc_count.specs.law.living.Quiet.{Quietly}
+use Rattle.brc_count.proofs.law.living.Earlier.{later_both, quietly_later}
 use Rattle.brc_instructions.specs.declared.shown.Shown.{Shown}
 use Rattle.brc_instructions.specs.Causes.{NoneWasFree, WantsNoRoom, Caused}
 use Rattle.brc_instructions.proofs.Causes_Of.{uncaused, uncaused_memory, caused_from, caused_on, none_quietly, born_quietly}

@@ -4,7 +4,7 @@ use Rattle.brc_words.specs.declared.fault.Fault.{Fault}
 use Rattle.brc_words.specs.declared.fault.Fault.TheVariants as faults
 use Rattle.brc_script.specs.declared.instruction.Instruction.{Instruction}
 use Rattle.brc_count.specs.Frames.{FrameSeen, HandleSeen}
-use Rattle.law_living.specs.Later.{IsLater}
+use Rattle.brc_count.specs.law.living.Later.{IsLater}
 use Rattle.brc_instructions.specs.Registers.{Stands}
 use Rattle.brc_section.specs.Stepping.{FollowsOwn, WantsOfOwn}
 

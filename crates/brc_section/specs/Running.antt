@@ -9,7 +9,7 @@ use Rattle.brc_count.specs.Frames.{FrameSeen, HandleSeen, ledger_seen}
 use Rattle.brc_meaning.specs.declared.state.State.{State}
 use Rattle.brc_meaning.specs.States.{start}
 use Rattle.brc_meaning.specs.Sections.{lines_after}
-use Rattle.law_living.specs.Living.{OwnLog}
+use Rattle.brc_count.specs.law.living.Living.{OwnLog}
 use Rattle.law_isolation.specs.Goes.{is_want, is_machines}
 use Rattle.law_isolation.specs.Lines.{At, WentOn, BrokeOff, Stopped}
 use Rattle.brc_instructions.specs.declared.shown.Shown.{Shown}

@@ -2,8 +2,8 @@
 use Rattle.std.specs.Prelude.{◌≡◌, ℕ, List, Option}
 use Rattle.brc_count.specs.Frames.{FrameSeen, HandleSeen}
 use Rattle.brc_meaning.specs.declared.state.State.{State}
-use Rattle.law_living.specs.Living.{OwnLog}
-use Rattle.law_living.specs.Later.{IsLater}
+use Rattle.brc_count.specs.law.living.Living.{OwnLog}
+use Rattle.brc_count.specs.law.living.Later.{IsLater}
 use Rattle.law_isolation.specs.Means.{Means}
 
 module _ {A : Type 0} where

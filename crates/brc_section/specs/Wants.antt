@@ -4,7 +4,7 @@ use Rattle.brc_words.specs.declared.fault.Fault.{Fault}
 use Rattle.brc_words.specs.declared.fault.Fault.TheVariants as faults
 use Rattle.brc_words.specs.declared.limits.TheConstants.{MOST_BIRTHS}
 use Rattle.brc_count.specs.Frames.{FrameSeen, ledger_seen}
-use Rattle.law_living.specs.Later.{IsLater}
+use Rattle.brc_count.specs.law.living.Later.{IsLater}
 use Rattle.brc_instructions.specs.Causes.{Caused}
 pub use Rattle.brc_instructions.specs.Causes.{NoneWasFree}
 use Rattle.brc_section.specs.declared.running.Halt.{Halt}

@@ -3,7 +3,7 @@
 ghost use Rattle.std.specs.Prelude.{◌≡◌, ◌≢◌, ℕ, ◌∷◌, [], false, IfErr};
 ghost use Rattle.std.specs.List.{repeat};
 ghost use Rattle.brc_words.specs.declared.fault.Fault.TheVariants as faults;
-ghost use Rattle.law_living.specs.Later.{IsLater};
+ghost use Rattle.brc_count.specs.law.living.Later.{IsLater};
 ghost use Rattle.brc_instructions.specs.Causes.{Caused};
 ghost use Rattle.brc_instructions.specs.Registers.{Stands};
 ghost use Rattle.brc_script.specs.Instructions.{is_shared};
@@ -21,7 +21,7 @@ use crate::names::{Names, name_at};
 use crate::stepping::Silent;
 use crate::waiting::Seated;
 use crate::watching::{tell_made, tell_refused};
-use brc_biased::Home;
+use brc_count::biased::Home;
 use brc_count::Frame;
 use brc_instructions::{Does, Done, Print, Reads, Registers, Shown, add_shown};
 use brc_script::{Instruction, Line, Piece, Register};

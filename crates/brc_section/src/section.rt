@@ -18,7 +18,7 @@ use crate::gate::Gate;
 use crate::names::Names;
 use crate::running::{Halt, run_pieces};
 use crate::waiting::Seated;
-use brc_biased::Home;
+use brc_count::biased::Home;
 use brc_count::Frame;
 use brc_instructions::Registers;
 use brc_script::{Piece, Section};

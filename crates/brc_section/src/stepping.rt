@@ -3,7 +3,7 @@
 ghost use Rattle.std.specs.Prelude.{◌≡◌, ◌≢◌, ⊤, IfErr};
 ghost use Rattle.brc_words.specs.declared.fault.Fault.TheVariants as faults;
 ghost use Rattle.brc_script.specs.declared.instruction.Instruction.TheVariants as does;
-ghost use Rattle.law_living.specs.Later.{IsLater};
+ghost use Rattle.brc_count.specs.law.living.Later.{IsLater};
 ghost use Rattle.brc_instructions.specs.Registers.{Stands};
 ghost use Rattle.brc_section.specs.Lines.{Led};
 ghost use Rattle.brc_section.specs.Stepping.{FollowsOwn, WantsOfOwn};
@@ -15,7 +15,7 @@ use crate::lines::{
 };
 use crate::names::key_of;
 use crate::waiting::{Await, Awaited, Look, Seated};
-use brc_biased::Home;
+use brc_count::biased::Home;
 use brc_count::Frame;
 use brc_instructions::{Does, Done, GiveGlobal, Giving, Registers, Share};
 use brc_script::{Instruction, Register};

@@ -3,20 +3,20 @@ use Rattle.std.proofs.Common.{◌≡◌, ℕ, ◌<◌, ◌≤◌, Bool, true, Li
 use Rattle.std.proofs.lemmas.Bool.{cases_Bool, true≢false}
 use Rattle.atomic_table.specs.Table.{Allows}
 use Rattle.brc_words.specs.declared.limits.TheConstants.{MOST_THREADS}
-use Rattle.law_world.specs.declared.event.Step.TheVariants.{MergeAdd}
-use Rattle.law_world.specs.Holding.{carries}
-use Rattle.law_known.specs.declared.word.Field.TheVariants.{Owner, Local}
-use Rattle.law_known.specs.declared.word.Word.{Word}
-use Rattle.law_known.specs.declared.word.Word.TheVariants.{Of, Queue}
-use Rattle.law_known.specs.Items.{IsWord}
-use Rattle.law_rule.specs.declared.contents.Contents.{Contents}
-use Rattle.law_rule.specs.declared.told.Told.TheVariants.{Saw}
-use Rattle.law_rule.specs.declared.view.View.{View}
-use Rattle.law_rule.specs.Layout.{spot}
-use Rattle.law_rule.specs.Rule.{with_told, Kept}
-use Rattle.law_rule.specs.Seen.{part_seen, own_may}
-use Rattle.law_rule.proofs.Looking.{looks}
-use Rattle.law_rule.proofs.Small_Looks.{looks_owner, looks_local}
+use Rattle.law.specs.world.declared.event.Step.TheVariants.{MergeAdd}
+use Rattle.law.specs.world.Holding.{carries}
+use Rattle.law.specs.known.declared.word.Field.TheVariants.{Owner, Local}
+use Rattle.law.specs.known.declared.word.Word.{Word}
+use Rattle.law.specs.known.declared.word.Word.TheVariants.{Of, Queue}
+use Rattle.law.specs.known.Items.{IsWord}
+use Rattle.law.specs.rule.declared.contents.Contents.{Contents}
+use Rattle.law.specs.rule.declared.told.Told.TheVariants.{Saw}
+use Rattle.law.specs.rule.declared.view.View.{View}
+use Rattle.law.specs.rule.Layout.{spot}
+use Rattle.law.specs.rule.Rule.{with_told, Kept}
+use Rattle.law.specs.rule.Seen.{part_seen, own_may}
+use Rattle.law.proofs.rule.Looking.{looks}
+use Rattle.law.proofs.rule.Small_Looks.{looks_owner, looks_local}
 use Rattle.brc_table.specs.Machine.{MayFind}
 
 -- the cell whose word it is

@@ -2,15 +2,15 @@
 use Rattle.std.proofs.Common.{◌≡◌, ℕ, ◌<◌, ◌^◌, true, List, Option, sym, ◌∙◌, ap, subst}
 use Rattle.brc_block.specs.declared.payload.Payload.{Payload}
 use Rattle.atomic_table.specs.Table.{Me, rest}
-use Rattle.law_known.proofs.Queued_Law.{reached_frees}
-use Rattle.law_known.specs.declared.word.Word.{Word}
-use Rattle.law_rule.specs.declared.told.Told.{Told}
-use Rattle.law_rule.specs.declared.view.View.{View}
-use Rattle.law_rule.specs.Rule.{with_told}
-use Rattle.law_world.specs.Heap.{Heap}
-use Rattle.law_world.specs.declared.row.Row.{Row}
-use Rattle.law_rule.proofs.Knowing.{Known}
-use Rattle.law_steps.proofs.Telling.{tells_after}
+use Rattle.law.proofs.known.Queued_Law.{reached_frees}
+use Rattle.law.specs.known.declared.word.Word.{Word}
+use Rattle.law.specs.rule.declared.told.Told.{Told}
+use Rattle.law.specs.rule.declared.view.View.{View}
+use Rattle.law.specs.rule.Rule.{with_told}
+use Rattle.law.specs.world.Heap.{Heap}
+use Rattle.law.specs.world.declared.row.Row.{Row}
+use Rattle.law.proofs.rule.Knowing.{Known}
+use Rattle.law.proofs.steps.Telling.{tells_after}
 use Rattle.brc_table.specs.Moving.{MayGiveBy, MayGiveByOfFew, FewFrees}
 use Rattle.brc_table.specs.Shown.{shows}
 

@@ -5,11 +5,11 @@ use Rattle.std.proofs.lemmas.Bool.{cases_eq, cases_lt, ne_eqb}
 use Rattle.std.proofs.lemmas.Grind.{same_number_lists}
 use Rattle.std.proofs.lemmas.List.{get_or-set_same, get_or-set_other, length-set, length-replicate, get_or-replicate, get_or_past}
 use Rattle.brc_words.specs.declared.limits.TheConstants.{FIRST_MORTAL, IMMORTAL_LOCAL, MOST_CELLS}
-use Rattle.law_known.specs.declared.word.Field.TheVariants.{Shared}
-use Rattle.law_known.specs.declared.word.Word.TheVariants.{Of, FreeWord}
-use Rattle.law_known.specs.Free_Words.{free_words_for}
-use Rattle.law_rule.specs.Layout.{counts_from, queues_from, extent}
-use Rattle.law_rule.proofs.Spots.{inside}
+use Rattle.law.specs.known.declared.word.Field.TheVariants.{Shared}
+use Rattle.law.specs.known.declared.word.Word.TheVariants.{Of, FreeWord}
+use Rattle.law.specs.known.Free_Words.{free_words_for}
+use Rattle.law.specs.rule.Layout.{counts_from, queues_from, extent}
+use Rattle.law.proofs.rule.Spots.{inside}
 use Rattle.brc_table.specs.Opening.{opening_free, opening_count, opening_word, opening_words}
 use Rattle.brc_table.proofs.Opened.{among_counts, between, among_free, past_counts, length-opening_words, read_word}
 

@@ -9,12 +9,12 @@ use Rattle.std.proofs.lemmas.Bool.{true≢false}
 use Rattle.std.specs.Cmp.Derive.{both_true}
 use Rattle.std.proofs.lemmas.Nat.Bits.{bit_at_ones, bit_at-lt}
 use Rattle.brc_words.specs.declared.limits.TheConstants.{MOST_THREADS}
-use Rattle.law_world.specs.Steps.{first_gathered}
-use Rattle.law_world.specs.declared.event.Step.TheVariants.{Register, Gather}
-use Rattle.law_world.proofs.Changes.{read_here, read_there}
-use Rattle.law_world.proofs.Registering.{length-push, push_else}
-use Rattle.law_known.specs.Items.{Item, Did}
-use Rattle.law_known.specs.Root.{marks_of, marks_on, rows_of}
+use Rattle.law.specs.world.Steps.{first_gathered}
+use Rattle.law.specs.world.declared.event.Step.TheVariants.{Register, Gather}
+use Rattle.law.proofs.world.Changes.{read_here, read_there}
+use Rattle.law.proofs.world.Registering.{length-push, push_else}
+use Rattle.law.specs.known.Items.{Item, Did}
+use Rattle.law.specs.known.Root.{marks_of, marks_on, rows_of}
 use Rattle.brc_table.specs.Numbers.{in_use, AreFree, IsLowest}
 
 -- ---- the first that is gathered

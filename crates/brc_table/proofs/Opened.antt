@@ -13,29 +13,29 @@ use mathlib.Core.Option.{some}
 use lib.ListN.{get_elem?}
 use Rattle.atomic_table.specs.Table as tables
 use Rattle.brc_words.specs.declared.limits.TheConstants.{FIRST_MORTAL, IMMORTAL_LOCAL, MOST_CELLS}
-use Rattle.law_world.specs.declared.cell.Cell.{Cell}
-use Rattle.law_world.specs.Lists.{word_at, one}
-use Rattle.law_known.specs.Start.{start_of}
-use Rattle.law_world.specs.Heap.{immortal, no_cell, cell_at, row_at, queue_at, is_registered, AreOptions}
-use Rattle.law_world.specs.Steps.{is_closed, is_free}
-use Rattle.law_world.proofs.Beginning.{length-opening, free_cell, immortal_cell}
-use Rattle.law_world.proofs.Registering.{length-push, read_push}
-use Rattle.law_known.specs.declared.word.Field.{Field}
-use Rattle.law_known.specs.declared.word.Field.TheVariants.{Owner, Local, Shared, Mutex}
-use Rattle.law_known.specs.declared.word.Word.{Word}
-use Rattle.law_known.specs.declared.word.Word.TheVariants.{Of, Queue, NotifyWord, FreeWord}
-use Rattle.law_known.specs.Free_Words.{free_words_for, is_free_cell, free_bits, ShowsOwner}
-use Rattle.law_known.proofs.Free_Law.{told_below, told_bit}
-use Rattle.law_known.specs.Items.{IsWord, Shows, ShowsQueue, word_in}
+use Rattle.law.specs.world.declared.cell.Cell.{Cell}
+use Rattle.law.specs.world.Lists.{word_at, one}
+use Rattle.law.specs.known.Start.{start_of}
+use Rattle.law.specs.world.Heap.{immortal, no_cell, cell_at, row_at, queue_at, is_registered, AreOptions}
+use Rattle.law.specs.world.Steps.{is_closed, is_free}
+use Rattle.law.proofs.world.Beginning.{length-opening, free_cell, immortal_cell}
+use Rattle.law.proofs.world.Registering.{length-push, read_push}
+use Rattle.law.specs.known.declared.word.Field.{Field}
+use Rattle.law.specs.known.declared.word.Field.TheVariants.{Owner, Local, Shared, Mutex}
+use Rattle.law.specs.known.declared.word.Word.{Word}
+use Rattle.law.specs.known.declared.word.Word.TheVariants.{Of, Queue, NotifyWord, FreeWord}
+use Rattle.law.specs.known.Free_Words.{free_words_for, is_free_cell, free_bits, ShowsOwner}
+use Rattle.law.proofs.known.Free_Law.{told_below, told_bit}
+use Rattle.law.specs.known.Items.{IsWord, Shows, ShowsQueue, word_in}
 use Rattle.brc_block.specs.declared.payload.Payload.{Payload}
-use Rattle.law_rule.specs.declared.contents.Contents.{Contents}
-use Rattle.law_rule.specs.Layout.{counts_from, queues_from, spot, extent}
-use Rattle.law_rule.specs.Logs.{opening_contents}
-use Rattle.law_rule.specs.Homes.{LiesThere}
-use Rattle.law_rule.specs.Rule.{Kept}
-use Rattle.law_rule.specs.Opening.{first_view, Opens}
-use Rattle.law_rule.proofs.Spots.{inside}
-use Rattle.law_rule.proofs.Opening_Law.{opens}
+use Rattle.law.specs.rule.declared.contents.Contents.{Contents}
+use Rattle.law.specs.rule.Layout.{counts_from, queues_from, spot, extent}
+use Rattle.law.specs.rule.Logs.{opening_contents}
+use Rattle.law.specs.rule.Homes.{LiesThere}
+use Rattle.law.specs.rule.Rule.{Kept}
+use Rattle.law.specs.rule.Opening.{first_view, Opens}
+use Rattle.law.proofs.rule.Spots.{inside}
+use Rattle.law.proofs.rule.Opening_Law.{opens}
 use Rattle.brc_table.specs.Shown.{shows}
 use Rattle.brc_table.specs.Opening.{bits_below, opening_free, opening_count, opening_low, opening_high, opening_word}
 use Rattle.brc_table.specs.Opening.{opening_words, slot_shows, opening_slot, opening_slots}

@@ -4,27 +4,27 @@ use Rattle.std.proofs.Common.{◌≡◌, ℕ, ◌<◌, ◌≤◌, ◌==◌, ◌/
 use prog.Atomic.{either}
 use Rattle.atomic_table.specs.Seated.{TableId}
 use Rattle.atomic_table.specs.Table.{Me, Allows, Splits, Joins}
-use Rattle.law_known.specs.declared.word.Word.{Word}
-use Rattle.law_known.specs.declared.word.Word.TheVariants.{Queue, NotifyWord, FreeWord}
-use Rattle.law_known.specs.Items.{IsWord}
-use Rattle.law_world.specs.Heap.{words_for}
-use Rattle.law_steps.specs.Owing.{Tells}
-use Rattle.law_rule.specs.declared.contents.Contents.{Contents}
-use Rattle.law_rule.specs.declared.view.View.{View}
-use Rattle.law_rule.specs.Layout.{spot, extent}
-use Rattle.law_rule.specs.declared.told.Told.{Told}
-use Rattle.law_rule.specs.declared.told.Told.TheVariants.{Saw}
-use Rattle.law_rule.specs.Rule.{with_told, Kept}
-use Rattle.law_rule.specs.Seen.{part_seen}
-use Rattle.law_world.specs.Lists.{is_blank, is_unmarked}
-use Rattle.law_world.specs.Steps.{is_left, is_free_hand}
+use Rattle.law.specs.known.declared.word.Word.{Word}
+use Rattle.law.specs.known.declared.word.Word.TheVariants.{Queue, NotifyWord, FreeWord}
+use Rattle.law.specs.known.Items.{IsWord}
+use Rattle.law.specs.world.Heap.{words_for}
+use Rattle.law.specs.steps.Owing.{Tells}
+use Rattle.law.specs.rule.declared.contents.Contents.{Contents}
+use Rattle.law.specs.rule.declared.view.View.{View}
+use Rattle.law.specs.rule.Layout.{spot, extent}
+use Rattle.law.specs.rule.declared.told.Told.{Told}
+use Rattle.law.specs.rule.declared.told.Told.TheVariants.{Saw}
+use Rattle.law.specs.rule.Rule.{with_told, Kept}
+use Rattle.law.specs.rule.Seen.{part_seen}
+use Rattle.law.specs.world.Lists.{is_blank, is_unmarked}
+use Rattle.law.specs.world.Steps.{is_left, is_free_hand}
 use Rattle.brc_words.specs.declared.limits.TheConstants.{MOST_CELLS, MOST_THREADS, MOST_REGISTRATIONS}
-use Rattle.law_steps.specs.Joining.{next_thread, registrations, registering, starting, gathering, spent, Leaves}
-use Rattle.law_steps.proofs.Root_Steps.{splits, joins}
+use Rattle.law.specs.steps.Joining.{next_thread, registrations, registering, starting, gathering, spent, Leaves}
+use Rattle.law.proofs.steps.Root_Steps.{splits, joins}
 use Rattle.brc_table.specs.declared.rule.Sizes.{Sizes}
 use Rattle.brc_table.specs.Machine.{exchanged, MayTell, MayFind, MayExchange}
 use Rattle.brc_table.specs.Seated.{TableSeen, Sized}
-use Rattle.law_rule.proofs.Spots.{inside}
+use Rattle.law.proofs.rule.Spots.{inside}
 
 -- a word's spot is one of the table's
 pub spot_inside : (n at wide : ℕ) (w : Word) → IsWord n w → at ≡ spot n w → wide ≡ extent n → at < wide

@@ -2,15 +2,15 @@
 use Rattle.std.proofs.Common.{ℕ, Option, sym, ◌∙◌, ap}
 use Rattle.atomic_table.specs.Table.{State}
 use Rattle.brc_block.specs.declared.payload.Payload.{Payload}
-use Rattle.law_known.proofs.Starting.{run_histories}
-use Rattle.law_known.specs.Items.{events_of}
-use Rattle.law_known.proofs.Items_Runs.{events_run}
-use Rattle.law_rule.specs.declared.view.View.{View}
-use Rattle.law_rule.specs.Logs.{items_of}
-use Rattle.law_rule.specs.Rule.{Kept}
-use Rattle.law_rule.proofs.Knowing.{kept_reached, kept_headline}
-use Rattle.law_rule.proofs.Once.{root_once}
-use Rattle.law_known.specs.Start.{start_of}
+use Rattle.law.proofs.known.Starting.{run_histories}
+use Rattle.law.specs.known.Items.{events_of}
+use Rattle.law.proofs.known.Items_Runs.{events_run}
+use Rattle.law.specs.rule.declared.view.View.{View}
+use Rattle.law.specs.rule.Logs.{items_of}
+use Rattle.law.specs.rule.Rule.{Kept}
+use Rattle.law.proofs.rule.Knowing.{kept_reached, kept_headline}
+use Rattle.law.proofs.rule.Once.{root_once}
+use Rattle.law.specs.known.Start.{start_of}
 use Rattle.brc_table.specs.Moment.{ShowsOneRun}
 use Rattle.brc_table.specs.Shown.{shows}
 

@@ -2,22 +2,22 @@
 use Rattle.std.proofs.Common.{◌≡◌, ℕ, ◌<◌, ◌≤◌, ◌&&◌, Bool, true, false, List, Option, refl, sym, arith}
 use Rattle.std.proofs.lemmas.Bool.{true≢false}
 use Rattle.brc_words.specs.declared.limits.TheConstants.{MOST_THREADS}
-use Rattle.law_world.specs.declared.event.Step.TheVariants.{Wake}
-use Rattle.law_world.specs.declared.row.Stage.{Stage}
-use Rattle.law_world.specs.declared.row.Stage.TheVariants as stages
-use Rattle.law_world.specs.Steps.{stage_ok, is_active}
-use Rattle.law_known.specs.declared.word.Word.TheVariants.{NotifyWord}
-use Rattle.law_rule.specs.declared.contents.Contents.{Contents}
-use Rattle.law_rule.specs.declared.told.Moved.TheVariants.{Nothing}
-use Rattle.law_rule.specs.declared.told.Told.TheVariants.{Did}
-use Rattle.law_rule.specs.declared.view.View.{View}
-use Rattle.law_rule.specs.Rule.{with_told}
-use Rattle.law_rule.specs.Seen.{part_seen}
-use Rattle.law_living.specs.Living.{OwnLog}
-use Rattle.law_living.proofs.Own_Logs_Law.{known_own_log}
-use Rattle.law_steps.specs.Owing.{Allowed}
-use Rattle.law_steps.proofs.Queue_Steps.{wakes}
-use Rattle.law_steps.proofs.Telling.{tells_found}
+use Rattle.law.specs.world.declared.event.Step.TheVariants.{Wake}
+use Rattle.law.specs.world.declared.row.Stage.{Stage}
+use Rattle.law.specs.world.declared.row.Stage.TheVariants as stages
+use Rattle.law.specs.world.Steps.{stage_ok, is_active}
+use Rattle.law.specs.known.declared.word.Word.TheVariants.{NotifyWord}
+use Rattle.law.specs.rule.declared.contents.Contents.{Contents}
+use Rattle.law.specs.rule.declared.told.Moved.TheVariants.{Nothing}
+use Rattle.law.specs.rule.declared.told.Told.TheVariants.{Did}
+use Rattle.law.specs.rule.declared.view.View.{View}
+use Rattle.law.specs.rule.Rule.{with_told}
+use Rattle.law.specs.rule.Seen.{part_seen}
+use Rattle.law.specs.living.Living.{OwnLog}
+use Rattle.law.proofs.living.Own_Logs_Law.{known_own_log}
+use Rattle.law.specs.steps.Owing.{Allowed}
+use Rattle.law.proofs.steps.Queue_Steps.{wakes}
+use Rattle.law.proofs.steps.Telling.{tells_found}
 use Rattle.brc_table.specs.Machine.{MayWake}
 
 wakes_active : (stage : Stage) → stage_ok stage Wake ≡ true → is_active stage ≡ true

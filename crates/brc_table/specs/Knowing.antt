@@ -1,18 +1,18 @@
 -- What a seat knows by its log, and what a call makes of it: so nobody above unfolds a log.
 use Rattle.std.specs.Prelude.{◌≡◌, ◌≢◌, ℕ, ◌%◌, true, false, List, [], Option, Some, None}
 use Rattle.brc_block.specs.declared.payload.Payload.{Payload}
-use Rattle.law_world.specs.declared.event.Dropped.{Dropped}
-use Rattle.law_world.specs.Lists.{names}
-use Rattle.law_known.specs.declared.word.Field.{Field}
-use Rattle.law_known.specs.declared.word.Word.TheVariants.{Of}
-use Rattle.law_known.specs.Owners_Seen.{has_seen_owner}
-use Rattle.law_known.specs.Risen.{drop_in}
-use Rattle.law_known.specs.Locked.{locked_of}
-use Rattle.law_known.specs.Going_On.{Known, known_of}
-use Rattle.law_rule.specs.declared.told.Told.{Told}
-use Rattle.law_rule.specs.Logs.{log_items, entries_in}
-use Rattle.law_rule.specs.Noted.{is_of, noted, newest_step}
-use Rattle.law_rule.specs.Seen.{part_seen, counts_seen, risen_seen, taken_seen}
+use Rattle.law.specs.world.declared.event.Dropped.{Dropped}
+use Rattle.law.specs.world.Lists.{names}
+use Rattle.law.specs.known.declared.word.Field.{Field}
+use Rattle.law.specs.known.declared.word.Word.TheVariants.{Of}
+use Rattle.law.specs.known.Owners_Seen.{has_seen_owner}
+use Rattle.law.specs.known.Risen.{drop_in}
+use Rattle.law.specs.known.Locked.{locked_of}
+use Rattle.law.specs.known.Going_On.{Known, known_of}
+use Rattle.law.specs.rule.declared.told.Told.{Told}
+use Rattle.law.specs.rule.Logs.{log_items, entries_in}
+use Rattle.law.specs.rule.Noted.{is_of, noted, newest_step}
+use Rattle.law.specs.rule.Seen.{part_seen, counts_seen, risen_seen, taken_seen}
 use Rattle.brc_table.specs.Shown.{contents_of}
 
 -- the thread's part of the world, the counts of its own objects, the dead blocks that it has, and what it has locked

@@ -7,3 +7,5 @@ pub mod Knowing
 pub mod Rest
 pub mod Moment
 pub mod Numbers
+pub use Rattle.brc_block.specs as block
+pub use Rattle.law.specs as law

@@ -2,15 +2,15 @@
 use Rattle.std.specs.Prelude.{◌≡◌, ℕ, ◌+◌, ◌%◌, ◌^◌, ◌==◌, ◌≤◌, Bool, true, if◌then◌else◌, Option}
 use prog.Atomic.{either}
 use Rattle.atomic_table.specs.Table.{Me, Allows}
-use Rattle.law_known.specs.declared.word.Word.{Word}
-use Rattle.law_rule.specs.declared.contents.Contents.{Contents}
-use Rattle.law_rule.specs.declared.told.Told.{Told}
-use Rattle.law_rule.specs.declared.told.Told.TheVariants.{Saw, Lost}
-use Rattle.law_rule.specs.declared.view.View.{View}
-use Rattle.law_rule.specs.Layout.{spot}
-use Rattle.law_rule.specs.Rule.{with_told, Kept}
-use Rattle.law_living.specs.Living.{OwnLog}
-use Rattle.law_steps.specs.Taking.{AreQueued, CountsSome}
+use Rattle.law.specs.known.declared.word.Word.{Word}
+use Rattle.law.specs.rule.declared.contents.Contents.{Contents}
+use Rattle.law.specs.rule.declared.told.Told.{Told}
+use Rattle.law.specs.rule.declared.told.Told.TheVariants.{Saw, Lost}
+use Rattle.law.specs.rule.declared.view.View.{View}
+use Rattle.law.specs.rule.Layout.{spot}
+use Rattle.law.specs.rule.Rule.{with_told, Kept}
+use Rattle.law.specs.living.Living.{OwnLog}
+use Rattle.law.specs.steps.Taking.{AreQueued, CountsSome}
 
 -- the view after a compare-exchange that found this number: the item where it was the one expected, else a note
 abbrev pub exchanged : Word → ℕ → Told → ℕ → View → View

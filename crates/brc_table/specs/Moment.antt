@@ -4,17 +4,17 @@ use mathlib.Core.Option.{some}
 use lib.ListN.{get_elem?}
 use Rattle.atomic_table.specs.Table.{State}
 use Rattle.brc_block.specs.declared.payload.Payload.{Payload}
-use Rattle.law_known.specs.Start.{start_of}
-use Rattle.law_world.specs.Holding.{Headline}
-use Rattle.law_world.specs.Since.{HistoriesSince}
-use Rattle.law_world.specs.Runs.{IsReached}
-use Rattle.law_known.specs.declared.word.Word.{Word}
-use Rattle.law_known.specs.Items.{IsWord, Shows, events_of}
-use Rattle.law_rule.specs.declared.view.View.{View}
-use Rattle.law_rule.specs.Layout.{spot}
-use Rattle.law_rule.specs.Logs.{Run, items_of, own_of, all_of, lives_of, world, IsLegal}
-use Rattle.law_rule.specs.Homes.{HomeShown}
-use Rattle.law_rule.specs.Rule.{stands, Seated, StandsOnce}
+use Rattle.law.specs.known.Start.{start_of}
+use Rattle.law.specs.world.Holding.{Headline}
+use Rattle.law.specs.world.Since.{HistoriesSince}
+use Rattle.law.specs.world.Runs.{IsReached}
+use Rattle.law.specs.known.declared.word.Word.{Word}
+use Rattle.law.specs.known.Items.{IsWord, Shows, events_of}
+use Rattle.law.specs.rule.declared.view.View.{View}
+use Rattle.law.specs.rule.Layout.{spot}
+use Rattle.law.specs.rule.Logs.{Run, items_of, own_of, all_of, lives_of, world, IsLegal}
+use Rattle.law.specs.rule.Homes.{HomeShown}
+use Rattle.law.specs.rule.Rule.{stands, Seated, StandsOnce}
 use Rattle.brc_table.specs.Shown.{shows}
 
 module _ {A : Type 0} where

@@ -5,22 +5,22 @@ use Rattle.std.specs.Int.{bit_at}
 use prog.Atomic.{either}
 use Rattle.atomic_table.specs.Table.{Me, Allows, rest}
 use Rattle.brc_block.specs.declared.payload.Payload.{Payload}
-use Rattle.law_world.specs.declared.event.Step.{Step}
-use Rattle.law_world.specs.Steps.{takes_block}
-use Rattle.law_known.specs.declared.word.Field.TheVariants.{Shared, Mutex}
-use Rattle.law_known.specs.declared.word.Word.{Word}
-use Rattle.law_known.specs.declared.word.Word.TheVariants.{Of, FreeWord}
-use Rattle.law_known.specs.Items.{cell_told}
-use Rattle.law_rule.specs.declared.contents.Contents.{Contents}
-use Rattle.law_rule.specs.declared.contents.Contents.TheVariants.{Nothing}
-use Rattle.law_rule.specs.declared.told.Moved.{Moved}
-use Rattle.law_rule.specs.declared.told.Moved.TheVariants as moves
-use Rattle.law_rule.specs.declared.told.Told.{Told}
-use Rattle.law_rule.specs.declared.view.View.{View}
-use Rattle.law_rule.specs.Layout.{spot}
-use Rattle.law_rule.specs.Rule.{with_told, Kept}
-use Rattle.law_rule.specs.Seen.{contents_locked, part_seen}
-use Rattle.law_steps.specs.Taking.{Ended, Claimed, Locked}
+use Rattle.law.specs.world.declared.event.Step.{Step}
+use Rattle.law.specs.world.Steps.{takes_block}
+use Rattle.law.specs.known.declared.word.Field.TheVariants.{Shared, Mutex}
+use Rattle.law.specs.known.declared.word.Word.{Word}
+use Rattle.law.specs.known.declared.word.Word.TheVariants.{Of, FreeWord}
+use Rattle.law.specs.known.Items.{cell_told}
+use Rattle.law.specs.rule.declared.contents.Contents.{Contents}
+use Rattle.law.specs.rule.declared.contents.Contents.TheVariants.{Nothing}
+use Rattle.law.specs.rule.declared.told.Moved.{Moved}
+use Rattle.law.specs.rule.declared.told.Moved.TheVariants as moves
+use Rattle.law.specs.rule.declared.told.Told.{Told}
+use Rattle.law.specs.rule.declared.view.View.{View}
+use Rattle.law.specs.rule.Layout.{spot}
+use Rattle.law.specs.rule.Rule.{with_told, Kept}
+use Rattle.law.specs.rule.Seen.{contents_locked, part_seen}
+use Rattle.law.specs.steps.Taking.{Ended, Claimed, Locked}
 use Rattle.brc_table.specs.Shown.{shows, contents_of}
 
 -- what the thread's newest locking found

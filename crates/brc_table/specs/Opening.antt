@@ -3,10 +3,10 @@ use Rattle.std.specs.Prelude.{ℕ, zero, suc, ◌+◌, ◌-◌, ◌*◌, ◌/◌
 use Rattle.std.specs.Prelude.{◌∷◌, ◌++◌, Option, Some, None}
 use Rattle.brc_words.specs.declared.limits.TheConstants.{FIRST_MORTAL, IMMORTAL_LOCAL}
 use Rattle.brc_block.specs.declared.payload.Payload.{Payload}
-use Rattle.law_rule.specs.declared.contents.Contents.{Contents}
-use Rattle.law_known.specs.Free_Words.{free_words_for}
-use Rattle.law_rule.specs.Layout.{counts_from, queues_from}
-use Rattle.law_rule.specs.Logs.{opening_contents}
+use Rattle.law.specs.rule.declared.contents.Contents.{Contents}
+use Rattle.law.specs.known.Free_Words.{free_words_for}
+use Rattle.law.specs.rule.Layout.{counts_from, queues_from}
+use Rattle.law.specs.rule.Logs.{opening_contents}
 use Rattle.brc_table.specs.Shown.{shows}
 
 -- how many of a free word's 64 bits stand for cells below this one

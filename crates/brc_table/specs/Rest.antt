@@ -4,8 +4,8 @@ use mathlib.Core.Option.{some}
 use lib.ListN.{get_elem?}
 use Rattle.atomic_table.specs.Table.{State}
 use Rattle.brc_block.specs.declared.payload.Payload.{Payload}
-use Rattle.law_rule.specs.declared.view.View.{View}
-use Rattle.law_rule.specs.Rule.{Kept}
+use Rattle.law.specs.rule.declared.view.View.{View}
+use Rattle.law.specs.rule.Rule.{Kept}
 use Rattle.brc_table.specs.Shown.{shows}
 
 module _ {A : Type 0} where

@@ -3,10 +3,10 @@ use Rattle.std.specs.Prelude.{◌≡◌, ◌≤◌, ℕ, true, List, [], Option}
 use Rattle.atomic_table.specs.Seated.{TableId}
 use Rattle.brc_block.specs.declared.payload.Payload.{Payload}
 use Rattle.brc_words.specs.declared.limits.TheConstants.{FEWEST_CELLS, MOST_CELLS, MOST_LOCAL}
-use Rattle.law_rule.specs.Layout.{extent}
+use Rattle.law.specs.rule.Layout.{extent}
 use Rattle.brc_table.specs.declared.rule.Sizes.{Sizes}
-use Rattle.law_rule.specs.declared.told.Told.{Told}
-use Rattle.law_rule.specs.declared.view.View.{View}
+use Rattle.law.specs.rule.declared.told.Told.{Told}
+use Rattle.law.specs.rule.declared.view.View.{View}
 
 -- which table it is, of how many cells, and how far an owner counts on its own
 pub record TableSeen : Type 0 where

@@ -1,27 +1,27 @@
 //! Counting: by the owner on the local word, and by all others on the shared one.
 
 ghost use Rattle.std.specs.Prelude.{◌≡◌, ◌≢◌, ◌+◌, ◌-◌, ◌%◌, ◌^◌, ◌==◌, ◌<◌, ◌≤◌, ◌∷◌, true, Some, OnOk, OnErr, IfErr};
-ghost use Rattle.law_world.specs.declared.event.Step.TheVariants as steps;
-ghost use Rattle.law_world.specs.declared.event.Dropped.TheVariants as drops;
-ghost use Rattle.law_known.specs.declared.word.Field.TheVariants as fields;
-ghost use Rattle.law_known.specs.declared.word.Word.TheVariants as words;
-ghost use Rattle.law_known.specs.Going_On.{filling, counting, counting_down, giving_up, asking};
-ghost use Rattle.law_rule.specs.declared.told.Moved.TheVariants as moves;
-ghost use Rattle.law_rule.specs.declared.told.Told.TheVariants as told;
-ghost use Rattle.law_steps.specs.Owing.{Raises, RaisesImmortal, Lowers, LowersImmortal, RaisesShared, Releases};
-ghost use Rattle.law_rule.specs.Seen.{risen_seen, contents_locked};
+ghost use Rattle.law.specs.world.declared.event.Step.TheVariants as steps;
+ghost use Rattle.law.specs.world.declared.event.Dropped.TheVariants as drops;
+ghost use Rattle.law.specs.known.declared.word.Field.TheVariants as fields;
+ghost use Rattle.law.specs.known.declared.word.Word.TheVariants as words;
+ghost use Rattle.law.specs.known.Going_On.{filling, counting, counting_down, giving_up, asking};
+ghost use Rattle.law.specs.rule.declared.told.Moved.TheVariants as moves;
+ghost use Rattle.law.specs.rule.declared.told.Told.TheVariants as told;
+ghost use Rattle.law.specs.steps.Owing.{Raises, RaisesImmortal, Lowers, LowersImmortal, RaisesShared, Releases};
+ghost use Rattle.law.specs.rule.Seen.{risen_seen, contents_locked};
 ghost use Rattle.brc_table.specs.Knowing.{known_seen, Knows, Keeps, SeesRisen, Notes};
 ghost use Rattle.brc_table.specs.Seated.{Stays};
 
 use crate::machine::{add, exchange, load, or, store};
 use crate::seats::ThreadSeat;
 use crate::table::HeapTable;
-use law_known::{Field, Word};
-use law_world::{Dropped, Source, Step};
+use law::known::{Field, Word};
+use law::world::{Dropped, Source, Step};
 use std::alloc::Allocator;
 
 impl<A: Allocator> HeapTable<A> {
-    #[tactic(auto, using(law_steps::proofs::Local_Steps::counts_up))]
+    #[tactic(auto, using(law::proofs::steps::Local_Steps::counts_up))]
     /// LocalUp: the owner of the cell counts up, by the count that its log tells.
     pub fn local_up(
         &self,
@@ -46,7 +46,7 @@ impl<A: Allocator> HeapTable<A> {
         store(self, &mut seat.place, word, u64::from(count) + 1, step);
     }
 
-    #[tactic(auto, using(law_steps::proofs::Local_Steps::counts_down))]
+    #[tactic(auto, using(law::proofs::steps::Local_Steps::counts_down))]
     /// LocalDown: it counts down.
     pub fn local_down(&self, seat: &mut ThreadSeat<A>, drop: Dropped, cell: u32, count: u32)
         requires table { seat.old.table ≡ self.now.table }
@@ -63,7 +63,7 @@ impl<A: Allocator> HeapTable<A> {
         store(self, &mut seat.place, word, u64::from(count) - 1, step);
     }
 
-    #[tactic(auto, using(law_steps::proofs::Local_Steps::counts_immortal_up))]
+    #[tactic(auto, using(law::proofs::steps::Local_Steps::counts_immortal_up))]
     /// LocalUp of an immortal, which only looks at its word.
     pub fn immortal_up(
         &self,
@@ -87,7 +87,7 @@ impl<A: Allocator> HeapTable<A> {
         load(self, &mut seat.place, word, step)
     }
 
-    #[tactic(auto, using(law_steps::proofs::Local_Steps::counts_immortal_down))]
+    #[tactic(auto, using(law::proofs::steps::Local_Steps::counts_immortal_down))]
     /// LocalDown of an immortal.
     pub fn immortal_down(&self, seat: &mut ThreadSeat<A>, drop: Dropped, cell: u32) -> u64
         requires table { seat.old.table ≡ self.now.table }
@@ -103,7 +103,7 @@ impl<A: Allocator> HeapTable<A> {
         load(self, &mut seat.place, word, Step::LocalDown(drop))
     }
 
-    #[tactic(auto, using(law_steps::proofs::Shared_Steps::counts_up_shared))]
+    #[tactic(auto, using(law::proofs::steps::Shared_Steps::counts_up_shared))]
     /// SharedUp: anyone else counts up, and the owner at its limit.
     pub fn shared_up(&self, seat: &mut ThreadSeat<A>, source: Source, place: u32, cell: u32) -> u64
         requires table { seat.old.table ≡ self.now.table }
@@ -122,7 +122,7 @@ impl<A: Allocator> HeapTable<A> {
         add(self, &mut seat.place, word, 4, step)
     }
 
-    #[tactic(auto, using(law_steps::proofs::Shared_Steps::asks))]
+    #[tactic(auto, using(law::proofs::steps::Shared_Steps::asks))]
     /// Ask: the reference is to be merged, and is in the hand now where nobody had asked.
     pub fn ask(&self, seat: &mut ThreadSeat<A>, drop: Dropped, cell: u32) -> u64
         requires table { seat.old.table ≡ self.now.table }
@@ -139,7 +139,7 @@ impl<A: Allocator> HeapTable<A> {
         or(self, &mut seat.place, word, 2, Step::Ask(drop))
     }
 
-    #[tactic(auto, using(law_steps::proofs::Shared_Steps::counts_down_shared))]
+    #[tactic(auto, using(law::proofs::steps::Shared_Steps::counts_down_shared))]
     /// SharedDown: anyone else counts down, where the word is still the one expected; or the word that was found.
     pub fn shared_down(
         &self,

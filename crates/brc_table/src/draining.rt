@@ -1,12 +1,12 @@
 //! Operations on a queue word by which a thread takes its bits. What it finds there are cells of the heap.
 
 ghost use Rattle.std.specs.Prelude.{◌≡◌, ℕ, ◌<◌, bit_or};
-ghost use Rattle.law_known.specs.declared.word.Word.TheVariants as words;
-ghost use Rattle.law_known.specs.Items.{IsWord};
-ghost use Rattle.law_rule.specs.declared.told.Told.{Told as told_data};
-ghost use Rattle.law_rule.specs.declared.told.Told.TheVariants as told;
-ghost use Rattle.law_rule.specs.Rule.{with_told};
-ghost use Rattle.law_steps.specs.Taking.{AreQueued};
+ghost use Rattle.law.specs.known.declared.word.Word.TheVariants as words;
+ghost use Rattle.law.specs.known.Items.{IsWord};
+ghost use Rattle.law.specs.rule.declared.told.Told.{Told as told_data};
+ghost use Rattle.law.specs.rule.declared.told.Told.TheVariants as told;
+ghost use Rattle.law.specs.rule.Rule.{with_told};
+ghost use Rattle.law.specs.steps.Taking.{AreQueued};
 ghost use Rattle.brc_table.specs.Machine.{MayTake};
 ghost use Rattle.brc_table.specs.Shown.{shows};
 
@@ -14,9 +14,9 @@ use crate::layout::spot_of;
 use crate::machine::Place;
 use crate::table::HeapTable;
 use atomic_table::Play;
-use law_known::Word;
-use law_rule::View;
-use law_world::Step;
+use law::known::Word;
+use law::rule::View;
+use law::world::Step;
 use std::alloc::Allocator;
 use std::marker::{Brand, PhantomData};
 

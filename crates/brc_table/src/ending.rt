@@ -2,17 +2,17 @@
 //! contents as they were put home last.
 
 ghost use Rattle.std.specs.Prelude.{◌≡◌, ◌<◌, ◌≤◌, ◌∷◌, None, IfSome};
-ghost use Rattle.law_world.specs.declared.event.LastDropped.TheVariants as lasts;
-ghost use Rattle.law_world.specs.declared.event.Step.TheVariants as steps;
-ghost use Rattle.law_world.specs.declared.row.Hand.TheVariants as hands;
-ghost use Rattle.law_world.specs.Steps.{takes_block};
-ghost use Rattle.law_known.specs.Going_On.{handing, taking, seeing_zero, dropping_last, settling};
-ghost use Rattle.law_known.specs.Items.{cell_told};
-ghost use Rattle.law_known.specs.Taken.{listed_at};
-ghost use Rattle.law_rule.specs.declared.told.Told.TheVariants as told;
-ghost use Rattle.law_rule.specs.Seen.{taken_seen};
-ghost use Rattle.law_steps.specs.Owing.{Carries, EndsRisen, EndsPopped, EndsAdded, EndsLeft, EndsShut, EndsNobodys};
-ghost use Rattle.law_steps.specs.Taking.{AreCells};
+ghost use Rattle.law.specs.world.declared.event.LastDropped.TheVariants as lasts;
+ghost use Rattle.law.specs.world.declared.event.Step.TheVariants as steps;
+ghost use Rattle.law.specs.world.declared.row.Hand.TheVariants as hands;
+ghost use Rattle.law.specs.world.Steps.{takes_block};
+ghost use Rattle.law.specs.known.Going_On.{handing, taking, seeing_zero, dropping_last, settling};
+ghost use Rattle.law.specs.known.Items.{cell_told};
+ghost use Rattle.law.specs.known.Taken.{listed_at};
+ghost use Rattle.law.specs.rule.declared.told.Told.TheVariants as told;
+ghost use Rattle.law.specs.rule.Seen.{taken_seen};
+ghost use Rattle.law.specs.steps.Owing.{Carries, EndsRisen, EndsPopped, EndsAdded, EndsLeft, EndsShut, EndsNobodys};
+ghost use Rattle.law.specs.steps.Taking.{AreCells};
 ghost use Rattle.brc_table.specs.Knowing.{known_seen, entries_of, Knows, Keeps};
 ghost use Rattle.brc_table.specs.Moving.{is_there, found_in, out_with};
 ghost use Rattle.brc_table.specs.Seated.{Continues};
@@ -20,7 +20,7 @@ ghost use Rattle.brc_table.specs.Seated.{Continues};
 use crate::moving::{Found, end_by_load, end_by_or, end_by_sub};
 use crate::seats::ThreadSeat;
 use crate::table::HeapTable;
-use law_world::{Dropped, LastDropped, Step};
+use law::world::{Dropped, LastDropped, Step};
 use std::alloc::Allocator;
 
 impl<A: Allocator> HeapTable<A> {
@@ -47,7 +47,7 @@ impl<A: Allocator> HeapTable<A> {
         end_by_load(self, &mut seat.place, cell, step)
     }
 
-    #[tactic(auto, using(law_steps::proofs::Ending_Steps::merges_at_zero))]
+    #[tactic(auto, using(law::proofs::steps::Ending_Steps::merges_at_zero))]
     /// MergeZero: the state is merged, and the object is dead where its count is 0.
     pub fn merge_zero(&self, seat: &mut ThreadSeat<A>, cell: u32) -> Found<A>
         requires table { seat.old.table ≡ self.now.table }
@@ -71,7 +71,7 @@ impl<A: Allocator> HeapTable<A> {
         end_by_or(self, &mut seat.place, cell, 3, step)
     }
 
-    #[tactic(auto, using(law_steps::proofs::Ending_Steps::counts_last))]
+    #[tactic(auto, using(law::proofs::steps::Ending_Steps::counts_last))]
     /// LastDown of a reference to an object that the thread has seen queued or merged.
     pub fn last_down(&self, seat: &mut ThreadSeat<A>, drop: Dropped, cell: u32) -> Found<A>
         requires table { seat.old.table ≡ self.now.table }
@@ -95,7 +95,7 @@ impl<A: Allocator> HeapTable<A> {
         end_by_sub(self, &mut seat.place, cell, 4, step)
     }
 
-    #[tactic(auto, using(law_steps::proofs::Last_Steps::ends_popped))]
+    #[tactic(auto, using(law::proofs::steps::Last_Steps::ends_popped))]
     /// LastDown of a popped entry that was found merged.
     pub fn last_popped(&self, seat: &mut ThreadSeat<A>, cell: u32, shared: u64) -> Found<A>
         requires table { seat.old.table ≡ self.now.table }
@@ -120,7 +120,7 @@ impl<A: Allocator> HeapTable<A> {
         end_by_sub(self, &mut seat.place, cell, 4, step)
     }
 
-    #[tactic(auto, using(law_steps::proofs::Last_Steps::ends_added))]
+    #[tactic(auto, using(law::proofs::steps::Last_Steps::ends_added))]
     /// LastDown of a popped entry that the thread has just merged.
     pub fn last_added(&self, seat: &mut ThreadSeat<A>, cell: u32) -> Found<A>
         requires table { seat.old.table ≡ self.now.table }
@@ -144,7 +144,7 @@ impl<A: Allocator> HeapTable<A> {
         end_by_sub(self, &mut seat.place, cell, 4, step)
     }
 
-    #[tactic(auto, using(law_steps::proofs::Last_Steps::ends_left))]
+    #[tactic(auto, using(law::proofs::steps::Last_Steps::ends_left))]
     /// LastDown of a popped entry, once the thread isn't active any more.
     pub fn last_left(&self, seat: &mut ThreadSeat<A>, cell: u32) -> Found<A>
         requires table { seat.old.table ≡ self.now.table }
@@ -168,7 +168,7 @@ impl<A: Allocator> HeapTable<A> {
         end_by_sub(self, &mut seat.place, cell, 4, step)
     }
 
-    #[tactic(auto, using(law_steps::proofs::Last_Steps::ends_shut))]
+    #[tactic(auto, using(law::proofs::steps::Last_Steps::ends_shut))]
     /// LastDown of the reference in the hand, which met a closed queue word: the object is nobody's.
     pub fn last_shut(&self, seat: &mut ThreadSeat<A>, cell: u32) -> Found<A>
         requires table { seat.old.table ≡ self.now.table }
@@ -192,7 +192,7 @@ impl<A: Allocator> HeapTable<A> {
         end_by_sub(self, &mut seat.place, cell, 4, step)
     }
 
-    #[tactic(auto, using(law_steps::proofs::Last_Steps::ends_nobodys))]
+    #[tactic(auto, using(law::proofs::steps::Last_Steps::ends_nobodys))]
     /// LastDown of the reference in the hand, of an object that was found nobody's.
     pub fn last_nobodys(&self, seat: &mut ThreadSeat<A>, cell: u32) -> Found<A>
         requires table { seat.old.table ≡ self.now.table }

@@ -3,14 +3,14 @@
 ghost use Rattle.std.specs.Prelude.{ℕ, Option};
 ghost use Rattle.atomic_table.specs.Table.{State};
 ghost use Rattle.brc_block.specs.declared.payload.Payload.{Payload};
-ghost use Rattle.law_rule.specs.declared.view.View.{View as view};
+ghost use Rattle.law.specs.rule.declared.view.View.{View as view};
 ghost use Rattle.brc_table.specs.declared.rule.Sizes.{Sizes as sizes};
 ghost use Rattle.brc_table.specs.Moment.{ShowsOneRun};
 
 use crate::rule::{HeapRule, Sizes};
 use atomic_table::TableRule;
 use brc_block::Block;
-use law_rule::View;
+use law::rule::View;
 use std::alloc::Allocator;
 
 /// The rule of a heap's table, which holds between any two steps of any threads (`atomic_table`: that is what a table

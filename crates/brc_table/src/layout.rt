@@ -3,14 +3,14 @@
 ghost use Rattle.std.specs.Prelude.{◌-◌, ◌^◌, ◌≡◌, ◌==◌, ◌<◌, ◌≤◌};
 ghost use Rattle.std.specs.Int.{bit_at};
 ghost use Rattle.brc_words.specs.declared.limits.TheConstants.{MOST_CELLS};
-ghost use Rattle.law_world.specs.Heap.{words_for as queue_words};
-ghost use Rattle.law_known.specs.Free_Words.{free_words_for as free_words};
-ghost use Rattle.law_known.specs.Items.{IsWord};
-ghost use Rattle.law_rule.specs.Layout.{queues_from as queues_begin, extent as extent_of};
-ghost use Rattle.law_rule.specs.Layout.{spot};
+ghost use Rattle.law.specs.world.Heap.{words_for as queue_words};
+ghost use Rattle.law.specs.known.Free_Words.{free_words_for as free_words};
+ghost use Rattle.law.specs.known.Items.{IsWord};
+ghost use Rattle.law.specs.rule.Layout.{queues_from as queues_begin, extent as extent_of};
+ghost use Rattle.law.specs.rule.Layout.{spot};
 
-use law_known::{Field, Word};
-use law_world::words_for;
+use law::known::{Field, Word};
+use law::world::words_for;
 
 /// The first notify word: before it is room for the free words of the largest heap.
 const NOTIFY_FROM: usize = 1_024;

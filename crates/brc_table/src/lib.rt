@@ -35,3 +35,7 @@ pub use root::RootSeat;
 pub use rule::{HeapRule, Sizes};
 pub use seats::ThreadSeat;
 pub use table::HeapTable;
+
+// what it stands on, for the crates above
+pub use brc_block as block;
+pub use law;

@@ -2,22 +2,22 @@
 
 ghost use Rattle.std.specs.Prelude.{◌≡◌, ◌<◌, ◌≤◌, ◌∷◌, true};
 ghost use Rattle.brc_words.specs.declared.limits.TheConstants.{MOST_THREADS};
-ghost use Rattle.law_world.specs.declared.event.Step.TheVariants as steps;
-ghost use Rattle.law_world.specs.Holding.{carries};
-ghost use Rattle.law_known.specs.declared.word.Field.TheVariants as fields;
-ghost use Rattle.law_known.specs.declared.word.Word.TheVariants as words;
-ghost use Rattle.law_known.specs.Free_Words.{free_words_for};
-ghost use Rattle.law_known.specs.Owners_Seen.{has_seen_owner};
-ghost use Rattle.law_rule.specs.declared.told.Told.TheVariants as told;
-ghost use Rattle.law_rule.specs.Logs.{log_items};
-ghost use Rattle.law_rule.specs.Seen.{part_seen, own_may, contents_locked};
+ghost use Rattle.law.specs.world.declared.event.Step.TheVariants as steps;
+ghost use Rattle.law.specs.world.Holding.{carries};
+ghost use Rattle.law.specs.known.declared.word.Field.TheVariants as fields;
+ghost use Rattle.law.specs.known.declared.word.Word.TheVariants as words;
+ghost use Rattle.law.specs.known.Free_Words.{free_words_for};
+ghost use Rattle.law.specs.known.Owners_Seen.{has_seen_owner};
+ghost use Rattle.law.specs.rule.declared.told.Told.TheVariants as told;
+ghost use Rattle.law.specs.rule.Logs.{log_items};
+ghost use Rattle.law.specs.rule.Seen.{part_seen, own_may, contents_locked};
 ghost use Rattle.brc_table.specs.Knowing.{known_seen, Knows, Keeps, SeesRisen, Notes};
 ghost use Rattle.brc_table.specs.Seated.{Stays};
 
 use crate::machine::{look, look_within};
 use crate::seats::ThreadSeat;
 use crate::table::HeapTable;
-use law_known::{Field, Word};
+use law::known::{Field, Word};
 use std::alloc::Allocator;
 use std::marker::Brand;
 

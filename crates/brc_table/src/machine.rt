@@ -3,14 +3,14 @@
 
 ghost use Rattle.std.specs.Prelude.{◌≡◌, ◌+◌, ◌%◌, ◌^◌, ◌==◌, ◌<◌, ◌≤◌, ℕ, Bool, true, false, if◌then◌else◌, bit_or};
 ghost use prog.Atomic.{either};
-ghost use Rattle.law_known.specs.declared.word.Word.{Word as word_data};
-ghost use Rattle.law_known.specs.declared.word.Word.TheVariants as words;
-ghost use Rattle.law_known.specs.Items.{IsWord};
-ghost use Rattle.law_rule.specs.declared.told.Moved.TheVariants as moves;
-ghost use Rattle.law_rule.specs.declared.told.Told.{Told as told_data};
-ghost use Rattle.law_rule.specs.declared.told.Told.TheVariants as told;
-ghost use Rattle.law_rule.specs.Rule.{with_told};
-ghost use Rattle.law_steps.specs.Taking.{CountsSome};
+ghost use Rattle.law.specs.known.declared.word.Word.{Word as word_data};
+ghost use Rattle.law.specs.known.declared.word.Word.TheVariants as words;
+ghost use Rattle.law.specs.known.Items.{IsWord};
+ghost use Rattle.law.specs.rule.declared.told.Moved.TheVariants as moves;
+ghost use Rattle.law.specs.rule.declared.told.Told.{Told as told_data};
+ghost use Rattle.law.specs.rule.declared.told.Told.TheVariants as told;
+ghost use Rattle.law.specs.rule.Rule.{with_told};
+ghost use Rattle.law.specs.steps.Taking.{CountsSome};
 ghost use Rattle.brc_table.specs.Machine.{MayTell, MaySum, MayFind, MayExchange, exchanged};
 ghost use Rattle.brc_table.specs.Shown.{shows};
 
@@ -18,9 +18,9 @@ use crate::layout::spot_of;
 use crate::table::HeapTable;
 use atomic_table::{Play, Seat};
 use brc_block::Block;
-use law_known::Word;
-use law_rule::View;
-use law_world::Step;
+use law::known::Word;
+use law::rule::View;
+use law::world::Step;
 use std::alloc::Allocator;
 use std::marker::{Brand, PhantomData};
 
@@ -283,7 +283,7 @@ fn look_as<A: Allocator, M: Item>(table: &HeapTable<A>, seat: &mut Place<A>, wor
     table.table.shared.load::<Tells<M>>(seat, at)
 }
 
-#[tactic(auto, using(law_rule::proofs::Looking::looks))]
+#[tactic(auto, using(law::proofs::rule::Looking::looks))]
 /// A load, as a look, which is always allowed.
 #[inline(always)]
 pub(crate) fn look<A: Allocator>(table: &HeapTable<A>, seat: &mut Place<A>, word: Word) -> u64

@@ -3,16 +3,16 @@
 ghost use Rattle.std.specs.Prelude.{◌≡◌, ◌/◌, ◌%◌, ◌<◌, ◌∷◌, ◌^◌, None, OnOk, OnErr, IfOk, IfErr};
 ghost use Rattle.std.specs.Int.{bit_at};
 ghost use Rattle.atomic_table.specs.Table.{rest};
-ghost use Rattle.law_world.specs.declared.event.Step.TheVariants as steps;
-ghost use Rattle.law_world.specs.declared.row.Hand.TheVariants as hands;
-ghost use Rattle.law_world.specs.declared.row.Phase.TheVariants as phases;
-ghost use Rattle.law_known.specs.declared.word.Word.TheVariants as words;
-ghost use Rattle.law_known.specs.Going_On.{handing, filling, counting, bearing, giving_back};
-ghost use Rattle.law_known.specs.Taken.{listed_at};
-ghost use Rattle.law_rule.specs.declared.told.Moved.TheVariants as moves;
-ghost use Rattle.law_rule.specs.declared.told.Told.TheVariants as told;
-ghost use Rattle.law_rule.specs.Seen.{part_seen, taken_seen};
-ghost use Rattle.law_steps.specs.Owing.{Claims, Bears, Carries};
+ghost use Rattle.law.specs.world.declared.event.Step.TheVariants as steps;
+ghost use Rattle.law.specs.world.declared.row.Hand.TheVariants as hands;
+ghost use Rattle.law.specs.world.declared.row.Phase.TheVariants as phases;
+ghost use Rattle.law.specs.known.declared.word.Word.TheVariants as words;
+ghost use Rattle.law.specs.known.Going_On.{handing, filling, counting, bearing, giving_back};
+ghost use Rattle.law.specs.known.Taken.{listed_at};
+ghost use Rattle.law.specs.rule.declared.told.Moved.TheVariants as moves;
+ghost use Rattle.law.specs.rule.declared.told.Told.TheVariants as told;
+ghost use Rattle.law.specs.rule.Seen.{part_seen, taken_seen};
+ghost use Rattle.law.specs.steps.Owing.{Claims, Bears, Carries};
 ghost use Rattle.brc_table.specs.Knowing.{known_seen, Knows, Keeps};
 ghost use Rattle.brc_table.specs.Seated.{Stays, Continues};
 ghost use Rattle.brc_table.specs.Shown.{shows, contents_of};
@@ -24,8 +24,8 @@ use crate::seats::ThreadSeat;
 use crate::table::HeapTable;
 use brc_block::Block;
 use brc_words::Kind;
-use law_known::{Field, Word};
-use law_world::Step;
+use law::known::{Field, Word};
+use law::world::Step;
 use std::alloc::Allocator;
 
 impl<A: Allocator> HeapTable<A> {
@@ -60,7 +60,7 @@ impl<A: Allocator> HeapTable<A> {
         }
     }
 
-    #[tactic(auto, using(law_steps::proofs::Making_Steps::sets_local))]
+    #[tactic(auto, using(law::proofs::steps::Making_Steps::sets_local))]
     /// InitLocal: the first reference is counted.
     pub fn init_local(&self, seat: &mut ThreadSeat<A>, cell: u32)
         requires table { seat.old.table ≡ self.now.table }
@@ -76,7 +76,7 @@ impl<A: Allocator> HeapTable<A> {
         store(self, &mut seat.place, word, 1, Step::InitLocal(cell));
     }
 
-    #[tactic(auto, using(law_steps::proofs::Making_Steps::sets_shared))]
+    #[tactic(auto, using(law::proofs::steps::Making_Steps::sets_shared))]
     /// InitShared: nobody else has counted.
     pub fn init_shared(&self, seat: &mut ThreadSeat<A>, cell: u32)
         requires table { seat.old.table ≡ self.now.table }

@@ -3,21 +3,21 @@
 
 ghost use Rattle.std.specs.Prelude.{◌≡◌, ◌<◌, ◌≤◌, ◌∷◌, ◌+◌, ◌*◌, ◌%◌, ◌^◌, if◌then◌else◌, Some, None, IfSome};
 ghost use Rattle.brc_words.specs.declared.limits.TheConstants.{MOST_THREADS};
-ghost use Rattle.law_world.specs.declared.event.Step.TheVariants as steps;
-ghost use Rattle.law_world.specs.declared.row.Hand.TheVariants as hands;
-ghost use Rattle.law_world.specs.declared.row.Phase.TheVariants as phases;
-ghost use Rattle.law_known.specs.Items.{is_shut_word};
-ghost use Rattle.law_known.specs.Going_On.{handing, counting, taking};
-ghost use Rattle.law_rule.specs.declared.told.Moved.TheVariants as moves;
-ghost use Rattle.law_rule.specs.declared.told.Told.TheVariants as told;
-ghost use Rattle.law_steps.specs.Owing.{UntiesOver, UntiesOffered, UntiesPopped, Offers, AddsLocal, Yields, Enqueues};
-ghost use Rattle.law_steps.specs.Taking.{AreCells};
-ghost use Rattle.law_world.specs.Steps.{takes_block, added_hand};
-ghost use Rattle.law_known.specs.Items.{cell_told};
-ghost use Rattle.law_known.specs.Taken.{listed_at};
-ghost use Rattle.law_rule.specs.Seen.{part_seen, taken_seen};
+ghost use Rattle.law.specs.world.declared.event.Step.TheVariants as steps;
+ghost use Rattle.law.specs.world.declared.row.Hand.TheVariants as hands;
+ghost use Rattle.law.specs.world.declared.row.Phase.TheVariants as phases;
+ghost use Rattle.law.specs.known.Items.{is_shut_word};
+ghost use Rattle.law.specs.known.Going_On.{handing, counting, taking};
+ghost use Rattle.law.specs.rule.declared.told.Moved.TheVariants as moves;
+ghost use Rattle.law.specs.rule.declared.told.Told.TheVariants as told;
+ghost use Rattle.law.specs.steps.Owing.{UntiesOver, UntiesOffered, UntiesPopped, Offers, AddsLocal, Yields, Enqueues};
+ghost use Rattle.law.specs.steps.Taking.{AreCells};
+ghost use Rattle.law.specs.world.Steps.{takes_block, added_hand};
+ghost use Rattle.law.specs.known.Items.{cell_told};
+ghost use Rattle.law.specs.known.Taken.{listed_at};
+ghost use Rattle.law.specs.rule.Seen.{part_seen, taken_seen};
 ghost use Rattle.brc_table.specs.Moving.{is_there, found_in, out_with};
-ghost use Rattle.law_rule.specs.Noted.{newest_step};
+ghost use Rattle.law.specs.rule.Noted.{newest_step};
 ghost use Rattle.brc_table.specs.Knowing.{known_seen, entries_of, Knows, Keeps};
 ghost use Rattle.brc_table.specs.Seated.{Stays, Continues};
 
@@ -26,13 +26,13 @@ use crate::machine::{add_up, or, store};
 use crate::moving::{Found, end_by_add};
 use crate::seats::ThreadSeat;
 use crate::table::HeapTable;
-use law_known::{Field, Word};
-use law_world::Step;
+use law::known::{Field, Word};
+use law::world::Step;
 use std::alloc::Allocator;
 use std::marker::Brand;
 
 impl<A: Allocator> HeapTable<A> {
-    #[tactic(auto, using(law_steps::proofs::Untying_Steps::unties_over))]
+    #[tactic(auto, using(law::proofs::steps::Untying_Steps::unties_over))]
     /// Untie of an own object whose count is 0, and which others counted or asked for.
     pub fn untie_over(&self, seat: &mut ThreadSeat<A>, cell: u32)
         requires table { seat.old.table ≡ self.now.table }
@@ -48,7 +48,7 @@ impl<A: Allocator> HeapTable<A> {
         store(self, &mut seat.place, word, 0, Step::Untie(cell));
     }
 
-    #[tactic(auto, using(law_steps::proofs::Offering_Steps::offers_own))]
+    #[tactic(auto, using(law::proofs::steps::Offering_Steps::offers_own))]
     /// Offer: an own object that the thread counts will be handed over, and counts as asked for.
     pub fn offer(&self, seat: &mut ThreadSeat<A>, cell: u32) -> u64
         requires table { seat.old.table ≡ self.now.table }
@@ -64,7 +64,7 @@ impl<A: Allocator> HeapTable<A> {
         or(self, &mut seat.place, word, 2, Step::Offer(cell))
     }
 
-    #[tactic(auto, using(law_steps::proofs::Untying_Steps::unties_offered))]
+    #[tactic(auto, using(law::proofs::steps::Untying_Steps::unties_offered))]
     /// Untie of an own object that the thread has offered.
     pub fn untie_offered(&self, seat: &mut ThreadSeat<A>, cell: u32)
         requires table { seat.old.table ≡ self.now.table }

@@ -3,10 +3,10 @@
 ghost use Rattle.std.specs.Prelude.{◌≡◌, ◌↔◌, ◌-◌, ◌*◌, ◌^◌, ◌<◌, ◌≤◌, map, IfOk, IfErr, IsTrue};
 ghost use Rattle.brc_words.specs.declared.fault.Fault.TheVariants as fault;
 ghost use Rattle.brc_words.specs.declared.limits.TheConstants.{FIRST_MORTAL, MOST_CELLS};
-ghost use Rattle.law_world.specs.Heap.{AreOptions};
-ghost use Rattle.law_known.specs.Free_Words.{free_words_for};
-ghost use Rattle.law_rule.specs.Layout.{extent as extent_of};
-ghost use Rattle.law_rule.specs.Logs.{opening_contents};
+ghost use Rattle.law.specs.world.Heap.{AreOptions};
+ghost use Rattle.law.specs.known.Free_Words.{free_words_for};
+ghost use Rattle.law.specs.rule.Layout.{extent as extent_of};
+ghost use Rattle.law.specs.rule.Logs.{opening_contents};
 ghost use Rattle.brc_table.specs.Opening.{bits_below, opening_free, opening_count, opening_words};
 ghost use Rattle.brc_table.specs.Opening.{slot_shows, opening_slot, opening_slots};
 ghost use Rattle.brc_table.specs.Shown.{contents_of};

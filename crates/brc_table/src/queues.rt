@@ -1,14 +1,14 @@
 //! Queues: a thread takes what was put into its own, and tells others to do so.
 
 ghost use Rattle.std.specs.Prelude.{◌≡◌, ◌<◌, ◌≤◌, ◌∷◌};
-ghost use Rattle.law_world.specs.Heap.{words_for};
-ghost use Rattle.law_world.specs.declared.event.Step.TheVariants as steps;
-ghost use Rattle.law_known.specs.Going_On.{popping, closing, reopening};
-ghost use Rattle.law_rule.specs.declared.told.Moved.TheVariants as moves;
-ghost use Rattle.law_rule.specs.declared.told.Told.TheVariants as told;
-ghost use Rattle.law_steps.specs.Owing.{Allowed, Closes, Tells};
-ghost use Rattle.law_steps.specs.Taking.{AreQueued};
-ghost use Rattle.law_living.specs.Living.{OwnLog};
+ghost use Rattle.law.specs.world.Heap.{words_for};
+ghost use Rattle.law.specs.world.declared.event.Step.TheVariants as steps;
+ghost use Rattle.law.specs.known.Going_On.{popping, closing, reopening};
+ghost use Rattle.law.specs.rule.declared.told.Moved.TheVariants as moves;
+ghost use Rattle.law.specs.rule.declared.told.Told.TheVariants as told;
+ghost use Rattle.law.specs.steps.Owing.{Allowed, Closes, Tells};
+ghost use Rattle.law.specs.steps.Taking.{AreQueued};
+ghost use Rattle.law.specs.living.Living.{OwnLog};
 ghost use Rattle.brc_table.specs.Knowing.{known_seen, Knows, Keeps};
 ghost use Rattle.brc_table.specs.Seated.{Stays};
 
@@ -18,8 +18,8 @@ use crate::machine::{or, store};
 use crate::seats::ThreadSeat;
 use crate::table::HeapTable;
 use crate::waking::take_told;
-use law_known::Word;
-use law_world::Step;
+use law::known::Word;
+use law::world::Step;
 use std::alloc::Allocator;
 use std::marker::Brand;
 

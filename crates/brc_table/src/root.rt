@@ -3,7 +3,7 @@
 ghost use Rattle.std.specs.Prelude.{◌≡◌, ◌≤◌, ◌<◌, ◌==◌, ℕ, if◌then◌else◌, true, []};
 ghost use Rattle.std.specs.Int.{bit_at};
 ghost use Rattle.brc_words.specs.declared.limits.TheConstants.{MOST_THREADS, MOST_REGISTRATIONS};
-ghost use Rattle.law_steps.specs.Joining.{next_thread, registrations, registering, starting, gathering, is_again, Leaves};
+ghost use Rattle.law.specs.steps.Joining.{next_thread, registrations, registering, starting, gathering, is_again, Leaves};
 ghost use Rattle.brc_table.specs.Numbers.{IsLowest};
 ghost use Rattle.brc_table.specs.Seated.{view_of};
 
@@ -11,7 +11,7 @@ use crate::machine::Place;
 use crate::seats::ThreadSeat;
 use crate::table::HeapTable;
 use atomic_table::{Join, Split};
-use law_rule::View;
+use law::rule::View;
 use std::alloc::Allocator;
 use std::marker::Model;
 
@@ -25,8 +25,8 @@ pub struct RootSeat<A: Allocator> {
 
 impl<A: Allocator> Model for RootSeat<A> {
     ghost use Rattle.std.specs.Prelude.{◌≡◌, true, []};
-    ghost use Rattle.law_known.specs.Root.{marks_of, rows_of};
-    ghost use Rattle.law_rule.specs.Logs.{log_items};
+    ghost use Rattle.law.specs.known.Root.{marks_of, rows_of};
+    ghost use Rattle.law.specs.rule.Logs.{log_items};
     ghost use Rattle.brc_table.specs.Numbers.{AreFree};
     ghost use Rattle.brc_table.specs.Seated.{RootSeen};
 
@@ -42,7 +42,7 @@ impl<A: Allocator> Model for RootSeat<A> {
 pub(crate) struct Registering;
 
 impl Split<View> for Registering {
-    ghost use Rattle.law_steps.specs.Joining.{registering, starting};
+    ghost use Rattle.law.specs.steps.Joining.{registering, starting};
 
     ghost left = { registering };
 
@@ -53,7 +53,7 @@ impl Split<View> for Registering {
 pub(crate) struct Gathering;
 
 impl Join<View> for Gathering {
-    ghost use Rattle.law_steps.specs.Joining.{gathering, spent};
+    ghost use Rattle.law.specs.steps.Joining.{gathering, spent};
 
     ghost both = { gathering };
 

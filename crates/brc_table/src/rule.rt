@@ -2,7 +2,7 @@
 
 use atomic_table::TableRule;
 use brc_block::Block;
-use law_rule::View;
+use law::rule::View;
 use std::alloc::Allocator;
 use std::marker::PhantomData;
 
@@ -19,8 +19,8 @@ pub struct HeapRule<A> {
 }
 
 impl<A: Allocator> TableRule<Option<Block<A>>, View, Sizes> for HeapRule<A> {
-    ghost use Rattle.law_rule.specs.Rule.{Kept};
-    ghost use Rattle.law_rule.specs.Opening.{first_view};
+    ghost use Rattle.law.specs.rule.Rule.{Kept};
+    ghost use Rattle.law.specs.rule.Opening.{first_view};
     ghost use Rattle.brc_table.specs.Shown.{shows};
 
     ghost holds = { λ key. Kept shows key.cells key.local_limit };

@@ -3,9 +3,9 @@
 ghost use Rattle.std.specs.Prelude.{◌≡◌, ◌↔◌, ◌⊎◌, ◌*◌, ◌≤◌, Err, IfOk, IfErr};
 ghost use Rattle.brc_words.specs.declared.fault.Fault.TheVariants as faults;
 ghost use Rattle.brc_words.specs.declared.limits.TheConstants.{FEWEST_CELLS, MOST_CELLS, MOST_LOCAL};
-ghost use Rattle.law_world.specs.Heap.{AreOptions};
-ghost use Rattle.law_known.specs.Free_Words.{free_words_for};
-ghost use Rattle.law_rule.specs.Opening.{first_view};
+ghost use Rattle.law.specs.world.Heap.{AreOptions};
+ghost use Rattle.law.specs.known.Free_Words.{free_words_for};
+ghost use Rattle.law.specs.rule.Opening.{first_view};
 
 use crate::layout::free_words_for;
 use crate::opening::{are_options, give_all_back, opening_slots, opening_words};
@@ -14,7 +14,7 @@ use crate::rule::{HeapRule, Sizes};
 use atomic_table::{Refused, Table};
 use brc_block::Block;
 use brc_words::Fault;
-use law_rule::View;
+use law::rule::View;
 use std::alloc::Allocator;
 use std::marker::Model;
 

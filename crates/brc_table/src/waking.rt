@@ -1,12 +1,12 @@
 //! The swap of a thread's notify word. It also tells the thread what its own log says of what lives.
 
 ghost use Rattle.std.specs.Prelude.{◌≡◌, ℕ};
-ghost use Rattle.law_known.specs.declared.word.Word.TheVariants as words;
-ghost use Rattle.law_known.specs.Items.{IsWord};
-ghost use Rattle.law_rule.specs.declared.told.Told.{Told as told_data};
-ghost use Rattle.law_rule.specs.declared.told.Told.TheVariants as told;
-ghost use Rattle.law_rule.specs.Rule.{with_told};
-ghost use Rattle.law_living.specs.Living.{OwnLog};
+ghost use Rattle.law.specs.known.declared.word.Word.TheVariants as words;
+ghost use Rattle.law.specs.known.Items.{IsWord};
+ghost use Rattle.law.specs.rule.declared.told.Told.{Told as told_data};
+ghost use Rattle.law.specs.rule.declared.told.Told.TheVariants as told;
+ghost use Rattle.law.specs.rule.Rule.{with_told};
+ghost use Rattle.law.specs.living.Living.{OwnLog};
 ghost use Rattle.brc_table.specs.Machine.{MayWake};
 ghost use Rattle.brc_table.specs.Shown.{shows};
 
@@ -14,9 +14,9 @@ use crate::layout::spot_of;
 use crate::machine::Place;
 use crate::table::HeapTable;
 use atomic_table::Play;
-use law_known::Word;
-use law_rule::View;
-use law_world::Step;
+use law::known::Word;
+use law::rule::View;
+use law::world::Step;
 use std::alloc::Allocator;
 use std::marker::{Brand, PhantomData};
 

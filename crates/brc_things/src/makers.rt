@@ -2,15 +2,15 @@
 
 ghost use Rattle.std.specs.Prelude.{◌≡◌, ◌<◌, [], IfOk, IfErr, OnOk, OnErr, Some, None};
 ghost use Rattle.brc_words.specs.declared.limits.TheConstants.{FIRST_MORTAL, MOST_PLACES, MOST_BIRTHS};
-ghost use Rattle.law_world.specs.declared.event.Source.TheVariants as sources;
-ghost use Rattle.law_rule.specs.declared.contents.Contents.TheVariants as contents;
+ghost use Rattle.brc_count.specs.law.world.declared.event.Source.TheVariants as sources;
+ghost use Rattle.brc_count.specs.law.rule.declared.contents.Contents.TheVariants as contents;
 ghost use Rattle.brc_count.specs.Frames.{Given, Refused, IsAsBefore, IsUnlocked, ledger_seen};
 ghost use Rattle.brc_count.specs.Making.{Made, RefusedMaking};
 ghost use Rattle.brc_count.specs.Owned.{Keeps, Gains};
 ghost use Rattle.brc_things.specs.Makers.{small_cell, truth_cell, Answered, RefusedTo};
 
-use brc_biased::Home;
-use brc_block::{Cells, Letters, Pairs, Payload};
+use brc_count::biased::Home;
+use brc_count::block::{Cells, Letters, Pairs, Payload};
 use brc_count::{Frame, Handed, Handle};
 use brc_words::{Fault, MOST_BIRTHS, MOST_PLACES, Text};
 use std::alloc::Allocator;

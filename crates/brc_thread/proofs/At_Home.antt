@@ -13,36 +13,36 @@ use Rattle.brc_words.specs.declared.limits.TheConstants.{FIRST_MORTAL}
 use Rattle.brc_words.specs.declared.owner.Owner.{Owner}
 use Rattle.brc_words.specs.declared.owner.Owner.TheVariants as owners
 use Rattle.brc_words.specs.declared.state.State.{State}
-use Rattle.law_world.specs.declared.event.Event.{Event}
-use Rattle.law_world.specs.declared.event.Step.{Step}
-use Rattle.law_world.specs.declared.event.Step.TheVariants.{Register, Gather}
-use Rattle.law_world.specs.declared.row.Row.{Row}
-use Rattle.law_world.specs.declared.row.Hand.{Hand}
-use Rattle.law_world.specs.declared.row.Hand.TheVariants as hands
-use Rattle.law_world.specs.Lists.{one, is_marked, place_at, bit_of}
-use Rattle.law_world.specs.Heap.{Heap, cell_at, row_at, worklist_at, frame_at, popped_at, queue_at}
-use Rattle.law_world.specs.Heap.{is_immortal, is_registered, no_row, new_row, again_row, AreOptions}
-use Rattle.law_world.specs.Steps.{is_active, after_target, root_after, root_may, thread_may, target_at}
-use Rattle.law_world.specs.Holding.{lives, lives_at}
-use Rattle.law_world.specs.Runs.{IsRun, IsReached, world_after}
-use Rattle.law_world.specs.Sound.{IsSound, grips, gripped, grips_by_owner}
-use Rattle.law_world.proofs.Asking.{may_parts}
-use Rattle.law_world.proofs.Changes.{read_there}
-use Rattle.law_world.proofs.Reached.{reached_sound}
-use Rattle.law_known.specs.Start.{start_of}
-use Rattle.law_known.proofs.Starting.{run_sound, run_reached}
-use Rattle.law_world.proofs.Registering.{push_else}
-use Rattle.law_world.proofs.Reusing.{fresh, reused, registers}
-use Rattle.law_lasting.proofs.Lasting.{others_own}
-use Rattle.law_lasting.proofs.Standing.{gathered_hold_nothing}
-use Rattle.law_known.specs.Items.{events_of}
-use Rattle.law_known.proofs.Items_Runs.{events_run}
-use Rattle.law_known.proofs.Items_Tells.{no_start}
-use Rattle.brc_block.specs.declared.payload.Payload.{Payload}
-use Rattle.law_rule.specs.declared.contents.Contents.{Contents}
-use Rattle.law_rule.specs.declared.view.View.{View}
-use Rattle.law_rule.specs.Logs.{items_of, contents_at, world}
-use Rattle.brc_table.specs.Rest.{from_block, Remains}
+use Rattle.brc_count.specs.law.world.declared.event.Event.{Event}
+use Rattle.brc_count.specs.law.world.declared.event.Step.{Step}
+use Rattle.brc_count.specs.law.world.declared.event.Step.TheVariants.{Register, Gather}
+use Rattle.brc_count.specs.law.world.declared.row.Row.{Row}
+use Rattle.brc_count.specs.law.world.declared.row.Hand.{Hand}
+use Rattle.brc_count.specs.law.world.declared.row.Hand.TheVariants as hands
+use Rattle.brc_count.specs.law.world.Lists.{one, is_marked, place_at, bit_of}
+use Rattle.brc_count.specs.law.world.Heap.{Heap, cell_at, row_at, worklist_at, frame_at, popped_at, queue_at}
+use Rattle.brc_count.specs.law.world.Heap.{is_immortal, is_registered, no_row, new_row, again_row, AreOptions}
+use Rattle.brc_count.specs.law.world.Steps.{is_active, after_target, root_after, root_may, thread_may, target_at}
+use Rattle.brc_count.specs.law.world.Holding.{lives, lives_at}
+use Rattle.brc_count.specs.law.world.Runs.{IsRun, IsReached, world_after}
+use Rattle.brc_count.specs.law.world.Sound.{IsSound, grips, gripped, grips_by_owner}
+use Rattle.brc_count.proofs.law.world.Asking.{may_parts}
+use Rattle.brc_count.proofs.law.world.Changes.{read_there}
+use Rattle.brc_count.proofs.law.world.Reached.{reached_sound}
+use Rattle.brc_count.specs.law.known.Start.{start_of}
+use Rattle.brc_count.proofs.law.known.Starting.{run_sound, run_reached}
+use Rattle.brc_count.proofs.law.world.Registering.{push_else}
+use Rattle.brc_count.proofs.law.world.Reusing.{fresh, reused, registers}
+use Rattle.brc_count.proofs.law.lasting.Lasting.{others_own}
+use Rattle.brc_count.proofs.law.lasting.Standing.{gathered_hold_nothing}
+use Rattle.brc_count.specs.law.known.Items.{events_of}
+use Rattle.brc_count.proofs.law.known.Items_Runs.{events_run}
+use Rattle.brc_count.proofs.law.known.Items_Tells.{no_start}
+use Rattle.brc_count.specs.block.declared.payload.Payload.{Payload}
+use Rattle.brc_count.specs.law.rule.declared.contents.Contents.{Contents}
+use Rattle.brc_count.specs.law.rule.declared.view.View.{View}
+use Rattle.brc_count.specs.law.rule.Logs.{items_of, contents_at, world}
+use Rattle.brc_count.specs.table.Rest.{from_block, Remains}
 use Rattle.brc_thread.specs.Emptied.{AllGathered, is_used, used_from, blocks_in, HasBlock, AllAtHome}
 
 -- ---- who has nothing

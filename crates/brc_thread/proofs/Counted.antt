@@ -4,18 +4,18 @@ use Rattle.std.proofs.Common.{arith}
 use Rattle.std.specs.Prelude.{min, sum_by}
 use Rattle.std.proofs.lemmas.List.Sums.{sum_by-cons}
 use Rattle.brc_words.specs.declared.limits.TheConstants.{MOST_REGISTRATIONS}
-use Rattle.law_world.specs.Lists.{one}
-use Rattle.law_world.specs.Holding.{is_birth}
-use Rattle.law_world.specs.Steps.{is_free_step, allocs_after, frees_after}
-use Rattle.law_world.specs.declared.event.Step.{Step}
-use Rattle.law_world.specs.declared.event.Step.TheVariants.{Birth, Free}
-use Rattle.law_known.specs.Items.{Part, part_by, meant}
-use Rattle.law_rule.specs.declared.told.Told.{Told}
-use Rattle.law_rule.specs.declared.told.Told.TheVariants.{Did, Saw, Lost}
-use Rattle.law_rule.specs.Logs.{entries_found}
-use Rattle.law_rule.specs.Seen.{part_seen}
-use Rattle.law_rule.specs.declared.view.View.{View}
-use Rattle.law_steps.specs.Joining.{registering, gathering}
+use Rattle.brc_count.specs.law.world.Lists.{one}
+use Rattle.brc_count.specs.law.world.Holding.{is_birth}
+use Rattle.brc_count.specs.law.world.Steps.{is_free_step, allocs_after, frees_after}
+use Rattle.brc_count.specs.law.world.declared.event.Step.{Step}
+use Rattle.brc_count.specs.law.world.declared.event.Step.TheVariants.{Birth, Free}
+use Rattle.brc_count.specs.law.known.Items.{Part, part_by, meant}
+use Rattle.brc_count.specs.law.rule.declared.told.Told.{Told}
+use Rattle.brc_count.specs.law.rule.declared.told.Told.TheVariants.{Did, Saw, Lost}
+use Rattle.brc_count.specs.law.rule.Logs.{entries_found}
+use Rattle.brc_count.specs.law.rule.Seen.{part_seen}
+use Rattle.brc_count.specs.law.rule.declared.view.View.{View}
+use Rattle.brc_count.specs.law.steps.Joining.{registering, gathering}
 use Rattle.brc_count.specs.declared.ledger.Ledger.{Ledger}
 use Rattle.brc_thread.specs.Threads.{ledger_of}
 use Rattle.brc_thread.specs.Counting.{bears, frees, registrations, gatherings, births_of_all, frees_of_all}

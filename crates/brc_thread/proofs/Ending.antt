@@ -1,24 +1,24 @@
 -- What is so where a heap ends.
 use Rattle.std.proofs.Common.{◌≡◌, ◌+◌, ℕ, true, List, length, Option, refl, sym, subst, ap, ◌∙◌, arith}
 use Rattle.std.specs.Prelude.{sum_by}
-use Rattle.brc_block.specs.declared.payload.Payload.{Payload}
-use Rattle.law_known.specs.Items.{AreItems, IsPart, part_of, events_of, own}
-use Rattle.law_known.specs.Start.{start_of}
-use Rattle.law_known.specs.Root.{rows_of, registrations_of, gathered_of}
-use Rattle.law_known.proofs.Starting.{run_histories}
-use Rattle.law_known.proofs.Root_Law.{rows_are_told, registrations_are_told, gathered_are_told}
-use Rattle.law_known.proofs.Items_Runs.{events_run}
-use Rattle.law_known.proofs.Items_Law.{parts_are_told}
-use Rattle.law_rule.specs.declared.view.View.{View}
-use Rattle.law_rule.specs.Logs.{Run, items_of, log_items, own_of, lives_of, world}
-use Rattle.law_rule.specs.Seen.{part_seen}
-use Rattle.law_rule.proofs.Own_Logs.{own_items}
-use Rattle.law_rule.proofs.Knowing.{kept_reached, kept_headline}
-use Rattle.law_rule.proofs.Once.{root_once}
-use Rattle.law_world.specs.Heap.{AreOptions, row_at, no_row, is_registered}
-use Rattle.law_world.specs.declared.row.Row.{Row}
-use Rattle.brc_table.specs.Rest.{Remains}
-use Rattle.brc_table.specs.Shown.{shows}
+use Rattle.brc_count.specs.block.declared.payload.Payload.{Payload}
+use Rattle.brc_count.specs.law.known.Items.{AreItems, IsPart, part_of, events_of, own}
+use Rattle.brc_count.specs.law.known.Start.{start_of}
+use Rattle.brc_count.specs.law.known.Root.{rows_of, registrations_of, gathered_of}
+use Rattle.brc_count.proofs.law.known.Starting.{run_histories}
+use Rattle.brc_count.proofs.law.known.Root_Law.{rows_are_told, registrations_are_told, gathered_are_told}
+use Rattle.brc_count.proofs.law.known.Items_Runs.{events_run}
+use Rattle.brc_count.proofs.law.known.Items_Law.{parts_are_told}
+use Rattle.brc_count.specs.law.rule.declared.view.View.{View}
+use Rattle.brc_count.specs.law.rule.Logs.{Run, items_of, log_items, own_of, lives_of, world}
+use Rattle.brc_count.specs.law.rule.Seen.{part_seen}
+use Rattle.brc_count.proofs.law.rule.Own_Logs.{own_items}
+use Rattle.brc_count.proofs.law.rule.Knowing.{kept_reached, kept_headline}
+use Rattle.brc_count.proofs.law.rule.Once.{root_once}
+use Rattle.brc_count.specs.law.world.Heap.{AreOptions, row_at, no_row, is_registered}
+use Rattle.brc_count.specs.law.world.declared.row.Row.{Row}
+use Rattle.brc_count.specs.table.Rest.{Remains}
+use Rattle.brc_count.specs.table.Shown.{shows}
 use Rattle.brc_thread.specs.Threads.{ledger_of}
 use Rattle.brc_thread.specs.Ending.{Ends, ledger_at}
 use Rattle.brc_thread.specs.Counting.{bears, frees, registrations, gatherings, births_of_all, frees_of_all}

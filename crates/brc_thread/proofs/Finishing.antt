@@ -1,6 +1,6 @@
 -- Turns of a thread that has left, joined.
 use Rattle.std.proofs.Common.{◌≡◌, ℕ, ◌+◌, subst, add_assoc, add-zero, sym, ap, ◌∙◌}
-use Rattle.brc_table.specs.Seated.{SeatSeen}
+use Rattle.brc_count.specs.table.Seated.{SeatSeen}
 use Rattle.brc_count.specs.Frames.{FrameSeen, KeepsHandles}
 use Rattle.brc_count.specs.Closing.{TurnsLeaving, NoTurn, OneMore}
 use Rattle.brc_thread.specs.Threads.{RetiredSeen}

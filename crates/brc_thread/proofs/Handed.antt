@@ -1,21 +1,21 @@
 -- A held cell is no step's to free or to bear.
 use Rattle.std.proofs.Common.{◌≡◌, ℕ, ◌≤◌, Some, ap, ◌∙◌, subst}
-use Rattle.law_world.specs.declared.event.Event.{Event}
-use Rattle.law_world.specs.Heap.{Heap}
-use Rattle.law_known.specs.Start.{start_of}
-use Rattle.law_known.proofs.Starting.{run_reached}
-use Rattle.law_world.specs.Lists.{place_at}
-use Rattle.law_world.specs.Runs.{IsReached}
-use Rattle.law_world.specs.Sound.{held}
-use Rattle.law_world.proofs.Dropping.{held_by_place}
-use Rattle.law_lasting.proofs.Standing.{held_not_freed, held_not_born}
-use Rattle.law_known.specs.Items.{IsPart, events_of}
-use Rattle.law_known.proofs.Items_Runs.{events_run}
-use Rattle.law_rule.specs.declared.told.Told.{Told}
-use Rattle.law_rule.specs.declared.told.Told.TheVariants.{Did, Saw, Lost}
-use Rattle.law_rule.specs.Logs.{Run, items_of, own_of, world}
-use Rattle.law_rule.specs.Seen.{part_seen}
-use Rattle.brc_table.specs.Seated.{TableSeen}
+use Rattle.brc_count.specs.law.world.declared.event.Event.{Event}
+use Rattle.brc_count.specs.law.world.Heap.{Heap}
+use Rattle.brc_count.specs.law.known.Start.{start_of}
+use Rattle.brc_count.proofs.law.known.Starting.{run_reached}
+use Rattle.brc_count.specs.law.world.Lists.{place_at}
+use Rattle.brc_count.specs.law.world.Runs.{IsReached}
+use Rattle.brc_count.specs.law.world.Sound.{held}
+use Rattle.brc_count.proofs.law.world.Dropping.{held_by_place}
+use Rattle.brc_count.proofs.law.lasting.Standing.{held_not_freed, held_not_born}
+use Rattle.brc_count.specs.law.known.Items.{IsPart, events_of}
+use Rattle.brc_count.proofs.law.known.Items_Runs.{events_run}
+use Rattle.brc_count.specs.law.rule.declared.told.Told.{Told}
+use Rattle.brc_count.specs.law.rule.declared.told.Told.TheVariants.{Did, Saw, Lost}
+use Rattle.brc_count.specs.law.rule.Logs.{Run, items_of, own_of, world}
+use Rattle.brc_count.specs.law.rule.Seen.{part_seen}
+use Rattle.brc_count.specs.table.Seated.{TableSeen}
 use Rattle.brc_count.specs.Frames.{FrameSeen, HandleSeen}
 use Rattle.brc_thread.specs.Handed.{IsHeld, OwnsIn, Next, Spares, world_of}
 use Rattle.brc_thread.proofs.Ending.{own_part}

@@ -1,10 +1,10 @@
 -- A block's kind and entries are those of its contents.
 use Rattle.std.proofs.Common.{◌≡◌, ℕ, List, [], ◌∷◌, map, true, false, refl, ap}
-use Rattle.brc_block.specs.declared.payload.Payload.{Payload}
-use Rattle.brc_block.specs.declared.payload.Payload.TheVariants as payloads
-use Rattle.brc_block.specs.Payload.{kind_of, entries_of}
-use Rattle.law_rule.specs.Logs.{kind_in, entries_in}
-use Rattle.brc_table.specs.Shown.{contents_of, plain_key}
+use Rattle.brc_count.specs.block.declared.payload.Payload.{Payload}
+use Rattle.brc_count.specs.block.declared.payload.Payload.TheVariants as payloads
+use Rattle.brc_count.specs.block.Payload.{kind_of, entries_of}
+use Rattle.brc_count.specs.law.rule.Logs.{kind_in, entries_in}
+use Rattle.brc_count.specs.table.Shown.{contents_of, plain_key}
 
 values_of : {K L : Type 0} (f : K → L) (pairs : List (K × ℕ))
     → map (λ (p : L × ℕ). p.1) (map (λ (pair : K × ℕ). (f pair.0, pair.1)) pairs) ≡ map (λ (p : K × ℕ). p.1) pairs

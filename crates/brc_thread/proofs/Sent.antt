@@ -8,21 +8,21 @@ use denote.Struct.Field.{u32-field}
 use Rattle.std.proofs.Crossing.{crosses, Box-send, frees, send as global_send}
 use Rattle.std.specs.contracts.option.Option as Option
 use Rattle.std.specs.contracts.boxed.Box as Box
-use Rattle.brc_block.proofs.payload.Payload.TheSendSync as payload
+use Rattle.brc_count.proofs.block.payload.Payload.TheSendSync as payload
 use Rattle.std.proofs.option.Option.TheSendSync as option
 use Rattle.std.specs.contracts.alloc.Global as Global
 use Rattle.std.specs.contracts.impls.GlobalAllocator.TheImpl.{ghosts}
-use Rattle.brc_block.specs.contracts.block.Block as Block
-use Rattle.brc_block.specs.contracts.key_map.KeyMap as KeyMap
-use Rattle.brc_block.specs.contracts.pairs.Pairs as Pairs
-use Rattle.brc_block.specs.contracts.payload.Payload as Payload
-use Rattle.brc_block.specs.contracts.worklist.Node as Node
-use Rattle.brc_block.proofs.worklist.Worklist.TheLaws.TheKnot.{send-Node, send-Worklist}
-use Rattle.brc_table.specs.contracts.seats.ThreadSeat as ThreadSeat
-use Rattle.brc_biased.specs.contracts.resting.RestingCounter as RestingCounter
+use Rattle.brc_count.specs.block.contracts.block.Block as Block
+use Rattle.brc_count.specs.block.contracts.key_map.KeyMap as KeyMap
+use Rattle.brc_count.specs.block.contracts.pairs.Pairs as Pairs
+use Rattle.brc_count.specs.block.contracts.payload.Payload as Payload
+use Rattle.brc_count.specs.block.contracts.worklist.Node as Node
+use Rattle.brc_count.proofs.block.worklist.Worklist.TheLaws.TheKnot.{send-Node, send-Worklist}
+use Rattle.brc_count.specs.table.contracts.seats.ThreadSeat as ThreadSeat
+use Rattle.brc_count.specs.biased.contracts.resting.RestingCounter as RestingCounter
 use Rattle.brc_count.below.atomic_table.proofs.shared.Seat.TheSendSync as seat
 use Rattle.brc_count.below.atomic_table.proofs.owned.Table.TheSendSync as table
-use Rattle.brc_table.specs.contracts.table.HeapTable as HeapTable
+use Rattle.brc_count.specs.table.contracts.table.HeapTable as HeapTable
 use Rattle.brc_count.specs.contracts.resting.RestingFrame as RestingFrame
 use Rattle.brc_thread.specs.contracts.resting.Resting as Resting
 use Rattle.brc_thread.specs.contracts.heap.Heap as Heap

@@ -1,8 +1,8 @@
 -- Polls and turns of work, joined.
 use Rattle.std.proofs.Common.{◌≡◌, ℕ, [], ◌∙◌, IsTrue, nat_eq, subst}
 use Rattle.std.proofs.lemmas.Bool.{eqb-true}
-use Rattle.law_living.specs.Quiet.{Quietly, NoItem}
-use Rattle.law_living.proofs.Quiet_Items.{quietly_joined}
+use Rattle.brc_count.specs.law.living.Quiet.{Quietly, NoItem}
+use Rattle.brc_count.proofs.law.living.Quiet_Items.{quietly_joined}
 use Rattle.brc_count.proofs.Quiet.{turns_quietly, polled_quietly}
 use Rattle.brc_count.specs.Frames.{FrameSeen, Turns}
 use Rattle.brc_count.specs.Polling.{Polled}

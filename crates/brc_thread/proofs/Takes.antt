@@ -1,14 +1,14 @@
 -- A take of an object's last entry, and some after one another.
 use Rattle.std.proofs.Common.{◌≡◌, ◌≢◌, ◌+◌, ◌++◌, ℕ, zero, suc, List, [], ◌∷◌, Some, sym, ◌∙◌, ap, subst, arith}
 use Rattle.std.proofs.Common.{length, length-append, slice_get, remove}
-use Rattle.brc_block.specs.declared.payload.Payload.{Payload}
-use Rattle.brc_block.specs.Payload.{kind_of, entries_of}
-use Rattle.law_world.specs.declared.event.Change.TheVariants.{Take}
-use Rattle.law_world.specs.declared.event.Step.TheVariants.{Unlock}
-use Rattle.law_rule.specs.declared.told.Moved.TheVariants as moves
-use Rattle.law_rule.specs.declared.told.Told.TheVariants.{Did}
-use Rattle.law_rule.specs.Logs.{entries_in}
-use Rattle.brc_table.specs.Shown.{contents_of}
+use Rattle.brc_count.specs.block.declared.payload.Payload.{Payload}
+use Rattle.brc_count.specs.block.Payload.{kind_of, entries_of}
+use Rattle.brc_count.specs.law.world.declared.event.Change.TheVariants.{Take}
+use Rattle.brc_count.specs.law.world.declared.event.Step.TheVariants.{Unlock}
+use Rattle.brc_count.specs.law.rule.declared.told.Moved.TheVariants as moves
+use Rattle.brc_count.specs.law.rule.declared.told.Told.TheVariants.{Did}
+use Rattle.brc_count.specs.law.rule.Logs.{entries_in}
+use Rattle.brc_count.specs.table.Shown.{contents_of}
 use Rattle.brc_count.specs.Frames.{FrameSeen, HandleSeen, IsAsBefore, ReleasedOf}
 use Rattle.brc_count.specs.Locking.{Began, Ended, KeepsThread, KeepsFrame, ChangesPlace, cell_in, contents_found}
 use Rattle.brc_count.specs.Locking.{entries_found}

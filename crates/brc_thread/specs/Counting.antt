@@ -1,15 +1,15 @@
 -- How many threads the root has registered and gathered, and what those that it gathered did, counted from its view.
 use Rattle.std.specs.Prelude.{◌≡◌, ◌≤◌, ℕ, List, length, min, sum_by}
 use Rattle.brc_words.specs.declared.limits.TheConstants.{MOST_REGISTRATIONS}
-use Rattle.law_world.specs.Lists.{one}
-use Rattle.law_world.specs.Holding.{is_birth}
-use Rattle.law_world.specs.Steps.{is_free_step}
-use Rattle.law_rule.specs.declared.told.Told.{Told}
-use Rattle.law_rule.specs.declared.told.Told.TheVariants.{Did}
-use Rattle.law_rule.specs.declared.view.View.{View}
+use Rattle.brc_count.specs.law.world.Lists.{one}
+use Rattle.brc_count.specs.law.world.Holding.{is_birth}
+use Rattle.brc_count.specs.law.world.Steps.{is_free_step}
+use Rattle.brc_count.specs.law.rule.declared.told.Told.{Told}
+use Rattle.brc_count.specs.law.rule.declared.told.Told.TheVariants.{Did}
+use Rattle.brc_count.specs.law.rule.declared.view.View.{View}
 use Rattle.brc_count.specs.declared.ledger.Ledger.{Ledger}
 -- how many threads the root has registered
-pub use Rattle.law_steps.specs.Joining.{registrations}
+pub use Rattle.brc_count.specs.law.steps.Joining.{registrations}
 
 -- the step bears an object, gives a cell back
 abbrev pub bears : Told → ℕ

@@ -4,12 +4,12 @@ use Rattle.std.specs.Prelude.{length, Option, Some, None}
 use mathlib.Core.Option.{some}
 use lib.ListN.{get_elem?}
 use Rattle.brc_words.specs.declared.limits.TheConstants.{FIRST_MORTAL}
-use Rattle.brc_block.specs.declared.payload.Payload.{Payload}
-use Rattle.law_rule.specs.declared.contents.Contents.{Contents}
-use Rattle.law_rule.specs.Logs.{Run, contents_at}
-use Rattle.law_world.specs.Heap.{Heap, is_immortal, is_registered, is_gathered}
-use Rattle.law_world.specs.Holding.{lives_at}
-use Rattle.brc_table.specs.Shown.{contents_of}
+use Rattle.brc_count.specs.block.declared.payload.Payload.{Payload}
+use Rattle.brc_count.specs.law.rule.declared.contents.Contents.{Contents}
+use Rattle.brc_count.specs.law.rule.Logs.{Run, contents_at}
+use Rattle.brc_count.specs.law.world.Heap.{Heap, is_immortal, is_registered, is_gathered}
+use Rattle.brc_count.specs.law.world.Holding.{lives_at}
+use Rattle.brc_count.specs.table.Shown.{contents_of}
 
 -- every thread that was registered is gathered
 abbrev pub AllGathered : Heap → Type 0

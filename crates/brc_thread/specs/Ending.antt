@@ -1,17 +1,17 @@
 -- How a heap ends: what is left of it, and what is so of all that was done on it.
 use Rattle.std.specs.Prelude.{◌≡◌, ◌<◌, ◌+◌, ℕ, true, List, length, sum_by, Option, Some}
-use Rattle.brc_block.specs.declared.payload.Payload.{Payload}
-use Rattle.law_known.specs.Items.{events_of}
-use Rattle.law_known.specs.Root.{gathered_of, rows_of}
-use Rattle.law_rule.specs.declared.view.View.{View}
-use Rattle.law_rule.specs.Logs.{items_of, log_items, own_of, all_of, lives_of, world}
-use Rattle.law_rule.specs.Rule.{log_in, StandsOnce}
-use Rattle.law_known.specs.Start.{start_of}
-use Rattle.law_world.specs.Heap.{Heap, row_at, is_registered, is_gathered}
-use Rattle.law_world.specs.Holding.{Headline}
-use Rattle.law_world.specs.Since.{HistoriesSince}
-use Rattle.law_world.specs.Runs.{IsReached}
-use Rattle.brc_table.specs.Rest.{Remains}
+use Rattle.brc_count.specs.block.declared.payload.Payload.{Payload}
+use Rattle.brc_count.specs.law.known.Items.{events_of}
+use Rattle.brc_count.specs.law.known.Root.{gathered_of, rows_of}
+use Rattle.brc_count.specs.law.rule.declared.view.View.{View}
+use Rattle.brc_count.specs.law.rule.Logs.{items_of, log_items, own_of, all_of, lives_of, world}
+use Rattle.brc_count.specs.law.rule.Rule.{log_in, StandsOnce}
+use Rattle.brc_count.specs.law.known.Start.{start_of}
+use Rattle.brc_count.specs.law.world.Heap.{Heap, row_at, is_registered, is_gathered}
+use Rattle.brc_count.specs.law.world.Holding.{Headline}
+use Rattle.brc_count.specs.law.world.Since.{HistoriesSince}
+use Rattle.brc_count.specs.law.world.Runs.{IsReached}
+use Rattle.brc_count.specs.table.Rest.{Remains}
 use Rattle.brc_count.specs.declared.ledger.Ledger.{Ledger}
 use Rattle.brc_thread.specs.Counting.{registrations, gatherings, births_of_all, frees_of_all}
 use Rattle.brc_thread.specs.Emptied.{AllGathered, AllAtHome}

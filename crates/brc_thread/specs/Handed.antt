@@ -1,14 +1,14 @@
 -- A handle between the step that gave it and the step that spends it, at one of any number of heaps.
 use Rattle.std.specs.Prelude.{◌≡◌, ◌≢◌, ℕ, ◌<◌, true, ◌∷◌, Some}
 use Rattle.brc_words.specs.declared.kind.Kind.{Kind}
-use Rattle.law_world.specs.declared.event.Step.TheVariants.{Free, Birth}
-use Rattle.law_world.specs.Heap.{Heap, AreOptions, is_registered}
-use Rattle.law_world.specs.Lists.{place_at}
-use Rattle.law_rule.specs.declared.told.Told.{Told}
-use Rattle.law_rule.specs.declared.told.Told.TheVariants.{Did, Saw, Lost}
-use Rattle.law_rule.specs.Logs.{Run, own_of, world, IsLegal}
-use Rattle.law_rule.specs.Seen.{part_seen}
-use Rattle.brc_table.specs.Seated.{TableSeen}
+use Rattle.brc_count.specs.law.world.declared.event.Step.TheVariants.{Free, Birth}
+use Rattle.brc_count.specs.law.world.Heap.{Heap, AreOptions, is_registered}
+use Rattle.brc_count.specs.law.world.Lists.{place_at}
+use Rattle.brc_count.specs.law.rule.declared.told.Told.{Told}
+use Rattle.brc_count.specs.law.rule.declared.told.Told.TheVariants.{Did, Saw, Lost}
+use Rattle.brc_count.specs.law.rule.Logs.{Run, own_of, world, IsLegal}
+use Rattle.brc_count.specs.law.rule.Seen.{part_seen}
+use Rattle.brc_count.specs.table.Seated.{TableSeen}
 use Rattle.brc_count.specs.Frames.{FrameSeen, HandleSeen, Owns}
 use Rattle.brc_count.specs.Locking.{cell_in}
 

@@ -1,7 +1,7 @@
 -- How a thread without handles ends: what it does from its last call as a mutator until the root can gather it.
 use Rattle.std.specs.Prelude.{◌≡◌, ◌≤◌, ◌<◌, ℕ, length}
-use Rattle.law_steps.specs.Joining.{gathering}
-use Rattle.brc_table.specs.Seated.{RootSeen, view_of}
+use Rattle.brc_count.specs.law.steps.Joining.{gathering}
+use Rattle.brc_count.specs.table.Seated.{RootSeen, view_of}
 use Rattle.brc_count.specs.declared.ledger.Ledger.{Ledger}
 use Rattle.brc_count.specs.Frames.{FrameSeen, IsUnlocked, Turns}
 use Rattle.brc_count.specs.Closing.{GoesOut, TurnsLeaving}

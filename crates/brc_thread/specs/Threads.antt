@@ -3,10 +3,10 @@ use Rattle.std.specs.Prelude.{◌≡◌, ◌⊎◌, ◌<◌, ◌≤◌, ℕ, Lis
 use Rattle.brc_words.specs.declared.fault.Fault.{Fault}
 use Rattle.brc_words.specs.declared.fault.Fault.TheVariants.{TooManyThreads, OutOfMemory}
 use Rattle.brc_words.specs.declared.limits.TheConstants.{MOST_THREADS, MOST_REGISTRATIONS}
-use Rattle.law_rule.specs.declared.told.Told.{Told}
-use Rattle.law_rule.specs.Seen.{part_seen}
-use Rattle.law_steps.specs.Joining.{next_thread, registrations, Leaves}
-use Rattle.brc_table.specs.Seated.{TableSeen, SeatSeen, RootSeen, view_of}
+use Rattle.brc_count.specs.law.rule.declared.told.Told.{Told}
+use Rattle.brc_count.specs.law.rule.Seen.{part_seen}
+use Rattle.brc_count.specs.law.steps.Joining.{next_thread, registrations, Leaves}
+use Rattle.brc_count.specs.table.Seated.{TableSeen, SeatSeen, RootSeen, view_of}
 use Rattle.brc_count.specs.declared.ledger.Ledger.{Ledger}
 
 -- a thread is refused if 64 numbers are in use, or if 65,536 threads were registered; or memory was missing

@@ -2,7 +2,7 @@
 
 ghost use Rattle.std.specs.Prelude.{◌≡◌, ◌≤◌, [], true, IfOk, IfErr, OnOk, OnErr};
 ghost use Rattle.brc_words.specs.declared.limits.TheConstants.{FEWEST_CELLS, MOST_CELLS, MOST_THREADS};
-ghost use Rattle.law_steps.specs.Joining.{next_thread, registering};
+ghost use Rattle.brc_count.specs.law.steps.Joining.{next_thread, registering};
 ghost use Rattle.brc_count.specs.Frames.{IsUnlocked, ledger_seen, word_asked};
 ghost use Rattle.brc_count.specs.Closing.{BeginsBy};
 ghost use Rattle.brc_thread.specs.Apart.{first_of_part};
@@ -10,7 +10,7 @@ ghost use Rattle.brc_thread.specs.Threads.{RefusesThread};
 
 use crate::mutator::Mutator;
 use crate::root::Root;
-use brc_biased::Home;
+use brc_count::biased::Home;
 use brc_words::{FIRST_MORTAL, Fault, MOST_THREADS};
 use std::alloc::Allocator;
 

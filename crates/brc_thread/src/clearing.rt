@@ -11,7 +11,7 @@ ghost use Rattle.brc_count.specs.Owned.{Keeps};
 ghost use Rattle.brc_thread.specs.Clearing.{Takes, HandsSome, Looks, TakesAll, Clears};
 
 use crate::mutator::Mutator;
-use brc_biased::Home;
+use brc_count::biased::Home;
 use brc_count::{Frame, Handle};
 use brc_words::{Fault, MOST_ENTRIES};
 use std::alloc::Allocator;

@@ -5,8 +5,8 @@ ghost use Rattle.brc_thread.specs.Ending.{Ends};
 
 use crate::heap::Heap;
 use crate::root::Root;
-use brc_block::Block;
-use brc_table::Rest;
+use brc_count::block::Block;
+use brc_count::table::Rest;
 use std::alloc::Allocator;
 
 /// Ends a heap that no thread shares any more. What is left is its blocks, to be given back one by one, by rising cell.

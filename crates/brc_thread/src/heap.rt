@@ -2,14 +2,14 @@
 
 ghost use Rattle.std.specs.Prelude.{◌≡◌, ◌↔◌, ◌⊎◌, Err, IfOk, IfErr};
 ghost use Rattle.brc_words.specs.declared.fault.Fault.TheVariants as faults;
-ghost use Rattle.law_world.specs.Heap.{AreOptions};
-ghost use Rattle.law_rule.specs.Opening.{first_view};
-ghost use Rattle.brc_table.specs.Seated.{TableSeen};
+ghost use Rattle.brc_count.specs.law.world.Heap.{AreOptions};
+ghost use Rattle.brc_count.specs.law.rule.Opening.{first_view};
+ghost use Rattle.brc_count.specs.table.Seated.{TableSeen};
 
 use crate::root::Root;
-use brc_biased::Home;
+use brc_count::biased::Home;
 use brc_count::Ledger;
-use brc_table::{HeapTable, Rest};
+use brc_count::table::{HeapTable, Rest};
 use brc_words::Fault;
 use std::alloc::{Allocator, Global};
 use std::marker::Model;
@@ -37,7 +37,7 @@ pub struct Heap<A: Allocator = Global> {
 }
 
 impl<A: Allocator> Model for Heap<A> {
-    ghost use Rattle.brc_table.specs.Seated.{TableSeen};
+    ghost use Rattle.brc_count.specs.table.Seated.{TableSeen};
 
     ghost Value = { TableSeen };
 

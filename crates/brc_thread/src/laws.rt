@@ -1,12 +1,12 @@
 //! The law of handles, and what `Rest` gives, as contracts of functions with nothing to do.
 
 ghost use Rattle.std.specs.Prelude.{◌≡◌, ℕ, List, [], ◌∷◌, Option, Some};
-ghost use Rattle.brc_block.specs.declared.payload.Payload.{Payload};
-ghost use Rattle.law_rule.specs.declared.told.Told.{Told as told_data};
-ghost use Rattle.law_rule.specs.Logs.{Run};
-ghost use Rattle.brc_table.specs.Rest.{from_block};
+ghost use Rattle.brc_count.specs.block.declared.payload.Payload.{Payload};
+ghost use Rattle.brc_count.specs.law.rule.declared.told.Told.{Told as told_data};
+ghost use Rattle.brc_count.specs.law.rule.Logs.{Run};
+ghost use Rattle.brc_count.specs.table.Rest.{from_block};
 ghost use Rattle.brc_thread.specs.Emptied.{blocks_in};
-ghost use Rattle.brc_table.specs.Seated.{TableSeen};
+ghost use Rattle.brc_count.specs.table.Seated.{TableSeen};
 ghost use Rattle.brc_count.specs.Frames.{FrameSeen, HandleSeen};
 ghost use Rattle.brc_thread.specs.Handed.{IsHeld, OwnsIn, Next, Spares};
 

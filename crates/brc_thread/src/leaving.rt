@@ -2,14 +2,14 @@
 
 ghost use Rattle.std.specs.Prelude.{◌≡◌, ◌<◌, ◌≤◌, ◌-◌, [], ◌⊎◌, length, IsTrue, IsFalse, IfOk, IfErr, OnErr, true};
 ghost use Rattle.std.specs.Prelude.{false};
-ghost use Rattle.law_world.specs.Lists.{is_blank};
+ghost use Rattle.brc_count.specs.law.world.Lists.{is_blank};
 ghost use Rattle.brc_count.specs.Frames.{KeepsHandles, ledger_seen, popped_seen};
 ghost use Rattle.brc_count.specs.Closing.{TurnsLeaving};
 ghost use Rattle.brc_thread.specs.Threads.{ledger_of};
 
-use brc_biased::Home;
+use brc_count::biased::Home;
 use brc_count::{ClosedFrame, Ledger};
-use brc_table::ThreadSeat;
+use brc_count::table::ThreadSeat;
 use std::alloc::{Allocator, Global};
 use std::marker::Model;
 

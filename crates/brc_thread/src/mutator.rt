@@ -3,8 +3,8 @@
 ghost use Rattle.std.specs.Prelude.{◌≡◌, ◌<◌, ◌≤◌, ◌-◌, [], ◌⊎◌, length, true, false, IsTrue, IsFalse, IfOk, IfErr};
 ghost use Rattle.std.specs.Prelude.{OnOk, OnErr};
 ghost use Rattle.brc_words.specs.declared.limits.TheConstants.{GLOBALS};
-ghost use Rattle.law_world.specs.declared.event.Source.TheVariants as sources;
-ghost use Rattle.law_living.specs.Living.{OwnLog};
+ghost use Rattle.brc_count.specs.law.world.declared.event.Source.TheVariants as sources;
+ghost use Rattle.brc_count.specs.law.living.Living.{OwnLog};
 ghost use Rattle.brc_count.specs.Frames.{Given, Refused, IsAsBefore, IsUnlocked, KeepsHandles, KeepsButStart, Turns};
 ghost use Rattle.brc_count.specs.Frames.{word_asked, ledger_seen};
 ghost use Rattle.brc_count.specs.Polling.{Polled};
@@ -12,7 +12,7 @@ ghost use Rattle.brc_count.specs.Closing.{GoesOut};
 ghost use Rattle.brc_count.specs.Owned.{Keeps, Gains};
 
 use crate::leaving::Leaving;
-use brc_biased::Home;
+use brc_count::biased::Home;
 use brc_count::{Frame, Handle, Ledger};
 use brc_words::Fault;
 use std::alloc::Allocator;

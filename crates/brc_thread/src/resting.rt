@@ -4,7 +4,7 @@ ghost use Rattle.std.specs.Prelude.{◌≡◌, []};
 ghost use Rattle.brc_count.specs.Frames.{IsUnlocked};
 
 use crate::mutator::Mutator;
-use brc_biased::Home;
+use brc_count::biased::Home;
 use brc_count::RestingFrame;
 use std::alloc::{Allocator, Global};
 use std::marker::Model;

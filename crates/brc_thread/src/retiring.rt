@@ -10,7 +10,7 @@ use crate::heap::Heap;
 use crate::leaving::{Leaving, Retired};
 use crate::mutator::Mutator;
 use crate::root::Root;
-use brc_biased::Home;
+use brc_count::biased::Home;
 use brc_count::Ledger;
 use std::alloc::Allocator;
 use std::sync::Wait;

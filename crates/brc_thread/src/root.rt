@@ -3,8 +3,8 @@
 ghost use Rattle.std.specs.Prelude.{◌≡◌, ◌≤◌, [], false, IfOk, IfErr, OnOk, OnErr};
 ghost use Rattle.brc_count.specs.Frames.{IsUnlocked, first_word, ledger_seen};
 ghost use Rattle.brc_words.specs.declared.limits.TheConstants.{MOST_REGISTRATIONS};
-ghost use Rattle.law_steps.specs.Joining.{next_thread, registering, gathering};
-ghost use Rattle.brc_table.specs.Seated.{view_of};
+ghost use Rattle.brc_count.specs.law.steps.Joining.{next_thread, registering, gathering};
+ghost use Rattle.brc_count.specs.table.Seated.{view_of};
 ghost use Rattle.brc_thread.specs.Counting.{registrations, gatherings, births_of_all, frees_of_all, in_u32, in_u64};
 ghost use Rattle.brc_count.specs.Closing.{BeginsBy};
 ghost use Rattle.brc_thread.specs.Threads.{RefusesThread};
@@ -12,9 +12,9 @@ ghost use Rattle.brc_thread.specs.Threads.{RefusesThread};
 use crate::heap::Heap;
 use crate::leaving::Retired;
 use crate::mutator::Mutator;
-use brc_biased::Home;
+use brc_count::biased::Home;
 use brc_count::{Frame, Ledger};
-use brc_table::RootSeat;
+use brc_count::table::RootSeat;
 use brc_words::{Fault, MOST_REGISTRATIONS, MOST_THREADS};
 use std::alloc::{Allocator, Global};
 use std::marker::Model;
@@ -30,7 +30,7 @@ pub struct Root<A: Allocator = Global> {
 
 impl<A: Allocator> Model for Root<A> {
     ghost use Rattle.std.specs.Prelude.{◌≡◌, true};
-    ghost use Rattle.brc_table.specs.Seated.{RootSeen};
+    ghost use Rattle.brc_count.specs.table.Seated.{RootSeen};
     ghost use Rattle.brc_thread.specs.Counting.{Counts};
 
     ghost Value = { RootSeen };

@@ -1,14 +1,14 @@
 //! Settling: polls and work until there is nothing to do.
 
 ghost use Rattle.std.specs.Prelude.{IsTrue};
-ghost use Rattle.law_living.specs.Living.{OwnLog};
-ghost use Rattle.law_living.specs.Quiet.{Quietly};
+ghost use Rattle.brc_count.specs.law.living.Living.{OwnLog};
+ghost use Rattle.brc_count.specs.law.living.Quiet.{Quietly};
 ghost use Rattle.brc_count.specs.Frames.{IsUnlocked, KeepsHandles};
 ghost use Rattle.brc_count.specs.Owned.{Keeps};
 ghost use Rattle.brc_thread.specs.Settling.{PollsAndWorks, Settles};
 
 use crate::mutator::Mutator;
-use brc_biased::Home;
+use brc_count::biased::Home;
 use std::alloc::Allocator;
 use std::sync::Wait;
 

@@ -21,7 +21,7 @@ use Rattle.brc_meaning.specs.declared.call.KeyedCall.TheVariants as keyed
 use Rattle.brc_meaning.specs.declared.object.Object.TheVariants as objects
 use Rattle.brc_meaning.specs.declared.state.State.{State}
 use Rattle.brc_meaning.specs.Objects.{object_call, keyed_call, entries_in, number_in}
-use Rattle.law_living.specs.Living.{OwnLog}
+use Rattle.brc_count.specs.law.living.Living.{OwnLog}
 use Rattle.brc_containers.specs.Changing.{PlainCall, RefusedPlainly}
 use Rattle.brc_lists.specs.Plain.{plain_push, plain_pop, plain_get, plain_set, plain_send, plain_receive}
 use Rattle.brc_dicts.specs.Plain.{plain_put, plain_find, plain_del}

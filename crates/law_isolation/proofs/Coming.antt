@@ -6,7 +6,7 @@ use Rattle.std.specs.Option.{option_map}
 use Rattle.std.proofs.lemmas.Option.{same_Some}
 use Rattle.brc_words.specs.declared.fault.Fault.{Fault}
 use Rattle.brc_words.specs.declared.fault.Fault.TheVariants as faults
-use Rattle.law_rule.specs.declared.contents.Contents.{Contents}
+use Rattle.brc_count.specs.law.rule.declared.contents.Contents.{Contents}
 use Rattle.brc_count.specs.Frames.{FrameSeen, HandleSeen}
 use Rattle.brc_count.specs.Locking.{cell_in}
 use Rattle.brc_handles.specs.Handles.{slot}
@@ -21,8 +21,8 @@ use Rattle.brc_meaning.specs.Outcomes.{◌>>=◌}
 use Rattle.brc_meaning.specs.States.{meant, changed}
 use Rattle.brc_meaning.specs.Wholes.{Each}
 use Rattle.brc_meaning.proofs.WholeCalls.{IsKept}
-use Rattle.law_payloads.specs.Payloads.{payloads_of}
-use Rattle.law_living.specs.Living.{OwnLog}
+use Rattle.brc_count.specs.law.payloads.Payloads.{payloads_of}
+use Rattle.brc_count.specs.law.living.Living.{OwnLog}
 use Rattle.law_isolation.specs.Means.{cell_meant, contents_meant, IsMeant, Shows}
 use Rattle.law_isolation.specs.Calls.{with_objects, Comes, GivesNone, GivesOne}
 use Rattle.law_isolation.proofs.Matching.{ObjectCall, Matches, told, outcome_meant}

@@ -5,7 +5,7 @@ use Rattle.brc_count.specs.Polling.{Polled}
 use Rattle.brc_handles.specs.Handles.{slot, IsApart}
 use Rattle.brc_meaning.specs.declared.reference.Reference.{Reference}
 use Rattle.brc_meaning.specs.declared.state.State.{State}
-use Rattle.law_living.specs.Living.{OwnLog}
+use Rattle.brc_count.specs.law.living.Living.{OwnLog}
 use Rattle.law_isolation.specs.Means.{Means, MeansBesides}
 use Rattle.law_isolation.specs.Keeping.{KeepsPlace, KeepsRegisters}
 use Rattle.law_isolation.proofs.Quiet_Frames.{all_kept, means_quietly, besides_quietly}

@@ -4,10 +4,10 @@ use Rattle.std.proofs.Common.{eqb, arith, List, Option, Some, None, Ok, get_or}
 use Rattle.std.proofs.lemmas.Int.{ints}
 use Rattle.std.proofs.lemmas.Bool.{and_parts, ne_eqb, cond-false}
 use Rattle.brc_words.specs.declared.limits.TheConstants.{GLOBALS}
-use Rattle.law_rule.specs.declared.contents.Contents.{Contents}
-use Rattle.law_rule.specs.declared.contents.Contents.TheVariants as contents
-use Rattle.law_rule.specs.declared.told.Told.{Told}
-use Rattle.law_rule.specs.Logs.{opening_contents}
+use Rattle.brc_count.specs.law.rule.declared.contents.Contents.{Contents}
+use Rattle.brc_count.specs.law.rule.declared.contents.Contents.TheVariants as contents
+use Rattle.brc_count.specs.law.rule.declared.told.Told.{Told}
+use Rattle.brc_count.specs.law.rule.Logs.{opening_contents}
 use Rattle.brc_count.specs.Frames.{FrameSeen, HandleSeen}
 use Rattle.brc_count.specs.Locking.{cell_in}
 use Rattle.brc_handles.specs.Handles.{slot}
@@ -22,7 +22,7 @@ use Rattle.brc_meaning.specs.Wholes.{Each}
 use Rattle.brc_plain.specs.Outcomes.{or_fault}
 use Rattle.brc_words.specs.declared.fault.Fault.TheVariants as faults
 use Rattle.std.proofs.lemmas.Option.{same_Some}
-use Rattle.law_payloads.specs.Payloads.{payloads_of, FindsOwn}
+use Rattle.brc_count.specs.law.payloads.Payloads.{payloads_of, FindsOwn}
 use Rattle.law_isolation.specs.Means.{cell_of_small, cell_meant, contents_meant, IsMeant, HasAt, HeldAs, Shows}
 
 -- ---- the integers that are there always

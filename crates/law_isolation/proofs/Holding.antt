@@ -5,7 +5,7 @@ use Rattle.brc_handles.specs.Handles.{slot, IsApart}
 use Rattle.brc_meaning.specs.declared.reference.Reference.{Reference}
 use Rattle.brc_meaning.specs.declared.state.State.{State}
 use Rattle.brc_meaning.specs.States.{with_register}
-use Rattle.law_living.specs.Living.{OwnLog}
+use Rattle.brc_count.specs.law.living.Living.{OwnLog}
 use Rattle.law_isolation.specs.Means.{Means, MeansBesides, SIXTEEN}
 use Rattle.law_isolation.proofs.Registers_Kept.{means_held, besides_held, means_taken}
 use Rattle.law_isolation.proofs.Dropping_References.{means_dropped}

@@ -4,8 +4,8 @@ use Rattle.std.proofs.Common.{IfSome, Result, Ok, Err, IfOk, IfErr}
 use Rattle.std.proofs.lemmas.Option.{same_Some}
 use Rattle.brc_words.specs.declared.fault.Fault.{Fault}
 use Rattle.brc_words.specs.declared.fault.Fault.TheVariants as faults
-use Rattle.law_world.specs.declared.event.Change.TheVariants as changes
-use Rattle.law_rule.specs.declared.contents.Contents.{Contents}
+use Rattle.brc_count.specs.law.world.declared.event.Change.TheVariants as changes
+use Rattle.brc_count.specs.law.rule.declared.contents.Contents.{Contents}
 use Rattle.brc_count.specs.declared.handed.Handed.{Handed}
 use Rattle.brc_count.specs.Frames.{FrameSeen, HandleSeen}
 use Rattle.brc_count.specs.Locking.{KeepsFrame, cell_in}
@@ -22,7 +22,7 @@ use Rattle.brc_meaning.specs.declared.object.Object.TheVariants as objects
 use Rattle.brc_meaning.specs.declared.state.State.{State}
 use Rattle.brc_meaning.specs.Wholes.{Each}
 use Rattle.brc_meaning.proofs.WholeCalls.{IsKept}
-use Rattle.law_living.specs.Living.{OwnLog}
+use Rattle.brc_count.specs.law.living.Living.{OwnLog}
 use Rattle.law_isolation.specs.Means.{cell_meant, IsMeant, HasAt, Shows, Means, MeansBesides}
 use Rattle.law_isolation.specs.Goes.{is_want}
 use Rattle.law_isolation.specs.Calls.{Comes, GivesNone, GivesOne, HandsMeant, HandedMeant, TakesMeant, SwapsMeant}

@@ -5,22 +5,22 @@ use Rattle.std.proofs.lemmas.Bool.Decides.{leb_tells}
 use Rattle.brc_words.specs.declared.fault.Fault.{Fault}
 use Rattle.brc_words.specs.declared.fault.Fault.TheVariants as faults
 use Rattle.brc_words.specs.declared.limits.TheConstants.{FIRST_MORTAL}
-use Rattle.law_world.specs.declared.event.Change.{Change}
-use Rattle.law_world.specs.declared.event.Source.{Source}
-use Rattle.law_rule.specs.declared.contents.Contents.{Contents}
-use Rattle.law_rule.specs.declared.told.Told.{Told}
+use Rattle.brc_count.specs.law.world.declared.event.Change.{Change}
+use Rattle.brc_count.specs.law.world.declared.event.Source.{Source}
+use Rattle.brc_count.specs.law.rule.declared.contents.Contents.{Contents}
+use Rattle.brc_count.specs.law.rule.declared.told.Told.{Told}
 use Rattle.brc_count.specs.Frames.{FrameSeen, HandleSeen, Given, CountsUp, IsAsBefore}
-use Rattle.brc_biased.specs.Up.{CountsHere}
-use Rattle.brc_biased.specs.Seeking.{ClaimsAround, PassesOver}
+use Rattle.brc_count.specs.biased.Up.{CountsHere}
+use Rattle.brc_count.specs.biased.Seeking.{ClaimsAround, PassesOver}
 use Rattle.brc_count.specs.Making.{Made}
-use Rattle.law_rule.specs.Seen.{counts_seen}
+use Rattle.brc_count.specs.law.rule.Seen.{counts_seen}
 use Rattle.brc_lock.specs.Waiting.{Waits, IsBusy}
 use Rattle.brc_containers.specs.Called.{Late}
 use Rattle.brc_containers.specs.Changing.{PlainCall, Changes, Puts, Swaps, Takes, Shares, RefusedPlainly}
 use Rattle.brc_containers.specs.Changing.{RefusedForWant}
 use Rattle.brc_containers.specs.Looking.{LooksAt}
-use Rattle.law_living.specs.Later.{IsLater}
-use Rattle.law_living.proofs.Earlier.{later_same, later_one, later_both, later_is}
+use Rattle.brc_count.specs.law.living.Later.{IsLater}
+use Rattle.brc_count.proofs.law.living.Earlier.{later_same, later_one, later_both, later_is}
 
 -- the thread counts the cell on its local word, or doesn't
 here_or : (n limit : ℕ) (log : List Told) (c : ℕ) → (CountsHere n limit log c) ⊎ (¬ CountsHere n limit log c)

@@ -3,32 +3,32 @@
 use Rattle.std.proofs.Common.{◌≡◌, ◌∙◌, refl, sym, ap, subst, ℕ, ◌+◌, eqb, Bool, true, false, ◌&&◌, not, cond, arith}
 use Rattle.std.proofs.Common.{List, ◌∷◌, Option, Some, None, ◌⊎◌, inl, inr}
 use Rattle.std.proofs.lemmas.Bool.{cases_Bool, cases_lt, eqb-true, cond-true, cond-false}
-use Rattle.law_world.specs.declared.event.Change.{Change}
-use Rattle.law_world.specs.declared.event.Change.TheVariants as changes
-use Rattle.law_world.specs.declared.event.Source.{Source}
-use Rattle.law_world.specs.declared.event.Step.TheVariants.{Lock, Unlock, LocalUp, SharedUp}
-use Rattle.law_world.specs.Lists.{place_at, is_marked}
-use Rattle.law_world.specs.Steps.{locked_cell}
+use Rattle.brc_count.specs.law.world.declared.event.Change.{Change}
+use Rattle.brc_count.specs.law.world.declared.event.Change.TheVariants as changes
+use Rattle.brc_count.specs.law.world.declared.event.Source.{Source}
+use Rattle.brc_count.specs.law.world.declared.event.Step.TheVariants.{Lock, Unlock, LocalUp, SharedUp}
+use Rattle.brc_count.specs.law.world.Lists.{place_at, is_marked}
+use Rattle.brc_count.specs.law.world.Steps.{locked_cell}
 use Rattle.brc_words.specs.declared.limits.TheConstants.{FIRST_MORTAL}
-use Rattle.law_known.specs.Items.{Part, part_by, meant}
-use Rattle.law_known.specs.declared.word.Field.TheVariants.{Mutex}
-use Rattle.law_known.specs.declared.word.Word.{Word}
-use Rattle.law_known.specs.declared.word.Word.TheVariants.{Of}
-use Rattle.law_rule.specs.declared.contents.Contents.{Contents}
-use Rattle.law_rule.specs.declared.told.Moved.{Moved}
-use Rattle.law_rule.specs.declared.told.Moved.TheVariants as moves
-use Rattle.law_rule.specs.declared.told.Told.{Told}
-use Rattle.law_rule.specs.declared.told.Told.TheVariants.{Did, Lost}
-use Rattle.law_rule.specs.Logs.{entries_found}
-use Rattle.law_rule.specs.Seen.{part_seen, counts_seen}
-use Rattle.brc_biased.specs.Up.{CountsHere}
+use Rattle.brc_count.specs.law.known.Items.{Part, part_by, meant}
+use Rattle.brc_count.specs.law.known.declared.word.Field.TheVariants.{Mutex}
+use Rattle.brc_count.specs.law.known.declared.word.Word.{Word}
+use Rattle.brc_count.specs.law.known.declared.word.Word.TheVariants.{Of}
+use Rattle.brc_count.specs.law.rule.declared.contents.Contents.{Contents}
+use Rattle.brc_count.specs.law.rule.declared.told.Moved.{Moved}
+use Rattle.brc_count.specs.law.rule.declared.told.Moved.TheVariants as moves
+use Rattle.brc_count.specs.law.rule.declared.told.Told.{Told}
+use Rattle.brc_count.specs.law.rule.declared.told.Told.TheVariants.{Did, Lost}
+use Rattle.brc_count.specs.law.rule.Logs.{entries_found}
+use Rattle.brc_count.specs.law.rule.Seen.{part_seen, counts_seen}
+use Rattle.brc_count.specs.biased.Up.{CountsHere}
 use Rattle.brc_count.specs.Frames.{FrameSeen, CountsUp, place_seen}
-use Rattle.brc_table.specs.Seated.{TableSeen}
+use Rattle.brc_count.specs.table.Seated.{TableSeen}
 use Rattle.brc_lock.specs.Waiting.{Waits, NoTry, OneMore}
-use Rattle.law_private.specs.Private.{is_shared, is_in, place_put}
-use Rattle.law_payloads.specs.Payloads.{private_seen, last_put, payloads_of, locked_seen}
-use Rattle.law_payloads.proofs.Going_On as payloads
-use Rattle.law_living.specs.Living.{is_dead}
+use Rattle.brc_count.specs.law.private.Private.{is_shared, is_in, place_put}
+use Rattle.brc_count.specs.law.payloads.Payloads.{private_seen, last_put, payloads_of, locked_seen}
+use Rattle.brc_count.proofs.law.payloads.Going_On as payloads
+use Rattle.brc_count.specs.law.living.Living.{is_dead}
 
 -- the second log, in a heap of m cells, has the payloads, the dead cells and the births of the first, in one of n
 pub record Leaves (n : ℕ) (before : List Told) (m : ℕ) (log : List Told) : Type 0 where

@@ -5,16 +5,16 @@ use Rattle.std.proofs.Common.{sym, ◌∙◌, ap, subst, inl, inr, arith}
 use Rattle.std.proofs.lemmas.Bool.{cases_eq, eq-eqb, ne_eqb, true≢false}
 use Rattle.std.proofs.lemmas.Option.{slice_get_within}
 use Rattle.brc_words.specs.declared.kind.Kind.{Kind}
-use Rattle.law_world.specs.declared.event.Step.TheVariants.{Birth, Claim, InitLocal, InitShared}
-use Rattle.law_known.proofs.Kept_Law.{places_kept}
-use Rattle.law_rule.specs.declared.contents.Contents.{Contents}
-use Rattle.law_rule.specs.declared.told.Moved.TheVariants as moves
-use Rattle.law_rule.specs.declared.told.Told.{Told}
-use Rattle.law_rule.specs.declared.told.Told.TheVariants.{Did, Saw, Lost}
-use Rattle.law_rule.specs.Logs.{kind_in, log_items}
-use Rattle.law_rule.specs.Seen.{part_seen}
-use Rattle.brc_table.specs.Seated.{TableSeen}
-use Rattle.brc_biased.specs.Seeking.{ClaimsAround, are_free_looks, is_free_look}
+use Rattle.brc_count.specs.law.world.declared.event.Step.TheVariants.{Birth, Claim, InitLocal, InitShared}
+use Rattle.brc_count.proofs.law.known.Kept_Law.{places_kept}
+use Rattle.brc_count.specs.law.rule.declared.contents.Contents.{Contents}
+use Rattle.brc_count.specs.law.rule.declared.told.Moved.TheVariants as moves
+use Rattle.brc_count.specs.law.rule.declared.told.Told.{Told}
+use Rattle.brc_count.specs.law.rule.declared.told.Told.TheVariants.{Did, Saw, Lost}
+use Rattle.brc_count.specs.law.rule.Logs.{kind_in, log_items}
+use Rattle.brc_count.specs.law.rule.Seen.{part_seen}
+use Rattle.brc_count.specs.table.Seated.{TableSeen}
+use Rattle.brc_count.specs.biased.Seeking.{ClaimsAround, are_free_looks, is_free_look}
 use Rattle.brc_count.specs.Frames.{FrameSeen, HandleSeen, place_seen}
 use Rattle.brc_count.specs.Making.{Made}
 use Rattle.brc_handles.specs.Handles.{slot}
@@ -24,11 +24,11 @@ use Rattle.brc_meaning.specs.declared.object.Object.{Object}
 use Rattle.brc_meaning.specs.declared.state.State.{State}
 use Rattle.brc_meaning.specs.Wholes.{Each}
 use Rattle.brc_meaning.proofs.WholeCalls.{each_weaker}
-use Rattle.law_payloads.specs.Payloads.{private_seen, payloads_of, last_put}
-use Rattle.law_payloads.proofs.Going_On.{born}
-use Rattle.law_living.specs.Living.{OwnLog, is_dead}
-use Rattle.law_living.specs.Quiet.{Quietly, NoItem, OneMore}
-use Rattle.law_living.proofs.Quiet_Items.{quiet_places}
+use Rattle.brc_count.specs.law.payloads.Payloads.{private_seen, payloads_of, last_put}
+use Rattle.brc_count.proofs.law.payloads.Going_On.{born}
+use Rattle.brc_count.specs.law.living.Living.{OwnLog, is_dead}
+use Rattle.brc_count.specs.law.living.Quiet.{Quietly, NoItem, OneMore}
+use Rattle.brc_count.proofs.law.living.Quiet_Items.{quiet_places}
 use Rattle.law_isolation.specs.Means.{Lives, LivesAt, HeldAs, IsMeant, Shows, Means, MeansBesides, cell_meant}
 use Rattle.law_isolation.specs.Means.{contents_meant, left}
 use Rattle.law_isolation.proofs.Meant_Contents.{meant_same, contents_agree}

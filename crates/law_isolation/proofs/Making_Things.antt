@@ -2,7 +2,7 @@
 use Rattle.std.proofs.Common.{◌≡◌, ℕ, Bool, true, false, if◌then◌else◌, List, [], length, Option, Some, None, ℤ, refl}
 use Rattle.std.proofs.Common.{sym, subst}
 use Rattle.std.proofs.lemmas.List.Elements.{All-nil}
-use Rattle.law_rule.specs.declared.contents.Contents.TheVariants as contents
+use Rattle.brc_count.specs.law.rule.declared.contents.Contents.TheVariants as contents
 use Rattle.brc_count.specs.Frames.{FrameSeen, HandleSeen}
 use Rattle.brc_count.specs.Making.{Made}
 use Rattle.brc_things.specs.Makers.{Answered, small_cell}
@@ -12,7 +12,7 @@ use Rattle.brc_meaning.specs.declared.object.Object.TheVariants as objects
 use Rattle.brc_meaning.specs.declared.state.State.{State}
 use Rattle.brc_meaning.specs.Objects.{is_small}
 use Rattle.brc_meaning.specs.States.{with_register, with_object, with_integer}
-use Rattle.law_living.specs.Living.{OwnLog}
+use Rattle.brc_count.specs.law.living.Living.{OwnLog}
 use Rattle.law_isolation.specs.Means.{Means, MeansBesides}
 use Rattle.law_isolation.specs.Integers.{with_made, integer_reference, integer_made}
 use Rattle.law_isolation.proofs.Retaining.{small_is, small_none, means_small}

@@ -5,10 +5,10 @@ use Rattle.std.specs.Option.{option_map}
 use Rattle.std.proofs.lemmas.List.Elements.{All-head, All-tail}
 use Rattle.std.proofs.lemmas.Option.{slice_get-map, slice_get-get_or}
 use Rattle.brc_words.specs.declared.key.Key.{Key}
-use Rattle.law_rule.specs.declared.contents.PlainKey.{PlainKey}
-use Rattle.law_rule.specs.declared.contents.Contents.TheVariants as contents
-use Rattle.law_rule.specs.Logs.{entries_in}
-use Rattle.brc_table.specs.Shown.{plain_key}
+use Rattle.brc_count.specs.law.rule.declared.contents.PlainKey.{PlainKey}
+use Rattle.brc_count.specs.law.rule.declared.contents.Contents.TheVariants as contents
+use Rattle.brc_count.specs.law.rule.Logs.{entries_in}
+use Rattle.brc_count.specs.table.Shown.{plain_key}
 use Rattle.brc_meaning.specs.declared.reference.Reference.{Reference}
 use Rattle.brc_meaning.specs.declared.reference.Reference.TheVariants as references
 use Rattle.brc_meaning.specs.declared.object.Object.{Object}

@@ -1,15 +1,15 @@
 -- After quiet items a frame shows what it showed, where its registers' places have what they had.
 use Rattle.std.proofs.Common.{◌≡◌, ℕ, Bool, List, Option, Some, None, IfSome, slice_index_or, refl, sym, ◌∙◌, subst}
-use Rattle.law_rule.specs.declared.told.Told.{Told}
-use Rattle.brc_table.specs.Seated.{TableSeen}
+use Rattle.brc_count.specs.law.rule.declared.told.Told.{Told}
+use Rattle.brc_count.specs.table.Seated.{TableSeen}
 use Rattle.brc_count.specs.Frames.{FrameSeen, HandleSeen, IsAsBefore, place_seen}
 use Rattle.brc_lock.specs.Waiting.{Waits, NoTry, OneMore as OneTry}
 use Rattle.brc_handles.specs.Handles.{slot}
 use Rattle.brc_meaning.specs.declared.reference.Reference.{Reference}
 use Rattle.brc_meaning.specs.declared.object.Object.{Object}
 use Rattle.brc_meaning.specs.declared.state.State.{State}
-use Rattle.law_living.specs.Living.{OwnLog}
-use Rattle.law_living.specs.Quiet.{Quietly, NoItem, OneMore}
+use Rattle.brc_count.specs.law.living.Living.{OwnLog}
+use Rattle.brc_count.specs.law.living.Quiet.{Quietly, NoItem, OneMore}
 use Rattle.law_isolation.specs.Means.{Lives, HasAt, HeldAs, Shows, Means, MeansBesides, left}
 use Rattle.law_isolation.specs.Keeping.{KeepsPlace, KeepsRegisters}
 use Rattle.law_isolation.proofs.Quiet_Lives.{lives_quietly, held_quietly, allocs_quietly}

@@ -3,20 +3,20 @@ use Rattle.std.proofs.Common.{◌≡◌, ℕ, ◌==◌, ◌&&◌, not, Bool, tru
 use Rattle.std.proofs.Common.{None, is_some, slice_get, refl, sym, ◌∙◌, ap, inl, inr, arith}
 use Rattle.std.proofs.lemmas.Bool.{cases_Bool, eqb-true, true≢false}
 use Rattle.std.proofs.lemmas.List.{get_or_past}
-use Rattle.law_world.specs.declared.event.Step.TheVariants.{Free}
-use Rattle.law_rule.specs.declared.contents.Contents.{Contents}
-use Rattle.law_rule.specs.declared.told.Told.{Told}
-use Rattle.law_rule.specs.declared.told.Told.TheVariants.{Did}
-use Rattle.law_rule.specs.Logs.{entries_in}
-use Rattle.law_rule.specs.Seen.{part_seen}
+use Rattle.brc_count.specs.law.world.declared.event.Step.TheVariants.{Free}
+use Rattle.brc_count.specs.law.rule.declared.contents.Contents.{Contents}
+use Rattle.brc_count.specs.law.rule.declared.told.Told.{Told}
+use Rattle.brc_count.specs.law.rule.declared.told.Told.TheVariants.{Did}
+use Rattle.brc_count.specs.law.rule.Logs.{entries_in}
+use Rattle.brc_count.specs.law.rule.Seen.{part_seen}
 use Rattle.brc_count.specs.Frames.{place_seen}
 use Rattle.brc_meaning.specs.declared.reference.Reference.{Reference}
 use Rattle.brc_meaning.specs.declared.reference.Reference.TheVariants as references
 use Rattle.brc_meaning.specs.declared.object.Object.{Object}
-use Rattle.law_payloads.specs.Payloads.{payloads_of}
-use Rattle.law_living.specs.Living.{Living, OwnLog, ItemFits, is_dead}
-use Rattle.law_living.specs.Quiet.{Quietly, NoItem, OneMore, is_quiet, frees}
-use Rattle.law_living.proofs.Quiet_Items.{quiet_places, quiet_allocs, quiet_payloads, was_alive}
+use Rattle.brc_count.specs.law.payloads.Payloads.{payloads_of}
+use Rattle.brc_count.specs.law.living.Living.{Living, OwnLog, ItemFits, is_dead}
+use Rattle.brc_count.specs.law.living.Quiet.{Quietly, NoItem, OneMore, is_quiet, frees}
+use Rattle.brc_count.proofs.law.living.Quiet_Items.{quiet_places, quiet_allocs, quiet_payloads, was_alive}
 use Rattle.law_isolation.specs.Means.{Lives, LivesAt, HasAt, IsMeant, cell_meant, contents_meant, left}
 use Rattle.law_isolation.proofs.Meant_Contents.{each_entry}
 

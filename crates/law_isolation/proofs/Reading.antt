@@ -8,12 +8,12 @@ use Rattle.brc_words.specs.declared.fault.Fault.TheVariants as faults
 use Rattle.brc_words.specs.declared.key.Key.{Key}
 use Rattle.brc_words.specs.declared.kind.Kind.{Kind}
 use Rattle.brc_words.specs.declared.kind.Kind.TheVariants as kinds
-use Rattle.law_rule.specs.declared.contents.PlainKey.{PlainKey}
-use Rattle.law_rule.specs.declared.contents.Contents.{Contents}
-use Rattle.law_rule.specs.declared.contents.Contents.TheVariants as contents
-use Rattle.law_rule.specs.Logs.{kind_in}
-use Rattle.law_rule.specs.Logs as logs
-use Rattle.brc_table.specs.Shown.{plain_key}
+use Rattle.brc_count.specs.law.rule.declared.contents.PlainKey.{PlainKey}
+use Rattle.brc_count.specs.law.rule.declared.contents.Contents.{Contents}
+use Rattle.brc_count.specs.law.rule.declared.contents.Contents.TheVariants as contents
+use Rattle.brc_count.specs.law.rule.Logs.{kind_in}
+use Rattle.brc_count.specs.law.rule.Logs as logs
+use Rattle.brc_count.specs.table.Shown.{plain_key}
 use Rattle.brc_count.specs.Frames.{FrameSeen, HandleSeen}
 use Rattle.brc_count.specs.Locking.{KeepsThread, KeepsFrame}
 use Rattle.brc_handles.specs.Handles.{slot}
@@ -27,7 +27,7 @@ use Rattle.brc_meaning.specs.declared.object.Object.{Object}
 use Rattle.brc_meaning.specs.declared.object.Object.TheVariants as objects
 use Rattle.brc_meaning.specs.declared.state.State.{State}
 use Rattle.brc_meaning.specs.Objects.{entries_in, number_in}
-use Rattle.law_living.specs.Living.{OwnLog}
+use Rattle.brc_count.specs.law.living.Living.{OwnLog}
 use Rattle.law_isolation.specs.Means.{cell_meant, contents_meant, Shows, Means}
 use Rattle.law_isolation.specs.Calls.{kind_meant, Finds}
 use Rattle.law_isolation.proofs.Left_Alone.{waits_leave}

@@ -4,18 +4,18 @@ use Rattle.std.proofs.Common.{◌≡◌, ℕ, ◌+◌, ◌-◌, ◌&&◌, nat_le
 use Rattle.std.proofs.Common.{Some, None, slice_index_or, ℤ, pos, negsuc, refl, sym, ◌∙◌, ap, subst, inl, inr, arith}
 use Rattle.std.proofs.lemmas.Bool.{cases_eq, cases_lt, true≢false}
 use Rattle.brc_words.specs.declared.limits.TheConstants.{FIRST_MORTAL}
-use Rattle.law_world.specs.declared.event.Source.{Source}
-use Rattle.law_world.specs.declared.event.Source.TheVariants as sources
-use Rattle.law_world.specs.declared.event.Step.{Step}
-use Rattle.law_world.specs.declared.event.Step.TheVariants.{LocalUp, SharedUp}
-use Rattle.law_world.specs.Lists.{is_marked}
-use Rattle.law_known.specs.Items.{Part, meant, part_by}
-use Rattle.law_rule.specs.declared.told.Moved.TheVariants.{Nothing}
-use Rattle.law_rule.specs.declared.told.Told.{Told}
-use Rattle.law_rule.specs.declared.told.Told.TheVariants.{Did}
-use Rattle.law_rule.specs.Seen.{part_seen, counts_seen}
-use Rattle.brc_table.specs.Seated.{TableSeen}
-use Rattle.brc_biased.specs.Up.{CountsHere}
+use Rattle.brc_count.specs.law.world.declared.event.Source.{Source}
+use Rattle.brc_count.specs.law.world.declared.event.Source.TheVariants as sources
+use Rattle.brc_count.specs.law.world.declared.event.Step.{Step}
+use Rattle.brc_count.specs.law.world.declared.event.Step.TheVariants.{LocalUp, SharedUp}
+use Rattle.brc_count.specs.law.world.Lists.{is_marked}
+use Rattle.brc_count.specs.law.known.Items.{Part, meant, part_by}
+use Rattle.brc_count.specs.law.rule.declared.told.Moved.TheVariants.{Nothing}
+use Rattle.brc_count.specs.law.rule.declared.told.Told.{Told}
+use Rattle.brc_count.specs.law.rule.declared.told.Told.TheVariants.{Did}
+use Rattle.brc_count.specs.law.rule.Seen.{part_seen, counts_seen}
+use Rattle.brc_count.specs.table.Seated.{TableSeen}
+use Rattle.brc_count.specs.biased.Up.{CountsHere}
 use Rattle.brc_count.specs.Frames.{FrameSeen, HandleSeen, CountsUp, Given, place_seen}
 use Rattle.brc_things.specs.Makers.{small_cell}
 use Rattle.brc_handles.specs.Handles.{slot}
@@ -24,9 +24,9 @@ use Rattle.brc_meaning.specs.declared.reference.Reference.TheVariants as referen
 use Rattle.brc_meaning.specs.declared.object.Object.{Object}
 use Rattle.brc_meaning.specs.declared.state.State.{State}
 use Rattle.brc_meaning.specs.Objects.{is_small}
-use Rattle.law_payloads.specs.Payloads.{payloads_of}
-use Rattle.law_payloads.proofs.Going_On.{plain}
-use Rattle.law_living.specs.Living.{is_dead}
+use Rattle.brc_count.specs.law.payloads.Payloads.{payloads_of}
+use Rattle.brc_count.proofs.law.payloads.Going_On.{plain}
+use Rattle.brc_count.specs.law.living.Living.{is_dead}
 use Rattle.law_isolation.specs.Means.{Lives, LivesAt, HasAt, HeldAs, Shows, Means, MeansBesides, cell_meant}
 use Rattle.law_isolation.specs.Means.{cell_of_small}
 use Rattle.law_isolation.proofs.Registers_Kept.{shown_in}

@@ -2,24 +2,24 @@
 -- that is private; and where it keeps what it found, all is left alone.
 use Rattle.std.proofs.Common.{◌≡◌, ◌∙◌, sym, ap, ℕ, ◌+◌, eqb, cond, true, List, ◌∷◌, Some, inl, inr}
 use Rattle.std.proofs.lemmas.Bool.{cases_Bool, cases_lt, eqb-true, cond-true, cond-false}
-use Rattle.law_world.specs.declared.event.Change.{Change}
-use Rattle.law_world.specs.declared.event.Change.TheVariants as changes
-use Rattle.law_world.specs.declared.event.Source.{Source}
-use Rattle.law_world.specs.declared.event.Source.TheVariants as sources
-use Rattle.law_world.specs.declared.event.Step.TheVariants.{Lock, Unlock, LocalUp, SharedUp}
+use Rattle.brc_count.specs.law.world.declared.event.Change.{Change}
+use Rattle.brc_count.specs.law.world.declared.event.Change.TheVariants as changes
+use Rattle.brc_count.specs.law.world.declared.event.Source.{Source}
+use Rattle.brc_count.specs.law.world.declared.event.Source.TheVariants as sources
+use Rattle.brc_count.specs.law.world.declared.event.Step.TheVariants.{Lock, Unlock, LocalUp, SharedUp}
 use Rattle.brc_words.specs.declared.limits.TheConstants.{FIRST_MORTAL}
-use Rattle.law_rule.specs.declared.contents.Contents.{Contents}
-use Rattle.law_rule.specs.declared.told.Moved.TheVariants as moves
-use Rattle.law_rule.specs.declared.told.Told.{Told}
-use Rattle.law_rule.specs.declared.told.Told.TheVariants.{Did}
-use Rattle.law_rule.specs.Seen.{part_seen, counts_seen}
+use Rattle.brc_count.specs.law.rule.declared.contents.Contents.{Contents}
+use Rattle.brc_count.specs.law.rule.declared.told.Moved.TheVariants as moves
+use Rattle.brc_count.specs.law.rule.declared.told.Told.{Told}
+use Rattle.brc_count.specs.law.rule.declared.told.Told.TheVariants.{Did}
+use Rattle.brc_count.specs.law.rule.Seen.{part_seen, counts_seen}
 use Rattle.brc_count.specs.Frames.{FrameSeen, HandleSeen, CountsUp, place_seen}
 use Rattle.brc_count.specs.Locking.{cell_in}
 use Rattle.brc_containers.specs.Changing.{PlainCall, Changes, Shares}
 use Rattle.brc_containers.specs.Looking.{LooksAt}
-use Rattle.law_payloads.specs.Payloads.{private_seen, last_put, payloads_of, locked_seen, FindsOwn}
-use Rattle.law_payloads.proofs.Payloads_Law.{has_payload}
-use Rattle.law_living.specs.Living.{OwnLog}
+use Rattle.brc_count.specs.law.payloads.Payloads.{private_seen, last_put, payloads_of, locked_seen, FindsOwn}
+use Rattle.brc_count.proofs.law.payloads.Payloads_Law.{has_payload}
+use Rattle.brc_count.specs.law.living.Living.{OwnLog}
 use Rattle.law_isolation.proofs.Left_Alone.{Leaves, Replaces, LeavesAll, ReplacesIn, leaves_on, replaces_on}
 use Rattle.law_isolation.proofs.Left_Alone.{lock_leaves, unlock_replaces, keep_leaves, locks_its_cell, never_shares}
 use Rattle.law_isolation.proofs.Left_Alone.{on_frame, off_frame, up_leaves, counts_here}

@@ -12,7 +12,7 @@ use Rattle.brc_meaning.specs.Outcomes.{◌>>=◌}
 use Rattle.brc_meaning.specs.Objects.{number_in}
 use Rattle.brc_meaning.specs.States.{held, asked, calling}
 use Rattle.brc_meaning.specs.Steps.{after, integer_sum}
-use Rattle.law_living.specs.Living.{OwnLog}
+use Rattle.brc_count.specs.law.living.Living.{OwnLog}
 use Rattle.law_isolation.specs.Means.{Means, MeansBesides}
 use Rattle.law_isolation.specs.Goes.{is_want, Goes}
 use Rattle.law_isolation.specs.Calls.{with_objects}

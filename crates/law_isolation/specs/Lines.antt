@@ -5,7 +5,7 @@ use Rattle.brc_count.specs.Frames.{FrameSeen, HandleSeen}
 use Rattle.brc_script.specs.Instructions.{NumberedLine}
 use Rattle.brc_meaning.specs.declared.state.State.{State}
 use Rattle.brc_meaning.specs.Sections.{lines_after}
-use Rattle.law_living.specs.Living.{OwnLog}
+use Rattle.brc_count.specs.law.living.Living.{OwnLog}
 use Rattle.law_isolation.specs.Means.{Means}
 use Rattle.law_isolation.specs.Goes.{is_machines}
 

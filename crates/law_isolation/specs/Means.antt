@@ -3,10 +3,10 @@
 use Rattle.std.specs.Prelude.{◌≡◌, ℕ, ◌+◌, ◌-◌, ℤ, pos, negsuc, Bool, true, false, ◌&&◌, not, List, map, length, Option}
 use Rattle.std.specs.Prelude.{Some, None, is_some, slice_get, slice_index_or}
 use Rattle.brc_words.specs.declared.key.Key.{Key}
-use Rattle.law_rule.specs.declared.contents.Contents.{Contents}
-use Rattle.law_rule.specs.declared.contents.Contents.TheVariants as contents
-use Rattle.law_rule.specs.declared.told.Told.{Told}
-use Rattle.brc_table.specs.Shown.{plain_key}
+use Rattle.brc_count.specs.law.rule.declared.contents.Contents.{Contents}
+use Rattle.brc_count.specs.law.rule.declared.contents.Contents.TheVariants as contents
+use Rattle.brc_count.specs.law.rule.declared.told.Told.{Told}
+use Rattle.brc_count.specs.table.Shown.{plain_key}
 use Rattle.brc_count.specs.Frames.{FrameSeen, HandleSeen, place_seen, ledger_seen}
 use Rattle.brc_handles.specs.Handles.{slot}
 use Rattle.brc_meaning.specs.declared.reference.Reference.{Reference}
@@ -16,8 +16,8 @@ use Rattle.brc_meaning.specs.declared.object.Object.TheVariants as objects
 use Rattle.brc_meaning.specs.declared.state.State.{State}
 use Rattle.brc_meaning.specs.Objects.{is_small}
 use Rattle.brc_meaning.specs.Wholes.{Each}
-use Rattle.law_payloads.specs.Payloads.{payloads_of}
-use Rattle.law_living.specs.Living.{is_dead}
+use Rattle.brc_count.specs.law.payloads.Payloads.{payloads_of}
+use Rattle.brc_count.specs.law.living.Living.{is_dead}
 
 -- ---- cells for objects
 

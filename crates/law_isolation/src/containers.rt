@@ -20,7 +20,7 @@ ghost use Rattle.brc_meaning.specs.declared.call.KeyedCall.TheVariants as keyed;
 ghost use Rattle.brc_meaning.specs.declared.object.Object.TheVariants as objects;
 ghost use Rattle.brc_meaning.specs.declared.state.State.{State as state};
 ghost use Rattle.brc_meaning.specs.Objects.{object_call, keyed_call, entries_in, number_in};
-ghost use Rattle.law_living.specs.Living.{OwnLog};
+ghost use Rattle.brc_count.specs.law.living.Living.{OwnLog};
 ghost use Rattle.law_isolation.specs.Means.{Means, MeansBesides};
 ghost use Rattle.law_isolation.specs.Calls.{kind_meant, Finds, HandsMeant, TakesMeant, SwapsMeant, PutsMeant};
 

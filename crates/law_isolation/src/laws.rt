@@ -2,8 +2,8 @@
 //! nothing to do.
 
 ghost use Rattle.std.specs.Prelude.{◌≡◌, ◌<◌, ℕ, ℤ, List, Option, Some, None, length, slice_set, slice_index_or};
-ghost use Rattle.law_world.specs.declared.event.Source.TheVariants as sources;
-ghost use Rattle.law_rule.specs.declared.contents.Contents.TheVariants as contents;
+ghost use Rattle.brc_count.specs.law.world.declared.event.Source.TheVariants as sources;
+ghost use Rattle.brc_count.specs.law.rule.declared.contents.Contents.TheVariants as contents;
 ghost use Rattle.brc_count.specs.Frames.{FrameSeen as frame, HandleSeen as handle, Given, ReleasedOf, Turns};
 ghost use Rattle.brc_count.specs.Frames.{KeepsHandles, IsAsBefore, place_seen, ledger_seen};
 ghost use Rattle.brc_count.specs.Making.{Made};
@@ -20,8 +20,8 @@ ghost use Rattle.brc_things.specs.Makers.{Answered, small_cell};
 ghost use Rattle.law_isolation.specs.Integers.{with_made, integer_reference, integer_made};
 ghost use Rattle.law_isolation.specs.Keeping.{KeepsRegisters};
 ghost use Rattle.law_isolation.specs.Means.{Means, MeansBesides, SIXTEEN, contents_meant};
-ghost use Rattle.law_living.specs.Living.{OwnLog};
-ghost use Rattle.law_living.specs.Quiet.{Quietly};
+ghost use Rattle.brc_count.specs.law.living.Living.{OwnLog};
+ghost use Rattle.brc_count.specs.law.living.Quiet.{Quietly};
 
 /// While the thread only lets go, gives back and looks, its frame shows the state that it showed, where the places of
 /// its registers have what they had: over a release of another handle, turns of the work on dead blocks, a poll, and

@@ -1,7 +1,7 @@
 -- The threads of one heap: those that are to live, at rest, and those that have lived.
 use Rattle.std.specs.Prelude.{◌≡◌, ◌≤◌, [], All, length, vec_capacity}
 use Rattle.std.specs.declared.alloc.Global.{Global}
-use Rattle.brc_table.specs.Seated.{TableSeen}
+use Rattle.brc_count.specs.table.Seated.{TableSeen}
 use Rattle.brc_heap.specs.Words.{FrameSeen}
 use Rattle.test_crowd.specs.declared.crowd.Lived.{Lived}
 use Rattle.test_crowd.specs.declared.crowd.Room.{Room}

@@ -2,10 +2,10 @@
 use Rattle.std.proofs.Common.{◌≡◌, ℕ, ◌<◌, true, false, if◌then◌else◌, List, set, Option, Some, None, IfSome, sym, ◌∙◌}
 use Rattle.std.proofs.Common.{ap, subst}
 use Rattle.brc_block.specs.declared.payload.Payload.{Payload}
-use Rattle.law_world.specs.Lists.{is_marked}
-use Rattle.law_world.proofs.Changes.{read_here}
-use Rattle.law_rule.specs.declared.told.Told.{Told}
-use Rattle.law_rule.specs.Seen.{part_seen}
+use Rattle.law.specs.world.Lists.{is_marked}
+use Rattle.law.proofs.world.Changes.{read_here}
+use Rattle.law.specs.rule.declared.told.Told.{Told}
+use Rattle.law.specs.rule.Seen.{part_seen}
 use Rattle.brc_table.specs.Moving.{is_there}
 use Rattle.brc_biased.proofs.Marking.{marks_wide}
 

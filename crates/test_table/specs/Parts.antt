@@ -3,28 +3,28 @@
 use Rattle.std.specs.Prelude.{◌≡◌, ℕ, ◌+◌, ◌*◌, ◌%◌, ◌^◌, ℤ, pos, true, List, [], ◌∷◌}
 use Rattle.brc_words.specs.declared.kind.Kind.{Kind}
 use Rattle.brc_words.specs.declared.kind.Kind.TheVariants as kinds
-use Rattle.law_world.specs.declared.event.Change.{Change}
-use Rattle.law_world.specs.declared.event.Change.TheVariants as changes
-use Rattle.law_world.specs.declared.event.Dropped.TheVariants as dropped
-use Rattle.law_world.specs.declared.event.Source.TheVariants as sources
-use Rattle.law_world.specs.declared.event.Step.TheVariants.{Claim, InitLocal, InitShared, Birth, LocalUp, LocalDown}
-use Rattle.law_world.specs.declared.event.Step.TheVariants.{SeeZero, Untie, MergeZero, MergeAdd, SharedUp, Ask}
-use Rattle.law_world.specs.declared.event.Step.TheVariants.{Enqueue, Lock, Unlock, Free, Offer}
-use Rattle.law_world.specs.declared.row.Hand.TheVariants as hands
-use Rattle.law_world.specs.Lists.{bit_of}
-use Rattle.law_world.specs.Steps.{is_active, is_free_hand, stage_ok, lock_ok}
-use Rattle.law_known.specs.declared.word.Field.TheVariants as fields
-use Rattle.law_known.specs.declared.word.Word.TheVariants as words
-use Rattle.law_known.specs.Items.{Part}
-use Rattle.law_rule.specs.declared.contents.PlainKey.TheVariants as plain
-use Rattle.law_rule.specs.declared.contents.Contents.{Contents}
-use Rattle.law_rule.specs.declared.contents.Contents.TheVariants as contents
-use Rattle.law_rule.specs.declared.told.Moved.TheVariants as moves
-use Rattle.law_rule.specs.declared.told.Told.{Told}
-use Rattle.law_rule.specs.declared.told.Told.TheVariants.{Did, Saw}
-use Rattle.law_rule.specs.Opening.{first_view}
-use Rattle.law_rule.specs.Seen.{part_seen}
-use Rattle.law_steps.specs.Joining.{registering}
+use Rattle.law.specs.world.declared.event.Change.{Change}
+use Rattle.law.specs.world.declared.event.Change.TheVariants as changes
+use Rattle.law.specs.world.declared.event.Dropped.TheVariants as dropped
+use Rattle.law.specs.world.declared.event.Source.TheVariants as sources
+use Rattle.law.specs.world.declared.event.Step.TheVariants.{Claim, InitLocal, InitShared, Birth, LocalUp, LocalDown}
+use Rattle.law.specs.world.declared.event.Step.TheVariants.{SeeZero, Untie, MergeZero, MergeAdd, SharedUp, Ask}
+use Rattle.law.specs.world.declared.event.Step.TheVariants.{Enqueue, Lock, Unlock, Free, Offer}
+use Rattle.law.specs.world.declared.row.Hand.TheVariants as hands
+use Rattle.law.specs.world.Lists.{bit_of}
+use Rattle.law.specs.world.Steps.{is_active, is_free_hand, stage_ok, lock_ok}
+use Rattle.law.specs.known.declared.word.Field.TheVariants as fields
+use Rattle.law.specs.known.declared.word.Word.TheVariants as words
+use Rattle.law.specs.known.Items.{Part}
+use Rattle.law.specs.rule.declared.contents.PlainKey.TheVariants as plain
+use Rattle.law.specs.rule.declared.contents.Contents.{Contents}
+use Rattle.law.specs.rule.declared.contents.Contents.TheVariants as contents
+use Rattle.law.specs.rule.declared.told.Moved.TheVariants as moves
+use Rattle.law.specs.rule.declared.told.Told.{Told}
+use Rattle.law.specs.rule.declared.told.Told.TheVariants.{Did, Saw}
+use Rattle.law.specs.rule.Opening.{first_view}
+use Rattle.law.specs.rule.Seen.{part_seen}
+use Rattle.law.specs.steps.Joining.{registering}
 use Rattle.brc_table.specs.Seated.{TableSeen, SeatSeen, RootSeen, Continues}
 use Rattle.brc_biased.specs.Standing.{Stands}
 use Rattle.test_table.specs.declared.globals.Held.{Held}

@@ -1,8 +1,8 @@
 //! Counting through a counter: an owner's references from the birth to the end, below its limit and at it.
 
 ghost use Rattle.std.specs.Prelude.{◌≡◌, ◌<◌, ℕ, [], length, replicate, slice_index};
-ghost use Rattle.law_world.specs.Heap.{words_for};
-ghost use Rattle.law_world.specs.declared.event.Dropped.TheVariants as drops;
+ghost use Rattle.law.specs.world.Heap.{words_for};
+ghost use Rattle.law.specs.world.declared.event.Dropped.TheVariants as drops;
 ghost use Rattle.brc_table.specs.Seated.{Continues};
 ghost use Rattle.brc_biased.specs.Counter.{first_count};
 ghost use Rattle.brc_biased.specs.Standing.{Holds};
@@ -13,7 +13,7 @@ use crate::helpers::{alive, ends, opened};
 use brc_biased::{Counter, Home, first_counts, no_bits};
 use brc_block::{Block, Payload};
 use brc_words::Kind;
-use law_world::{Dropped, Source};
+use law::world::{Dropped, Source};
 use std::alloc::{AllocGlobal, Allocator, Global};
 use std::process::Abort;
 

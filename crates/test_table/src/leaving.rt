@@ -3,7 +3,7 @@
 //! holds, of the queues where there is one, and each answers what the trace's step finds.
 
 ghost use Rattle.std.specs.Prelude.{◌≡◌, [], pos};
-ghost use Rattle.law_rule.specs.Seen.{part_seen};
+ghost use Rattle.law.specs.rule.Seen.{part_seen};
 ghost use Rattle.brc_table.specs.Seated.{Stays};
 ghost use Rattle.test_table.specs.declared.globals.Held.TheVariants as held;
 ghost use Rattle.test_table.specs.Leaving.{HoldsNothing, CountsNone, IsAsNew, left_with, opening_at};
@@ -15,7 +15,7 @@ use crate::parts::{asks, asks_and_enqueues, gives_a_list, lives, takes_what_is_s
 use crate::seats::{OfTwo, Seat, Table, for_two};
 use brc_queue::{Enqueued, close_word, drain_word, enqueue, nudge, offer, open_word, wake};
 use brc_table::Found;
-use law_world::Dropped;
+use law::world::Dropped;
 use std::alloc::Global;
 use std::process::Abort;
 

@@ -6,7 +6,7 @@ use crate::seats::{OfOne, Seat, Table, for_one};
 use brc_block::{Block, Payload};
 use brc_table::Found;
 use brc_words::Kind;
-use law_world::Dropped;
+use law::world::Dropped;
 use std::alloc::Global;
 use std::process::Abort;
 

@@ -1,12 +1,12 @@
 //! The parts that worked runs share, as calls on one seat or on two.
 
 ghost use Rattle.std.specs.Prelude.{◌≡◌, ◌≢◌, ◌%◌, [], None, pos};
-ghost use Rattle.law_world.specs.declared.event.Change.TheVariants as changes;
-ghost use Rattle.law_world.specs.declared.event.Dropped.TheVariants as drops;
-ghost use Rattle.law_world.specs.declared.event.Source.TheVariants as sources;
-ghost use Rattle.law_world.specs.declared.event.Step.TheVariants as steps;
-ghost use Rattle.law_rule.specs.Seen.{part_seen};
-ghost use Rattle.law_steps.specs.Owing.{Carries, EndsRisen, Enqueues, RaisesImmortal, RaisesShared, Releases, Unlocks};
+ghost use Rattle.law.specs.world.declared.event.Change.TheVariants as changes;
+ghost use Rattle.law.specs.world.declared.event.Dropped.TheVariants as drops;
+ghost use Rattle.law.specs.world.declared.event.Source.TheVariants as sources;
+ghost use Rattle.law.specs.world.declared.event.Step.TheVariants as steps;
+ghost use Rattle.law.specs.rule.Seen.{part_seen};
+ghost use Rattle.law.specs.steps.Owing.{Carries, EndsRisen, Enqueues, RaisesImmortal, RaisesShared, Releases, Unlocks};
 ghost use Rattle.brc_table.specs.Seated.{Continues};
 ghost use Rattle.test_table.specs.declared.globals.Held.TheVariants as held;
 ghost use Rattle.test_table.specs.Parts.{StandsAt, Went, HasPopped, MayFree, globals_with, globals_log, locked_log};
@@ -20,7 +20,7 @@ use crate::helpers::{a_list, alive, claimed, gone, holding, locked};
 use crate::seats::{Seat, Table};
 use brc_table::Found;
 use brc_words::Kind;
-use law_world::{Change, Dropped, Source};
+use law::world::{Change, Dropped, Source};
 use std::alloc::Global;
 use std::process::Abort;
 

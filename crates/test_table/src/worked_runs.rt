@@ -15,7 +15,7 @@ use crate::parts::{
 };
 use crate::seats::{OfTwo, Seat, Table, for_two};
 use brc_table::Found;
-use law_world::{Change, Dropped, Source};
+use law::world::{Change, Dropped, Source};
 use std::alloc::Global;
 use std::process::Abort;
 

@@ -1,6 +1,6 @@
 //! What a heap leaves.
 
-use brc_table::Rest;
+use brc_count::table::Rest;
 use std::alloc::Allocator;
 
 /// How many blocks a heap left, if they are those of cell 0 and of the cells that follow it, in their order; None where

@@ -3,7 +3,7 @@
 ghost use Rattle.brc_count.specs.Frames.{IsUnlocked};
 ghost use Rattle.test_tools.specs.Calls.{GainsOrKeeps, OwnsBoth, OwnsOne, Parts};
 
-use brc_biased::Home;
+use brc_count::biased::Home;
 use brc_count::{Frame, Handle};
 use brc_dicts::{dict_del, dict_put};
 use brc_words::{Fault, GLOBALS, Key};

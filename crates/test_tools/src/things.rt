@@ -4,7 +4,7 @@ ghost use Rattle.brc_count.specs.Frames.{IsUnlocked};
 ghost use Rattle.test_tools.specs.Calls.{GainsOrKeeps};
 
 use crate::memory::Memories;
-use brc_biased::Home;
+use brc_count::biased::Home;
 use brc_count::{Frame, Handed, Handle};
 use brc_things::{new_dict, new_int, new_list, new_mailbox, new_text, none, truth};
 use brc_words::{Fault, Text};

@@ -10,7 +10,7 @@ use crate::tests::calls::{
 use crate::tests::guards::{ToLock, Way, puts_a_pair};
 use crate::tests::objects::{entries, number_of};
 use crate::tests::threads::{a_heap, a_thread, is_empty};
-use brc_biased::Home;
+use brc_count::biased::Home;
 use brc_count::{Frame, Handle};
 use std::alloc::{Allocator, Global};
 use std::process::Abort;

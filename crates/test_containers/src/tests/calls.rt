@@ -6,7 +6,7 @@ ghost use Rattle.test_tools.specs.Calls.{OwnsBoth, OwnsOne, Stays, Adds, Parts, 
 
 use crate::tests::guards::{Entry, ToLock, Way, had_by_guard, put_by_guard, swap_by_guard};
 use crate::tests::objects::number_of;
-use brc_biased::Home;
+use brc_count::biased::Home;
 use brc_count::{Frame, Handed, Handle};
 use brc_dicts::{
     dict_del, dict_find, dict_pair, dict_put, try_dict_del, try_dict_find, try_dict_put,

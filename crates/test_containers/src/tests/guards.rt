@@ -6,8 +6,8 @@ ghost use Rattle.brc_count.specs.Owned.{Keeps};
 ghost use Rattle.brc_lock.specs.Holding.{Holds};
 ghost use Rattle.test_tools.specs.Calls.{OwnsBoth, OwnsOne, Parts, LosesOrKeeps, GainsOrKeeps, Stays};
 
-use brc_biased::Home;
-use brc_block::{Block, Entries, Payload};
+use brc_count::biased::Home;
+use brc_count::block::{Block, Entries, Payload};
 use brc_count::{Frame, Handed, Handle};
 use brc_lock::{Locked, lock, try_lock};
 use brc_words::{Fault, Key};

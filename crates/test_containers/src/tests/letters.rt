@@ -7,7 +7,7 @@ ghost use Rattle.test_tools.specs.Calls.{Stays};
 use crate::tests::calls::{Getting, Giving, gets, gives};
 use crate::tests::objects::{entries, number_of};
 use crate::tests::threads::{a_heap, a_thread, is_empty};
-use brc_biased::Home;
+use brc_count::biased::Home;
 use brc_count::Frame;
 use brc_thread::{Heap, Resting, Retired};
 use brc_words::GLOBALS;

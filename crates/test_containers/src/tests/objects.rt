@@ -2,7 +2,7 @@
 
 ghost use Rattle.test_tools.specs.Calls.{OwnsOne, Parts, Stays};
 
-use brc_biased::Home;
+use brc_count::biased::Home;
 use brc_containers::{int_of, len_of};
 use brc_count::{Frame, Handle};
 use std::alloc::Allocator;

@@ -10,7 +10,7 @@ use crate::tests::copies::{Copying, SOME_TEXT, copied, two_keys};
 use crate::tests::guards::Way;
 use crate::tests::objects::entries;
 use crate::tests::threads::{a_heap, a_thread, is_empty};
-use brc_biased::Home;
+use brc_count::biased::Home;
 use brc_containers::{len_of, try_len_of};
 use brc_count::{Frame, Handed, Handle};
 use brc_handles::Handles;

@@ -6,8 +6,8 @@ ghost use Rattle.brc_count.specs.Frames.{IsUnlocked, Owns};
 ghost use Rattle.brc_count.specs.Owned.{Keeps, Loses};
 ghost use Rattle.brc_handles.specs.Handles.{slot, Holds};
 
-use brc_biased::Home;
-use brc_block::Payload;
+use brc_count::biased::Home;
+use brc_count::block::Payload;
 use brc_count::{Frame, Handle};
 use brc_handles::Handles;
 use brc_words::Fault;

@@ -3,7 +3,7 @@
 ghost use Rattle.std.specs.Prelude.{◌<◌};
 
 use crate::tests::phases::{ends, entered, leaves, opened};
-use brc_biased::{first_counts, no_bits};
+use brc_count::biased::{first_counts, no_bits};
 use brc_count::Frame;
 use brc_words::Fault;
 use bumpalo::Bump;

@@ -4,7 +4,7 @@ ghost use Rattle.std.specs.Prelude.{◌≡◌};
 ghost use Rattle.brc_count.specs.Frames.{IsUnlocked};
 
 use crate::tests::phases::ends;
-use brc_biased::Home;
+use brc_count::biased::Home;
 use brc_thread::{Heap, Mutator, Options, take_apart};
 use brc_words::Fault;
 use std::alloc::{Allocator, Global};

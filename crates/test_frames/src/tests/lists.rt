@@ -6,7 +6,7 @@ ghost use Rattle.brc_count.specs.Owned.{GoesOn};
 ghost use Rattle.test_tools.specs.Calls.{OwnsAll, OwnsOne, Stays};
 
 use crate::tests::phases::{ends, entered, leaves, leaves_late, opened, says};
-use brc_biased::Home;
+use brc_count::biased::Home;
 use brc_count::{Frame, Handle, Ledger};
 use brc_handles::Handles;
 use std::alloc::{Allocator, Global};

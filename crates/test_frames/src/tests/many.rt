@@ -6,7 +6,7 @@ ghost use Rattle.test_tools.specs.Calls.{EndsBare, IsBare, OwnsAll};
 
 use crate::tests::client::{copies, gives_register, makes, makes_and_releases};
 use crate::tests::phases::{SMALL, ends, says};
-use brc_biased::Home;
+use brc_count::biased::Home;
 use brc_count::{Frame, Handed};
 use brc_handles::Handles;
 use brc_things::none;

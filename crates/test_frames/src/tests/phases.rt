@@ -2,14 +2,14 @@
 
 ghost use Rattle.std.specs.Prelude.{◌≡◌, ◌<◌, ◌≤◌};
 ghost use Rattle.brc_words.specs.declared.limits.TheConstants.{MOST_REGISTRATIONS, MOST_THREADS};
-ghost use Rattle.law_steps.specs.Joining.{next_thread, registering, registrations};
-ghost use Rattle.law_rule.specs.Opening.{first_view};
+ghost use Rattle.brc_count.specs.law.steps.Joining.{next_thread, registering, registrations};
+ghost use Rattle.brc_count.specs.law.rule.Opening.{first_view};
 ghost use Rattle.brc_count.specs.Closing.{BeginsBy};
 ghost use Rattle.brc_count.specs.Frames.{IsUnlocked};
 
-use brc_biased::Home;
+use brc_count::biased::Home;
 use brc_count::{Frame, Ledger};
-use brc_table::{HeapTable, Rest, RootSeat};
+use brc_count::table::{HeapTable, Rest, RootSeat};
 use brc_thread::Options;
 use std::alloc::Allocator;
 use std::process::Abort;

@@ -6,7 +6,7 @@ ghost use Rattle.brc_count.specs.Frames.{IsUnlocked};
 ghost use Rattle.test_tools.specs.Calls.{EndsBare, GainsOrKeeps, IsBare, OwnsOne, Stays};
 
 use crate::tests::phases::{ends, entered, leaves, opened, says};
-use brc_biased::Home;
+use brc_count::biased::Home;
 use brc_count::{Frame, Handed, Handle};
 use brc_handles::Handles;
 use brc_things::none;

@@ -8,7 +8,7 @@ ghost use Rattle.test_tools.specs.Calls.{IsBare, OwnsAll, OwnsBoth, OwnsOne, Par
 
 use crate::tests::lists::hands_over;
 use crate::tests::phases::{ends, entered, leaves, leaves_late, opened_with, says};
-use brc_biased::Home;
+use brc_count::biased::Home;
 use brc_count::{Frame, Handle};
 use brc_handles::Handles;
 use brc_lists::try_list_push;

@@ -19,7 +19,7 @@ ghost use Rattle.std.specs.Prelude.{◌≡◌};
 ghost use Rattle.test_tools.specs.Calls.{EndsBare, IsBare, OwnsAll};
 
 use crate::tests::phases::{ends, entered, leaves, opened};
-use brc_biased::Home;
+use brc_count::biased::Home;
 use brc_count::{Frame, Handed};
 use brc_handles::Handles;
 use brc_words::Fault;

@@ -6,7 +6,7 @@ use crate::seats::{OfOne, Seat, Table, for_one};
 use brc_block::Payload;
 use brc_table::HeapTable;
 use brc_words::{Fault, Kind};
-use law_world::{Dropped, Source};
+use law::world::{Dropped, Source};
 use linked_list_allocator::LocalHeap;
 use std::alloc::Global;
 use std::process::Abort;

@@ -1,5 +1,5 @@
 use Rattle.std.proofs.Common.{◌∙◌, Some, ap, rules}
-use Rattle.law_known.specs.Items.{Part}
+use Rattle.brc_table.specs.law.known.Items.{Part}
 use Rattle.brc_biased.specs.Released.{OwnEnded}
 use Rattle.brc_biased.proofs.Keeping.{fresh_before, drop_keeps, keeps_on}
 use Rattle.brc_biased.proofs.own.release_own.Goals as goal

@@ -1,5 +1,5 @@
 use Rattle.std.proofs.Common.{sym, ◌∙◌}
-use Rattle.brc_block.specs.Payload.{entries_of}
+use Rattle.brc_count.specs.block.Payload.{entries_of}
 use Rattle.brc_close.proofs.Collected.{taken_more}
 use Rattle.brc_close.proofs.collecting.content_of.Goals as goal
 

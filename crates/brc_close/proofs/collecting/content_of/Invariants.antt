@@ -1,5 +1,5 @@
 use Rattle.std.proofs.Common.{◌≡◌, take}
-use Rattle.brc_block.specs.Payload.{entries_of}
+use Rattle.brc_count.specs.block.Payload.{entries_of}
 use Rattle.brc_close.proofs.collecting.content_of.Given as goal
 
 abbrev pub invariant-loop-index : goal.invariant-loop-index

@@ -1,5 +1,5 @@
 use Rattle.std.proofs.Common.{Ok, ◌∙◌, ap, sym}
-use Rattle.brc_table.specs.Shown.{contents_of}
+use Rattle.brc_count.specs.table.Shown.{contents_of}
 use Rattle.brc_dicts.proofs.Indexed.{key_there, key_may}
 use Rattle.brc_dicts.proofs.indexing.key_in.Goals as goal
 

@@ -1,5 +1,5 @@
 use Rattle.std.proofs.Common.{subst}
-use Rattle.brc_block.specs.Lent_Keys.{key_lent}
+use Rattle.brc_count.specs.block.Lent_Keys.{key_lent}
 use Rattle.brc_dicts.specs.Seeking.{IsThere, IsAbsent}
 use Rattle.brc_dicts.specs.Plain.{plain_place}
 use Rattle.brc_dicts.proofs.Locked.{stood, refused_plainly}

@@ -1,7 +1,7 @@
 use Rattle.std.proofs.Common.{refl, subst, length}
 use Rattle.brc_words.specs.declared.key.Key.{Key}
-use Rattle.brc_block.specs.Lent_Keys.{key_lent}
-use Rattle.brc_block.specs.Payload.{entries_of}
+use Rattle.brc_count.specs.block.Lent_Keys.{key_lent}
+use Rattle.brc_count.specs.block.Payload.{entries_of}
 use Rattle.brc_dicts.specs.Putting.{RefusedRoom, RefusedPut}
 use Rattle.brc_dicts.proofs.Locked.{stood, ended_same, refused_append}
 use Rattle.brc_dicts.proofs.putting.append_copy.Goals as goal

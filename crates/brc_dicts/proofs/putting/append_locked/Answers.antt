@@ -1,7 +1,7 @@
 use Rattle.std.proofs.Common.{All, ◌≢◌, ◌<◌, ◌++◌, [], ◌∷◌, None, subst, sym, ◌∙◌, ap, length}
 use Rattle.brc_words.specs.declared.limits.TheConstants.{MOST_ENTRIES}
-use Rattle.brc_block.specs.Payload.{entries_of, keys_of, kind_of}
-use Rattle.brc_table.specs.Shown.{contents_of}
+use Rattle.brc_count.specs.block.Payload.{entries_of, keys_of, kind_of}
+use Rattle.brc_count.specs.table.Shown.{contents_of}
 use Rattle.brc_count.specs.Locking.{contents_found}
 use Rattle.brc_count.proofs.Keys_Shown.{keyed_put}
 use Rattle.brc_dicts.specs.Plain.{plain_put}

@@ -1,4 +1,4 @@
-use Rattle.brc_block.specs.Lent_Keys.{key_lent}
+use Rattle.brc_count.specs.block.Lent_Keys.{key_lent}
 use Rattle.brc_dicts.specs.Putting.{HasPut, RefusedPut}
 use Rattle.brc_dicts.proofs.Since_Law.{locked_late, takes_in}
 use Rattle.brc_dicts.proofs.putting.dict_set.Goals as goal

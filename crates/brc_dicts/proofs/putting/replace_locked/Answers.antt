@@ -1,6 +1,6 @@
 use Rattle.std.proofs.Common.{Some, arith, subst, sym, ◌∙◌, ap, slice_set}
-use Rattle.brc_block.specs.Lent_Keys.{key_lent}
-use Rattle.brc_block.specs.Payload.{entries_of, keys_of, kind_of}
+use Rattle.brc_count.specs.block.Lent_Keys.{key_lent}
+use Rattle.brc_count.specs.block.Payload.{entries_of, keys_of, kind_of}
 use Rattle.brc_count.specs.Locking.{contents_found}
 use Rattle.brc_count.proofs.Keys_Shown.{keys_stay}
 use Rattle.brc_dicts.specs.Plain.{plain_put}

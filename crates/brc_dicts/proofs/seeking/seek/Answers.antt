@@ -1,5 +1,5 @@
 use Rattle.std.proofs.Common.{sym, ◌∙◌}
-use Rattle.brc_block.specs.Lent_Keys.{key_lent}
+use Rattle.brc_count.specs.block.Lent_Keys.{key_lent}
 use Rattle.brc_dicts.proofs.Standing.{first_stands, none_stands, cell_beside}
 use Rattle.brc_dicts.proofs.seeking.seek.Goals as goal
 

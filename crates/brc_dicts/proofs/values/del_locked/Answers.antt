@@ -1,6 +1,6 @@
 use Rattle.std.proofs.Common.{arith, subst, sym, ◌∙◌, ap, remove}
-use Rattle.brc_block.specs.Lent_Keys.{key_lent}
-use Rattle.brc_block.specs.Payload.{entries_of, keys_of, kind_of}
+use Rattle.brc_count.specs.block.Lent_Keys.{key_lent}
+use Rattle.brc_count.specs.block.Payload.{entries_of, keys_of, kind_of}
 use Rattle.brc_count.specs.Locking.{contents_found}
 use Rattle.brc_count.proofs.Keys_Shown.{keys_left}
 use Rattle.brc_dicts.specs.Seeking.{IsThere, IsAbsent}

@@ -1,6 +1,6 @@
 use Rattle.std.proofs.Common.{arith, subst, ap}
 use Rattle.std.specs.Result.{is_ok}
-use Rattle.brc_block.specs.Lent_Keys.{key_lent}
+use Rattle.brc_count.specs.block.Lent_Keys.{key_lent}
 use Rattle.brc_dicts.specs.Seeking.{IsThere, IsAbsent}
 use Rattle.brc_dicts.specs.Plain.{plain_find}
 use Rattle.brc_dicts.proofs.Shown.{find_there, find_absent, entry_there, entry_within}

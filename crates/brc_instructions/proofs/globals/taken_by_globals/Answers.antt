@@ -1,5 +1,5 @@
 use Rattle.std.proofs.Common.{sym}
-use Rattle.law_living.proofs.Earlier.{later_both}
+use Rattle.brc_count.proofs.law.living.Earlier.{later_both}
 use Rattle.law_isolation.proofs.Later_Calls.{later_given}
 use Rattle.brc_count.proofs.Quiet.{let_go_quietly}
 use Rattle.brc_instructions.proofs.Follows_Of.{later_as_before, later_held, late_pair_put}

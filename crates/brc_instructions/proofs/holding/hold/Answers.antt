@@ -1,4 +1,4 @@
-use Rattle.law_living.specs.Quiet.{NoItem}
+use Rattle.brc_count.specs.law.living.Quiet.{NoItem}
 use Rattle.law_isolation.proofs.Holding.{holds_into_empty, holds_and_releases}
 use Rattle.brc_count.proofs.Quiet.{release_quietly}
 use Rattle.brc_instructions.proofs.Follows_Of.{owned_at, released_of}

@@ -1,7 +1,7 @@
 use Rattle.std.proofs.Common.{Ok, Err, FitsSigned, rules, w64, ap}
 use Rattle.std.proofs.lemmas.Result.{err_from_is_err_and}
 use Rattle.brc_words.specs.declared.fault.Fault.TheVariants as faults
-use Rattle.law_living.proofs.Earlier.{later_both}
+use Rattle.brc_count.proofs.law.living.Earlier.{later_both}
 use Rattle.law_isolation.proofs.Calls_Mean.{kind_means, int_means, len_means, text_means}
 use Rattle.brc_instructions.proofs.Looks.{later_kind, later_int, later_len, later_text}
 use Rattle.brc_instructions.proofs.Follows_Of.{own_at}

@@ -1,7 +1,7 @@
 use Rattle.std.proofs.Common.{◌-◌, length, ◌∙◌, ap}
 use Rattle.brc_words.specs.declared.kind.Kind.TheVariants as kinds
-use Rattle.brc_block.specs.declared.payload.Payload.{Payload}
-use Rattle.brc_block.specs.Payload.{entries_of}
+use Rattle.brc_count.specs.block.declared.payload.Payload.{Payload}
+use Rattle.brc_count.specs.block.Payload.{entries_of}
 use Rattle.brc_count.specs.Locking.{contents_found}
 use Rattle.brc_lists.specs.Plain.{plain_pop}
 use Rattle.brc_lists.specs.Rows.{plain_take}

@@ -1,6 +1,6 @@
 use Rattle.std.proofs.Common.{slice_get, slice_set, sym, ◌∙◌, ap}
-use Rattle.brc_block.specs.declared.payload.Payload.{Payload}
-use Rattle.brc_block.specs.Payload.{kind_of, entries_of, keys_of}
+use Rattle.brc_count.specs.block.declared.payload.Payload.{Payload}
+use Rattle.brc_count.specs.block.Payload.{kind_of, entries_of, keys_of}
 use Rattle.brc_count.specs.Locking.{contents_found}
 use Rattle.brc_count.proofs.Keys_Shown.{keys_stay}
 use Rattle.brc_lists.proofs.Within_Law.{swaps_in}

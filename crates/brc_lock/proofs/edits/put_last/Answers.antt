@@ -1,6 +1,6 @@
 use Rattle.std.proofs.Common.{subst}
-use Rattle.brc_block.specs.declared.payload.Payload.TheVariants as payloads
-use Rattle.brc_table.specs.Shown.{contents_of}
+use Rattle.brc_count.specs.block.declared.payload.Payload.TheVariants as payloads
+use Rattle.brc_count.specs.table.Shown.{contents_of}
 use Rattle.brc_lock.specs.Edits.{KeyFits}
 use Rattle.brc_lock.proofs.Edited.{absent_plainly}
 use Rattle.brc_lock.proofs.edits.put_last.Goals as goal

@@ -1,6 +1,6 @@
 use Rattle.std.proofs.Common.{sym, ◌∙◌, ap}
-use Rattle.law_rule.specs.declared.contents.Contents.TheVariants as contents
-use Rattle.brc_table.specs.Shown.{contents_of}
+use Rattle.brc_count.specs.law.rule.declared.contents.Contents.TheVariants as contents
+use Rattle.brc_count.specs.table.Shown.{contents_of}
 use Rattle.brc_lock.specs.Edits.{replaced}
 use Rattle.brc_lock.proofs.Edited.{plain_set}
 use Rattle.brc_lock.proofs.edits.set_at.Goals as goal

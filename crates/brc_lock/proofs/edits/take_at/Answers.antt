@@ -1,7 +1,7 @@
 use Rattle.std.proofs.Common.{sym, ◌∙◌, ap, slice_get, map}
-use Rattle.law_rule.specs.declared.contents.Contents.TheVariants as contents
-use Rattle.law_rule.specs.Logs.{entries_in}
-use Rattle.brc_table.specs.Shown.{contents_of}
+use Rattle.brc_count.specs.law.rule.declared.contents.Contents.TheVariants as contents
+use Rattle.brc_count.specs.law.rule.Logs.{entries_in}
+use Rattle.brc_count.specs.table.Shown.{contents_of}
 use Rattle.brc_lock.specs.Edits.{without}
 use Rattle.brc_lock.proofs.Edited.{plain, plain_get, plain_remove}
 use Rattle.brc_lock.proofs.edits.take_at.Goals as goal

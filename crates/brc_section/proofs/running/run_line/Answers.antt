@@ -2,7 +2,7 @@ use Rattle.std.proofs.Common.{[], ◌∷◌, Err, sym, subst}
 use Rattle.brc_words.specs.declared.fault.Fault.TheVariants as faults
 use Rattle.brc_section.specs.Running.{RunsOn}
 use Rattle.brc_section.proofs.Runs.{line_runs, line_stops, gate_stops}
-use Rattle.law_living.proofs.Earlier.{later_same}
+use Rattle.brc_count.proofs.law.living.Earlier.{later_same}
 use Rattle.brc_section.proofs.Wants_Of.{goes_one, halts_one}
 use Rattle.brc_section.proofs.running.run_line.Goals as goal
 

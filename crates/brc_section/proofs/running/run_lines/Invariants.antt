@@ -1,5 +1,5 @@
 use Rattle.std.proofs.Common.{◌≡◌, take}
-use Rattle.law_living.specs.Later.{IsLater}
+use Rattle.brc_count.specs.law.living.Later.{IsLater}
 use Rattle.brc_instructions.specs.Registers.{Stands}
 use Rattle.brc_section.specs.Running.{AreOwn, HasRun}
 use Rattle.brc_section.proofs.running.run_lines.Given as goal

@@ -1,6 +1,6 @@
 use Rattle.std.proofs.Common.{◌≡◌}
 use Rattle.std.specs.List.{repeat}
-use Rattle.law_living.specs.Later.{IsLater}
+use Rattle.brc_count.specs.law.living.Later.{IsLater}
 use Rattle.brc_instructions.specs.Registers.{Stands}
 use Rattle.brc_section.specs.Running.{AreOwn, HasRun}
 use Rattle.brc_section.proofs.running.run_times.Given as goal

@@ -1,6 +1,6 @@
 use Rattle.std.proofs.Common.{◌≡◌}
-use Rattle.law_rule.specs.Rule.{with_told}
-use Rattle.law_steps.specs.Taking.{AreQueued}
+use Rattle.law.specs.rule.Rule.{with_told}
+use Rattle.law.specs.steps.Taking.{AreQueued}
 use Rattle.brc_table.specs.Shown.{shows}
 use Rattle.brc_table.proofs.Placing.{step_allowed}
 use Rattle.brc_table.proofs.draining.take_bits.Goals as goal

@@ -1,6 +1,6 @@
 use Rattle.std.proofs.Common.{◌≡◌, ◌+◌, ◌%◌, ◌^◌}
-use Rattle.law_rule.specs.Rule.{with_told}
-use Rattle.law_steps.specs.Taking.{CountsSome}
+use Rattle.law.specs.rule.Rule.{with_told}
+use Rattle.law.specs.steps.Taking.{CountsSome}
 use Rattle.brc_table.specs.Shown.{shows}
 use Rattle.brc_table.proofs.Placing.{step_allowed}
 use Rattle.brc_table.proofs.machine.add_up.Goals as goal

@@ -1,5 +1,5 @@
-use Rattle.law_rule.specs.declared.told.Moved.TheVariants.{Nothing}
-use Rattle.law_rule.specs.declared.told.Told.TheVariants.{Did}
+use Rattle.law.specs.rule.declared.told.Moved.TheVariants.{Nothing}
+use Rattle.law.specs.rule.declared.told.Told.TheVariants.{Did}
 use Rattle.brc_table.proofs.machine.exchange.Given as goal
 
 abbrev pub ghosts-exchange_as : goal.ghosts-exchange_as

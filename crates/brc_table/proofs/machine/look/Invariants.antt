@@ -1,4 +1,4 @@
-use Rattle.law_rule.specs.declared.told.Told.TheVariants.{Saw}
+use Rattle.law.specs.rule.declared.told.Told.TheVariants.{Saw}
 use Rattle.brc_table.proofs.machine.look.Given as goal
 
 abbrev pub ghosts-look_as : goal.ghosts-look_as

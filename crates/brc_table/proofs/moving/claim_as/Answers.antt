@@ -1,8 +1,8 @@
 use Rattle.std.proofs.Common.{◌==◌, ◌/◌, ◌%◌}
 use Rattle.std.specs.Prelude.{bit_and}
 use Rattle.std.specs.Int.{bit_at}
-use Rattle.law_known.specs.declared.word.Word.TheVariants.{FreeWord}
-use Rattle.law_steps.specs.Taking.{Claimed}
+use Rattle.law.specs.known.declared.word.Word.TheVariants.{FreeWord}
+use Rattle.law.specs.steps.Taking.{Claimed}
 use Rattle.brc_table.specs.Shown.{shows}
 use Rattle.brc_table.proofs.Placing.{step_allowed, free_inside}
 use Rattle.brc_table.proofs.moving.claim_as.Goals as goal

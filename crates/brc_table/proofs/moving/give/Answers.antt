@@ -1,4 +1,4 @@
-use Rattle.law_rule.specs.declared.told.Told.TheVariants.{Did}
+use Rattle.law.specs.rule.declared.told.Told.TheVariants.{Did}
 use Rattle.brc_table.specs.Moving.{put_home}
 use Rattle.brc_table.proofs.Giving.{gives_few}
 use Rattle.brc_table.proofs.moving.give.Goals as goal

@@ -1,5 +1,5 @@
 use Rattle.std.proofs.Common.{bit_or}
-use Rattle.law_rule.specs.declared.told.Told.TheVariants.{Did}
+use Rattle.law.specs.rule.declared.told.Told.TheVariants.{Did}
 use Rattle.brc_table.specs.Moving.{put_home}
 use Rattle.brc_table.proofs.Giving.{gives_few}
 use Rattle.brc_table.proofs.moving.give_bit.Goals as goal

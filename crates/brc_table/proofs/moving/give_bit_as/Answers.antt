@@ -1,6 +1,6 @@
 use Rattle.std.proofs.Common.{◌≡◌, bit_or}
 use Rattle.atomic_table.specs.Table.{rest}
-use Rattle.law_rule.specs.Rule.{with_told}
+use Rattle.law.specs.rule.Rule.{with_told}
 use Rattle.brc_table.specs.Moving.{FewFrees}
 use Rattle.brc_table.specs.Shown.{shows}
 use Rattle.brc_table.proofs.Placing.{step_allowed}

@@ -1,8 +1,8 @@
 use Rattle.std.proofs.Common.{◌==◌}
 use prog.Atomic.{either}
-use Rattle.law_known.specs.declared.word.Field.TheVariants.{Mutex}
-use Rattle.law_known.specs.declared.word.Word.TheVariants.{Of}
-use Rattle.law_steps.specs.Taking.{Locked}
+use Rattle.law.specs.known.declared.word.Field.TheVariants.{Mutex}
+use Rattle.law.specs.known.declared.word.Word.TheVariants.{Of}
+use Rattle.law.specs.steps.Taking.{Locked}
 use Rattle.brc_table.specs.Shown.{shows}
 use Rattle.brc_table.proofs.Placing.{step_allowed}
 use Rattle.brc_table.proofs.moving.lock_as.Goals as goal

@@ -1,9 +1,9 @@
 use Rattle.std.proofs.Common.{◌+◌, ◌-◌, ◌%◌}
-use Rattle.law_world.specs.Steps.{takes_block}
-use Rattle.law_known.specs.declared.word.Field.TheVariants.{Shared}
-use Rattle.law_known.specs.declared.word.Word.TheVariants.{Of}
-use Rattle.law_known.specs.Items.{cell_told}
-use Rattle.law_steps.specs.Taking.{Ended}
+use Rattle.law.specs.world.Steps.{takes_block}
+use Rattle.law.specs.known.declared.word.Field.TheVariants.{Shared}
+use Rattle.law.specs.known.declared.word.Word.TheVariants.{Of}
+use Rattle.law.specs.known.Items.{cell_told}
+use Rattle.law.specs.steps.Taking.{Ended}
 use Rattle.brc_table.specs.Shown.{shows}
 use Rattle.brc_table.proofs.Placing.{step_allowed}
 use Rattle.brc_table.proofs.moving.sub_ends.Goals as goal

@@ -1,6 +1,6 @@
 use Rattle.std.proofs.Common.{◌≡◌}
-use Rattle.law_rule.specs.Rule.{with_told}
-use Rattle.law_living.specs.Living.{OwnLog}
+use Rattle.law.specs.rule.Rule.{with_told}
+use Rattle.law.specs.living.Living.{OwnLog}
 use Rattle.brc_table.specs.Shown.{shows}
 use Rattle.brc_table.proofs.Placing.{step_allowed}
 use Rattle.brc_table.proofs.waking.take_told.Goals as goal

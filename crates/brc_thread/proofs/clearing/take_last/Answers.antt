@@ -1,5 +1,5 @@
 use Rattle.std.proofs.Common.{◌-◌, arith, ap, sym, ◌∙◌, length, slice_get, remove}
-use Rattle.brc_block.specs.Payload.{kind_of, entries_of, keys_of}
+use Rattle.brc_count.specs.block.Payload.{kind_of, entries_of, keys_of}
 use Rattle.brc_count.specs.Locking.{contents_found}
 use Rattle.brc_count.proofs.Keys_Shown.{keys_left}
 use Rattle.brc_thread.proofs.Payloads.{entries_shown}

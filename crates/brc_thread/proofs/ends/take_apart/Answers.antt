@@ -1,5 +1,5 @@
 use Rattle.std.proofs.Common.{subst}
-use Rattle.brc_table.specs.Seated.{TableSeen, RootSeen}
+use Rattle.brc_count.specs.table.Seated.{TableSeen, RootSeen}
 use Rattle.brc_thread.specs.Ending.{Ends}
 use Rattle.brc_thread.proofs.Ending.{ends_so}
 use Rattle.brc_thread.proofs.ends.take_apart.Goals as goal

@@ -1,5 +1,5 @@
 use Rattle.std.proofs.Common.{◌≡◌}
-use Rattle.law_rule.specs.Seen.{part_seen}
+use Rattle.law.specs.rule.Seen.{part_seen}
 use Rattle.brc_table.specs.Seated.{Stays}
 use Rattle.test_table.specs.Leaving.{CountsNone, closing_at}
 use Rattle.test_table.proofs.leaving.closes_all.Given as goal

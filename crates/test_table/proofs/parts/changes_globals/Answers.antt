@@ -1,6 +1,6 @@
 use Rattle.std.proofs.Common.{List, sym, subst, ◌∙◌}
-use Rattle.law_rule.specs.declared.told.Told.{Told}
-use Rattle.law_steps.specs.Owing.{Unlocks}
+use Rattle.law.specs.rule.declared.told.Told.{Told}
+use Rattle.law.specs.steps.Owing.{Unlocks}
 use Rattle.brc_table.specs.Moving.{found_locked}
 use Rattle.brc_table.specs.Shown.{contents_of, shows}
 use Rattle.test_table.specs.Parts.{globals_with, locked_log}

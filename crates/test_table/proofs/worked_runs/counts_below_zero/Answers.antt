@@ -1,5 +1,5 @@
 use Rattle.std.proofs.Common.{◌<◌, sym, ap, subst, arith}
-use Rattle.law_known.specs.Items.{Part}
+use Rattle.law.specs.known.Items.{Part}
 use Rattle.test_table.proofs.Marks.{marked_after}
 use Rattle.test_table.proofs.worked_runs.counts_below_zero.Goals as goal
 

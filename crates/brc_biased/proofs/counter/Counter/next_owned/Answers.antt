@@ -1,6 +1,6 @@
 use Rattle.std.proofs.Common.{rules, ◌≡◌, ◌<◌, inl, inr, sym, ◌∙◌, subst, arith}
 use Rattle.std.proofs.lemmas.Bool.{cases_lt}
-use Rattle.law_rule.specs.Seen.{counts_seen}
+use Rattle.brc_table.specs.law.rule.Seen.{counts_seen}
 use Rattle.brc_biased.specs.Counter.{CounterSeen}
 use Rattle.brc_biased.proofs.Owning.{none_in_word}
 use Rattle.brc_biased.proofs.counter.Counter.next_owned.Goals as goal

@@ -1,6 +1,6 @@
 use Rattle.std.proofs.Common.{◌≡◌, ◌-◌, ◌<◌, ◌≤◌, ℕ}
 use Rattle.brc_words.specs.declared.limits.TheConstants.{FIRST_MORTAL}
-use Rattle.law_rule.specs.Seen.{counts_seen}
+use Rattle.brc_table.specs.law.rule.Seen.{counts_seen}
 use Rattle.brc_biased.proofs.counter.Counter.next_owned.Given as goal
 
 abbrev pub invariant-loop-cell : goal.invariant-loop-cell

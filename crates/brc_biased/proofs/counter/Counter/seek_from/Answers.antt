@@ -1,5 +1,5 @@
 use Rattle.std.proofs.Common.{rules, ◌≡◌, arith}
-use Rattle.law_known.specs.Free_Words.{free_words_for}
+use Rattle.brc_table.specs.law.known.Free_Words.{free_words_for}
 use Rattle.brc_biased.proofs.Searching.{claims_ahead, claims_behind, passes_behind, passes_end, keeps_through}
 use Rattle.brc_biased.proofs.counter.Counter.seek_from.Goals as goal
 

@@ -1,10 +1,10 @@
 use Rattle.std.proofs.Common.{◌≡◌, Some, sym, subst, refl, false}
-use Rattle.law_world.specs.declared.event.Change.TheVariants as changes
-use Rattle.law_world.specs.declared.row.Hand.TheVariants as hands
-use Rattle.law_rule.specs.Seen.{part_seen}
-use Rattle.law_steps.specs.Owing.{Unlocks}
-use Rattle.brc_table.specs.Moving.{found_locked}
-use Rattle.brc_table.specs.Shown.{shows}
+use Rattle.brc_biased.specs.law.world.declared.event.Change.TheVariants as changes
+use Rattle.brc_biased.specs.law.world.declared.row.Hand.TheVariants as hands
+use Rattle.brc_biased.specs.law.rule.Seen.{part_seen}
+use Rattle.brc_biased.specs.law.steps.Owing.{Unlocks}
+use Rattle.brc_biased.specs.table.Moving.{found_locked}
+use Rattle.brc_biased.specs.table.Shown.{shows}
 use Rattle.brc_count.specs.Frames.{FrameSeen}
 use Rattle.brc_count.specs.Locking.{IsLocked, cell_locked}
 use Rattle.brc_count.proofs.Locks.{unlocks_swap, after_end_filled, changes_place}

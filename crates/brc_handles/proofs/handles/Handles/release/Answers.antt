@@ -1,5 +1,5 @@
 use Rattle.std.proofs.Common.{rules}
-use Rattle.law_living.specs.Quiet.{NoItem}
+use Rattle.brc_count.specs.law.living.Quiet.{NoItem}
 use Rattle.brc_count.proofs.Quiet.{let_go_quietly}
 use Rattle.brc_handles.proofs.handles.Handles.release.Goals as goal
 

@@ -1,6 +1,6 @@
 use Rattle.std.proofs.Common.{rules}
-use Rattle.law_living.specs.Quiet.{NoItem}
-use Rattle.law_living.proofs.Quiet_Items.{quietly_joined}
+use Rattle.brc_count.specs.law.living.Quiet.{NoItem}
+use Rattle.brc_count.proofs.law.living.Quiet_Items.{quietly_joined}
 use Rattle.brc_handles.proofs.handles.Handles.release_all.Goals as goal
 
 pub loop-index-init : goal.loop-index-init

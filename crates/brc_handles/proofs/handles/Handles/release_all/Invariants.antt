@@ -1,5 +1,5 @@
 use Rattle.std.proofs.Common.{◌≡◌, ◌+◌, ◌<◌, ◌⊎◌, ℕ, None, length}
-use Rattle.law_living.specs.Quiet.{Quietly}
+use Rattle.brc_count.specs.law.living.Quiet.{Quietly}
 use Rattle.brc_count.specs.Frames.{HandleSeen, IsUnlocked, Owns}
 use Rattle.brc_handles.specs.Handles.{slot, filled, IsApart, OwnsEach}
 use Rattle.brc_handles.proofs.handles.Handles.release_all.Given as goal

@@ -1,7 +1,7 @@
 use Rattle.std.proofs.Common.{Ok, FitsSigned, rules, w64, sym, subst}
 use Rattle.std.proofs.lemmas.Int.{to_z-of_z}
 use Rattle.brc_meaning.specs.States.{with_integer}
-use Rattle.law_living.proofs.Earlier.{later_both}
+use Rattle.brc_count.proofs.law.living.Earlier.{later_both}
 use Rattle.law_isolation.specs.Goes.{Goes}
 use Rattle.brc_instructions.proofs.Follows_Of.{own_at}
 use Rattle.brc_instructions.proofs.Sums_Read.{adds}

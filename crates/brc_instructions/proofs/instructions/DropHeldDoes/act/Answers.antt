@@ -1,4 +1,4 @@
-use Rattle.law_living.proofs.Earlier.{quietly_later}
+use Rattle.brc_count.proofs.law.living.Earlier.{quietly_later}
 use Rattle.brc_count.proofs.Quiet.{release_quietly}
 use Rattle.brc_instructions.proofs.Follows_Of.{owned_at, released_of, drops}
 use Rattle.brc_instructions.proofs.instructions.DropHeldDoes.act.Goals as goal

@@ -3,7 +3,7 @@ use Rattle.std.proofs.lemmas.Int.{to_z-of_z}
 use Rattle.std.proofs.lemmas.Result.{err_from_is_err_and}
 use Rattle.brc_meaning.specs.Objects.{entries_in}
 use Rattle.brc_meaning.specs.States.{with_integer}
-use Rattle.law_living.proofs.Earlier.{later_both}
+use Rattle.brc_count.proofs.law.living.Earlier.{later_both}
 use Rattle.law_isolation.specs.Goes.{Goes}
 use Rattle.law_isolation.proofs.Calls_Mean.{len_means}
 use Rattle.brc_instructions.proofs.Looks.{later_len}

@@ -1,7 +1,7 @@
 use Rattle.std.proofs.Common.{◌∙◌, rules, sym, FitsSigned, w64}
 use Rattle.std.proofs.lemmas.Result.{err_from_is_err_and}
 use Rattle.brc_meaning.proofs.Sums.{sum_found, sum_refused}
-use Rattle.law_living.proofs.Earlier.{later_both}
+use Rattle.brc_count.proofs.law.living.Earlier.{later_both}
 use Rattle.law_isolation.proofs.Registers_Kept.{means_register}
 use Rattle.brc_instructions.proofs.Follows_Of.{own_at}
 use Rattle.brc_instructions.proofs.Sums_Read.{filled_of, numbers_summed, first_refused, second_refused}

@@ -1,7 +1,7 @@
 use Rattle.std.proofs.Common.{◌∙◌, rules}
 use Rattle.brc_script.specs.declared.instruction.Instruction.TheVariants as does
-use Rattle.law_living.specs.Later.{IsLater}
-use Rattle.law_living.proofs.Earlier.{later_both}
+use Rattle.brc_count.specs.law.living.Later.{IsLater}
+use Rattle.brc_count.proofs.law.living.Earlier.{later_both}
 use Rattle.brc_section.specs.Tries.{StaysMeant}
 use Rattle.brc_section.proofs.Tries.{goes_on, stays_on, stays_tried, follows_on, letter_from}
 use Rattle.brc_section.proofs.waiting.LookAgainDoes.act.Goals as goal

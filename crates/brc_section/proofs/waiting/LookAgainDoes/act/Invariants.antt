@@ -1,5 +1,5 @@
 use Rattle.std.proofs.Common.{◌≡◌, ℕ}
-use Rattle.law_living.specs.Later.{IsLater}
+use Rattle.brc_count.specs.law.living.Later.{IsLater}
 use Rattle.brc_instructions.specs.Registers.{Stands}
 use Rattle.brc_section.specs.declared.waiting.Awaited.TheVariants as awaits
 use Rattle.brc_section.specs.Tries.{StaysMeant}

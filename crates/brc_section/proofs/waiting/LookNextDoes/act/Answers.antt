@@ -1,6 +1,6 @@
 use Rattle.std.proofs.Common.{◌∙◌}
 use Rattle.brc_script.specs.declared.instruction.Instruction.TheVariants as does
-use Rattle.law_living.proofs.Earlier.{later_same, later_both}
+use Rattle.brc_count.proofs.law.living.Earlier.{later_same, later_both}
 use Rattle.brc_section.specs.Tries.{StaysMeant}
 use Rattle.brc_section.proofs.Tries.{goes_on, stays_here, stays_on, follows_on, letter_from}
 use Rattle.brc_section.proofs.waiting.LookNextDoes.act.Goals as goal

@@ -1,6 +1,6 @@
 use Rattle.std.proofs.Common.{rules}
 use Rattle.brc_script.specs.declared.instruction.Instruction.TheVariants as does
-use Rattle.law_living.proofs.Earlier.{later_both}
+use Rattle.brc_count.proofs.law.living.Earlier.{later_both}
 use Rattle.brc_section.proofs.Tries.{stays_tried, follows_on, letter_from}
 use Rattle.brc_section.proofs.waiting.LookSoonDoes.act.Goals as goal
 

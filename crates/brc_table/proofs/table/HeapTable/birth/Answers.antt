@@ -1,16 +1,16 @@
 use Rattle.std.proofs.Common.{◌≡◌, ℕ, ◌<◌, ◌∷◌, Option, Some, sym, ◌∙◌, ap, subst}
 use Rattle.atomic_table.specs.Table.{Me, rest}
 use Rattle.brc_block.specs.declared.payload.Payload.{Payload}
-use Rattle.law_world.specs.declared.event.Step.TheVariants.{Birth}
-use Rattle.law_known.specs.declared.word.Field.TheVariants.{Owner}
-use Rattle.law_known.specs.declared.word.Word.TheVariants.{Of}
-use Rattle.law_rule.specs.declared.told.Told.TheVariants.{Did}
-use Rattle.law_rule.specs.declared.view.View.{View}
+use Rattle.law.specs.world.declared.event.Step.TheVariants.{Birth}
+use Rattle.law.specs.known.declared.word.Field.TheVariants.{Owner}
+use Rattle.law.specs.known.declared.word.Word.TheVariants.{Of}
+use Rattle.law.specs.rule.declared.told.Told.TheVariants.{Did}
+use Rattle.law.specs.rule.declared.view.View.{View}
 use Rattle.brc_table.specs.Moving.{MayGive, put_home}
 use Rattle.brc_table.specs.Seated.{SeatSeen}
 use Rattle.brc_table.specs.Shown.{shows}
-use Rattle.law_steps.specs.Owing.{Bears}
-use Rattle.law_steps.proofs.Making_Steps.{bears_object}
+use Rattle.law.specs.steps.Owing.{Bears}
+use Rattle.law.proofs.steps.Making_Steps.{bears_object}
 use Rattle.brc_table.proofs.table.HeapTable.birth.Goals as goal
 
 pub give-requires-clause-allowed : goal.give-requires-clause-allowed

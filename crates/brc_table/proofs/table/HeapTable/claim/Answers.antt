@@ -2,8 +2,8 @@ use Rattle.std.proofs.Common.{ℕ, ◌<◌, sym, subst}
 use Rattle.brc_table.specs.Moving.{MayClaim}
 use Rattle.brc_table.specs.Seated.{SeatSeen}
 use Rattle.brc_table.specs.Shown.{shows}
-use Rattle.law_steps.specs.Owing.{Claims}
-use Rattle.law_steps.proofs.Making_Steps.{claims_cell}
+use Rattle.law.specs.steps.Owing.{Claims}
+use Rattle.law.proofs.steps.Making_Steps.{claims_cell}
 use Rattle.brc_table.proofs.table.HeapTable.claim.Goals as goal
 
 pub claim_by-found-requires-clause-allowed : goal.claim_by-found-requires-clause-allowed

@@ -1,13 +1,13 @@
 use Rattle.std.proofs.Common.{ℕ, ◌<◌, ◌≤◌, sym, subst, bit_or}
-use Rattle.law_rule.specs.declared.told.Moved.TheVariants.{Nothing}
-use Rattle.law_rule.specs.declared.told.Told.TheVariants.{Did}
-use Rattle.law_world.specs.declared.event.Step.TheVariants.{Close}
-use Rattle.law_known.specs.declared.word.Word.TheVariants.{Queue}
+use Rattle.law.specs.rule.declared.told.Moved.TheVariants.{Nothing}
+use Rattle.law.specs.rule.declared.told.Told.TheVariants.{Did}
+use Rattle.law.specs.world.declared.event.Step.TheVariants.{Close}
+use Rattle.law.specs.known.declared.word.Word.TheVariants.{Queue}
 use Rattle.brc_table.specs.Machine.{MayTake}
 use Rattle.brc_table.specs.Seated.{SeatSeen}
 use Rattle.brc_table.specs.Shown.{shows}
-use Rattle.law_steps.specs.Owing.{Closes}
-use Rattle.law_steps.proofs.Queue_Steps.{closes}
+use Rattle.law.specs.steps.Owing.{Closes}
+use Rattle.law.proofs.steps.Queue_Steps.{closes}
 use Rattle.brc_table.proofs.table.HeapTable.close.Goals as goal
 
 pub take_and_close-requires-clause-allowed : goal.take_and_close-requires-clause-allowed

@@ -1,13 +1,13 @@
 use Rattle.std.proofs.Common.{ℕ, ◌<◌, ◌/◌, sym, subst, bit_or}
-use Rattle.law_world.specs.declared.event.Step.TheVariants.{Enqueue}
-use Rattle.law_known.specs.declared.word.Word.TheVariants.{Queue}
-use Rattle.law_rule.specs.declared.told.Moved.TheVariants.{Nothing}
-use Rattle.law_rule.specs.declared.told.Told.TheVariants.{Did}
+use Rattle.law.specs.world.declared.event.Step.TheVariants.{Enqueue}
+use Rattle.law.specs.known.declared.word.Word.TheVariants.{Queue}
+use Rattle.law.specs.rule.declared.told.Moved.TheVariants.{Nothing}
+use Rattle.law.specs.rule.declared.told.Told.TheVariants.{Did}
 use Rattle.brc_table.specs.Machine.{MayTell}
 use Rattle.brc_table.specs.Seated.{SeatSeen}
 use Rattle.brc_table.specs.Shown.{shows}
-use Rattle.law_steps.specs.Owing.{Enqueues}
-use Rattle.law_steps.proofs.Queueing_Steps.{enqueues}
+use Rattle.law.specs.steps.Owing.{Enqueues}
+use Rattle.law.proofs.steps.Queueing_Steps.{enqueues}
 use Rattle.brc_table.proofs.table.HeapTable.enqueue.Goals as goal
 
 pub or-requires-clause-allowed : goal.or-requires-clause-allowed

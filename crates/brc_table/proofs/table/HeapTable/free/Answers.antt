@@ -1,14 +1,14 @@
 use Rattle.std.proofs.Common.{◌≡◌, ℕ, ◌/◌, ◌<◌, ◌∷◌, None, sym, subst}
 use Rattle.std.specs.Prelude.{bit_or}
 use Rattle.atomic_table.specs.Table.{rest}
-use Rattle.law_world.specs.declared.event.Step.TheVariants.{Free}
-use Rattle.law_known.specs.declared.word.Word.TheVariants.{FreeWord}
-use Rattle.law_rule.specs.declared.told.Told.TheVariants.{Did}
+use Rattle.law.specs.world.declared.event.Step.TheVariants.{Free}
+use Rattle.law.specs.known.declared.word.Word.TheVariants.{FreeWord}
+use Rattle.law.specs.rule.declared.told.Told.TheVariants.{Did}
 use Rattle.brc_table.specs.Moving.{MayGiveBy, put_home}
 use Rattle.brc_table.specs.Seated.{SeatSeen}
 use Rattle.brc_table.specs.Shown.{shows}
-use Rattle.law_steps.specs.Owing.{Carries}
-use Rattle.law_steps.proofs.Making_Steps.{frees_cell}
+use Rattle.law.specs.steps.Owing.{Carries}
+use Rattle.law.proofs.steps.Making_Steps.{frees_cell}
 use Rattle.brc_table.proofs.table.HeapTable.free.Goals as goal
 
 pub give_bit-requires-clause-allowed : goal.give_bit-requires-clause-allowed

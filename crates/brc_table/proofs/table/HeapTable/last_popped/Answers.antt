@@ -1,8 +1,8 @@
 use Rattle.std.proofs.Common.{ℕ, ◌<◌, sym, subst}
 use Rattle.brc_table.specs.Seated.{SeatSeen}
 use Rattle.brc_table.specs.Shown.{shows}
-use Rattle.law_steps.specs.Owing.{EndsPopped}
-use Rattle.law_steps.proofs.Last_Steps.{ends_popped}
+use Rattle.law.specs.steps.Owing.{EndsPopped}
+use Rattle.law.proofs.steps.Last_Steps.{ends_popped}
 use Rattle.brc_table.proofs.table.HeapTable.last_popped.Goals as goal
 
 pub end_by_sub-requires-clause-allowed : goal.end_by_sub-requires-clause-allowed

@@ -1,6 +1,6 @@
 use Rattle.brc_words.specs.declared.limits.TheConstants.{MOST_THREADS}
-use Rattle.law_world.specs.Holding.{carries}
-use Rattle.law_rule.specs.Seen.{part_seen}
+use Rattle.law.specs.world.Holding.{carries}
+use Rattle.law.specs.rule.Seen.{part_seen}
 use Rattle.brc_table.proofs.Bounding.{cell_of}
 use Rattle.brc_table.proofs.table.HeapTable.load_owner.Given as goal
 

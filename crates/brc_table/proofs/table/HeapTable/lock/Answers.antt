@@ -1,10 +1,10 @@
 use Rattle.std.proofs.Common.{ℕ, ◌<◌, sym, ◌∙◌, subst}
-use Rattle.law_world.specs.declared.event.Step.TheVariants.{Lock}
+use Rattle.law.specs.world.declared.event.Step.TheVariants.{Lock}
 use Rattle.brc_table.specs.Moving.{MayLock}
 use Rattle.brc_table.specs.Seated.{SeatSeen}
 use Rattle.brc_table.specs.Shown.{shows}
-use Rattle.law_steps.specs.Owing.{Carries}
-use Rattle.law_steps.proofs.Locking_Steps.{locks_cell}
+use Rattle.law.specs.steps.Owing.{Carries}
+use Rattle.law.proofs.steps.Locking_Steps.{locks_cell}
 use Rattle.brc_table.proofs.table.HeapTable.lock.Goals as goal
 
 pub lock_by-found-requires-clause-allowed : goal.lock_by-found-requires-clause-allowed

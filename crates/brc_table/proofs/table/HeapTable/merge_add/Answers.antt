@@ -1,14 +1,14 @@
 use Rattle.std.proofs.Common.{ℕ, ◌<◌, ◌+◌, ◌*◌, ◌%◌, ◌^◌, sym, subst}
-use Rattle.law_known.specs.declared.word.Field.TheVariants.{Shared}
-use Rattle.law_known.specs.declared.word.Word.TheVariants.{Of}
-use Rattle.law_rule.specs.declared.told.Moved.TheVariants.{Nothing}
-use Rattle.law_rule.specs.declared.told.Told.TheVariants.{Did}
-use Rattle.law_world.specs.declared.event.Step.TheVariants.{MergeAdd}
+use Rattle.law.specs.known.declared.word.Field.TheVariants.{Shared}
+use Rattle.law.specs.known.declared.word.Word.TheVariants.{Of}
+use Rattle.law.specs.rule.declared.told.Moved.TheVariants.{Nothing}
+use Rattle.law.specs.rule.declared.told.Told.TheVariants.{Did}
+use Rattle.law.specs.world.declared.event.Step.TheVariants.{MergeAdd}
 use Rattle.brc_table.specs.Machine.{MaySum}
 use Rattle.brc_table.specs.Seated.{SeatSeen}
 use Rattle.brc_table.specs.Shown.{shows}
-use Rattle.law_steps.specs.Owing.{AddsLocal}
-use Rattle.law_steps.proofs.Adding_Steps.{adds_local}
+use Rattle.law.specs.steps.Owing.{AddsLocal}
+use Rattle.law.proofs.steps.Adding_Steps.{adds_local}
 use Rattle.brc_table.proofs.table.HeapTable.merge_add.Goals as goal
 
 pub add_up-requires-clause-allowed : goal.add_up-requires-clause-allowed

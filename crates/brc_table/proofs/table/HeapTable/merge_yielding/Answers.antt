@@ -1,10 +1,10 @@
 use Rattle.std.proofs.Common.{ℕ, ◌<◌, ◌+◌, ◌*◌, ◌%◌, ◌^◌, sym, subst}
-use Rattle.law_world.specs.declared.event.Step.TheVariants.{MergeAdd}
+use Rattle.law.specs.world.declared.event.Step.TheVariants.{MergeAdd}
 use Rattle.brc_table.specs.Moving.{MayEndAt}
 use Rattle.brc_table.specs.Seated.{SeatSeen}
 use Rattle.brc_table.specs.Shown.{shows}
-use Rattle.law_steps.specs.Owing.{Yields}
-use Rattle.law_steps.proofs.Adding_Steps.{yields_local}
+use Rattle.law.specs.steps.Owing.{Yields}
+use Rattle.law.proofs.steps.Adding_Steps.{yields_local}
 use Rattle.brc_table.proofs.table.HeapTable.merge_yielding.Goals as goal
 
 pub end_by_add-requires-clause-allowed : goal.end_by_add-requires-clause-allowed

@@ -1,15 +1,15 @@
 use Rattle.std.proofs.Common.{ℕ, ◌<◌, ◌≤◌, sym, subst, bit_or}
-use Rattle.law_world.specs.declared.event.Step.TheVariants.{Nudge}
-use Rattle.law_known.specs.declared.word.Word.TheVariants.{NotifyWord}
+use Rattle.law.specs.world.declared.event.Step.TheVariants.{Nudge}
+use Rattle.law.specs.known.declared.word.Word.TheVariants.{NotifyWord}
 use Rattle.brc_table.proofs.Placing.{notify_bit, told_inside}
-use Rattle.law_rule.specs.declared.told.Moved.TheVariants.{Nothing}
-use Rattle.law_rule.specs.declared.told.Told.TheVariants.{Did}
+use Rattle.law.specs.rule.declared.told.Moved.TheVariants.{Nothing}
+use Rattle.law.specs.rule.declared.told.Told.TheVariants.{Did}
 use Rattle.brc_table.specs.Machine.{MayTell}
 use Rattle.brc_words.specs.declared.limits.TheConstants.{MOST_CELLS}
 use Rattle.brc_table.specs.Seated.{TableSeen, SeatSeen}
 use Rattle.brc_table.specs.Shown.{shows}
-use Rattle.law_steps.specs.Owing.{Tells}
-use Rattle.law_steps.proofs.Queue_Steps.{nudges}
+use Rattle.law.specs.steps.Owing.{Tells}
+use Rattle.law.proofs.steps.Queue_Steps.{nudges}
 use Rattle.brc_table.proofs.table.HeapTable.nudge.Goals as goal
 
 pub bit-bits-requires : goal.bit-bits-requires

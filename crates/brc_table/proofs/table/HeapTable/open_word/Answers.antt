@@ -1,13 +1,13 @@
 use Rattle.std.proofs.Common.{ℕ, ◌<◌, ◌≤◌, sym, subst}
-use Rattle.law_rule.specs.declared.told.Moved.TheVariants.{Nothing}
-use Rattle.law_rule.specs.declared.told.Told.TheVariants.{Did}
-use Rattle.law_world.specs.declared.event.Step.TheVariants.{Reopen}
-use Rattle.law_known.specs.declared.word.Word.TheVariants.{Queue}
+use Rattle.law.specs.rule.declared.told.Moved.TheVariants.{Nothing}
+use Rattle.law.specs.rule.declared.told.Told.TheVariants.{Did}
+use Rattle.law.specs.world.declared.event.Step.TheVariants.{Reopen}
+use Rattle.law.specs.known.declared.word.Word.TheVariants.{Queue}
 use Rattle.brc_table.specs.Machine.{MayTell}
 use Rattle.brc_table.specs.Seated.{SeatSeen}
 use Rattle.brc_table.specs.Shown.{shows}
-use Rattle.law_steps.specs.Owing.{Allowed}
-use Rattle.law_steps.proofs.Queue_Steps.{reopens}
+use Rattle.law.specs.steps.Owing.{Allowed}
+use Rattle.law.proofs.steps.Queue_Steps.{reopens}
 use Rattle.brc_table.proofs.table.HeapTable.open_word.Goals as goal
 
 pub store-requires-clause-allowed : goal.store-requires-clause-allowed

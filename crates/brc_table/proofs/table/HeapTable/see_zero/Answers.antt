@@ -1,9 +1,9 @@
 use Rattle.std.proofs.Common.{ℕ, ◌<◌, sym, subst}
-use Rattle.law_world.specs.declared.event.Step.TheVariants.{SeeZero}
+use Rattle.law.specs.world.declared.event.Step.TheVariants.{SeeZero}
 use Rattle.brc_table.specs.Seated.{SeatSeen}
 use Rattle.brc_table.specs.Shown.{shows}
-use Rattle.law_steps.specs.Owing.{Carries}
-use Rattle.law_steps.proofs.Ending_Steps.{ends_at_zero}
+use Rattle.law.specs.steps.Owing.{Carries}
+use Rattle.law.proofs.steps.Ending_Steps.{ends_at_zero}
 use Rattle.brc_table.proofs.table.HeapTable.see_zero.Goals as goal
 
 -- said by hand, so that a step that isn't allowed is refused at once and not after a long search

@@ -1,11 +1,11 @@
 use Rattle.std.proofs.Common.{rules, arith, ◌≡◌, ◌∷◌, [], ◌+◌, sym, subst, ap, ◌∙◌, if◌then◌else◌}
 use Rattle.std.proofs.lemmas.Bool.{eq-eqb, ne_eqb}
-use Rattle.law_world.specs.declared.event.Step.TheVariants.{Register}
-use Rattle.law_known.specs.Root.{marks_of, rows_of}
-use Rattle.law_rule.specs.declared.told.Moved.TheVariants as moves
-use Rattle.law_rule.specs.declared.told.Told.{Told}
-use Rattle.law_rule.specs.declared.told.Told.TheVariants.{Did}
-use Rattle.law_rule.specs.Logs.{log_items}
+use Rattle.law.specs.world.declared.event.Step.TheVariants.{Register}
+use Rattle.law.specs.known.Root.{marks_of, rows_of}
+use Rattle.law.specs.rule.declared.told.Moved.TheVariants as moves
+use Rattle.law.specs.rule.declared.told.Told.{Told}
+use Rattle.law.specs.rule.declared.told.Told.TheVariants.{Did}
+use Rattle.law.specs.rule.Logs.{log_items}
 use Rattle.brc_table.specs.Numbers.{AreFree}
 use Rattle.brc_table.proofs.Numbering.{taken_number, taken_rows}
 use Rattle.brc_table.proofs.table.HeapTable.split.Goals as goal

@@ -1,8 +1,8 @@
 use Rattle.std.proofs.Common.{ℕ, ◌<◌, sym, subst}
 use Rattle.brc_table.specs.Seated.{SeatSeen}
 use Rattle.brc_table.specs.Shown.{shows}
-use Rattle.law_steps.specs.Owing.{UntiesPopped}
-use Rattle.law_steps.proofs.Untying_Steps.{unties_popped}
+use Rattle.law.specs.steps.Owing.{UntiesPopped}
+use Rattle.law.proofs.steps.Untying_Steps.{unties_popped}
 use Rattle.brc_table.proofs.table.HeapTable.untie_popped.Goals as goal
 
 pub store-requires-clause-allowed : goal.store-requires-clause-allowed

@@ -1,12 +1,12 @@
 use Rattle.std.proofs.Common.{ℕ, ◌<◌, ◌≤◌, sym, subst}
-use Rattle.law_rule.specs.declared.told.Moved.TheVariants.{Nothing}
-use Rattle.law_rule.specs.declared.told.Told.TheVariants.{Did}
-use Rattle.law_world.specs.declared.event.Step.TheVariants.{Wake}
-use Rattle.law_known.specs.declared.word.Word.TheVariants.{NotifyWord}
+use Rattle.law.specs.rule.declared.told.Moved.TheVariants.{Nothing}
+use Rattle.law.specs.rule.declared.told.Told.TheVariants.{Did}
+use Rattle.law.specs.world.declared.event.Step.TheVariants.{Wake}
+use Rattle.law.specs.known.declared.word.Word.TheVariants.{NotifyWord}
 use Rattle.brc_table.specs.Machine.{MayWake}
 use Rattle.brc_table.specs.Seated.{SeatSeen}
 use Rattle.brc_table.specs.Shown.{shows}
-use Rattle.law_steps.specs.Owing.{Allowed}
+use Rattle.law.specs.steps.Owing.{Allowed}
 use Rattle.brc_table.proofs.Wakes_Own.{wakes_own}
 use Rattle.brc_table.proofs.table.HeapTable.wake.Goals as goal
 

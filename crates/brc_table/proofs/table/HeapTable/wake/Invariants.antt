@@ -1,5 +1,5 @@
-use Rattle.law_rule.specs.declared.told.Moved.TheVariants.{Nothing}
-use Rattle.law_rule.specs.declared.told.Told.TheVariants.{Did}
+use Rattle.law.specs.rule.declared.told.Moved.TheVariants.{Nothing}
+use Rattle.law.specs.rule.declared.told.Told.TheVariants.{Did}
 use Rattle.brc_table.proofs.table.HeapTable.wake.Given as goal
 
 abbrev pub ghosts-take_told : goal.ghosts-take_told

@@ -1,6 +1,6 @@
 use Rattle.std.proofs.Common.{ap, sym, subst, ◌∙◌}
-use Rattle.law_rule.specs.declared.view.View.{View}
-use Rattle.brc_table.specs.Seated.{view_of}
+use Rattle.brc_count.specs.law.rule.declared.view.View.{View}
+use Rattle.brc_count.specs.table.Seated.{view_of}
 use Rattle.brc_thread.specs.Counting.{Counts}
 use Rattle.brc_thread.proofs.Counted.{counts_gathered}
 use Rattle.brc_thread.proofs.root.Root.gather.Goals as goal
