@@ -24,8 +24,8 @@ ghost use Rattle.brc_biased.specs.Up.{IsKnown};
 use crate::counter::Counter;
 use crate::home::Home;
 use crate::owned::clear_owned;
-use brc_table::block::Block;
 use brc_table::Found;
+use brc_table::block::Block;
 use std::alloc::Allocator;
 
 impl<H: Home<A>, A: Allocator> Counter<H, A> {

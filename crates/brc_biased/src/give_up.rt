@@ -18,8 +18,8 @@ use crate::home::Home;
 use crate::own::release_own;
 use crate::shared::{release_risen, release_shared};
 use brc_table::block::Block;
-use brc_words::FIRST_MORTAL;
 use brc_table::law::world::Dropped;
+use brc_words::FIRST_MORTAL;
 use std::alloc::Allocator;
 
 impl<H: Home<A>, A: Allocator> Counter<H, A> {

@@ -17,8 +17,8 @@ ghost use Rattle.brc_biased.specs.Up.{IsKnown};
 
 use crate::owned::clear_owned;
 use brc_table::block::Block;
-use brc_table::{Found, HeapTable, ThreadSeat};
 use brc_table::law::world::Dropped;
+use brc_table::{Found, HeapTable, ThreadSeat};
 use std::alloc::Allocator;
 
 /// The thread's count of its own object came to 0: where nobody else has counted or asked the object is dead, and else

@@ -14,8 +14,8 @@ ghost use Rattle.brc_biased.specs.Up.{IsKnown};
 
 use crate::asked::hand_over;
 use brc_table::block::Block;
-use brc_table::{Found, HeapTable, ThreadSeat};
 use brc_table::law::world::Dropped;
+use brc_table::{Found, HeapTable, ThreadSeat};
 use std::alloc::Allocator;
 
 /// The least shared word in default with a count above 0.

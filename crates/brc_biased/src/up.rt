@@ -14,8 +14,8 @@ ghost use Rattle.brc_biased.specs.Up.{Raising, CountsHere, RaisedImmortal, Raise
 
 use crate::counter::Counter;
 use crate::home::Home;
-use brc_words::FIRST_MORTAL;
 use brc_table::law::world::Source;
+use brc_words::FIRST_MORTAL;
 use std::alloc::Allocator;
 
 impl<H: Home<A>, A: Allocator> Counter<H, A> {

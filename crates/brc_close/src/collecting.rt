@@ -5,8 +5,8 @@ ghost use Rattle.brc_close.specs.Contents.{content_in, shown_in, contents_in};
 ghost use Rattle.brc_thread.specs.Emptied.{blocks_in};
 
 use brc_count::block::Block;
-use brc_report::{Cells, Content};
 use brc_count::table::Rest;
+use brc_report::{Cells, Content};
 use brc_words::GLOBALS;
 use std::alloc::{AllocError, Allocator};
 

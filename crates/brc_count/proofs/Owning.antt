@@ -1,9 +1,10 @@
 -- Which handles a frame owns after a call, from what the call does to its places.
-use Rattle.std.proofs.Common.{◌≡◌, ◌≢◌, ℕ, ◌+◌, true, Option, Some, None, is_some, refl, sym, ◌∙◌, ap}
+use Rattle.std.proofs.Common.{◌≡◌, ◌≢◌, ℕ, ◌+◌, ◌<◌, true, Option, Some, None, is_some, refl, sym, ◌∙◌, ap}
 use Rattle.brc_biased.specs.law.world.declared.event.Source.{Source}
 use Rattle.brc_count.specs.Frames.{FrameSeen, HandleSeen, Owns, Given, ReleasedOf}
 use Rattle.brc_count.specs.Locking.{cell_in, KeepsThread, KeepsFrame, ChangesPlace}
 use Rattle.brc_count.specs.Owned.{Keeps, Gains, Loses}
+use Rattle.brc_words.specs.declared.limits.TheConstants.{MOST_PLACES}
 
 none_filled : {X : Type 0} {o : Option X} → is_some o ≡ true → o ≡ None → ⊥
 none_filled filled none = cc
@@ -66,10 +67,11 @@ module _ {A : Type 0} where
   -- a place that had no reference has one now
   gains_place : (old new : FrameSeen A) (given : HandleSeen) (c : ℕ) → given.heap ≡ old.heap
       → given.thread ≡ old.seat.thread
-      → new.heap ≡ old.heap → new.seat.thread ≡ old.seat.thread → new.len ≡ old.len + 1 → cell_in old given.place ≡ None
+      → new.heap ≡ old.heap → new.seat.thread ≡ old.seat.thread → new.len ≡ old.len + 1 → given.place < MOST_PLACES
+      → cell_in old given.place ≡ None
       → cell_in new given.place ≡ Some c → ((k : ℕ) → k ≢ given.place → cell_in new k ≡ cell_in old k)
       → Gains old new given
-  gains_place old new given c own_heap own heap thread len vacant has others =
+  gains_place old new given c own_heap own heap thread len room vacant has others =
       let apart : (h : HandleSeen) → Owns old h → given.place ≢ h.place =
       λ h owns. vacant_else (cell_in old) h.place given.place owns.filled vacant in
       record {
@@ -77,21 +79,23 @@ module _ {A : Type 0} where
         len = len;
         owns = λ h owns. owns_still old new h heap thread (others h.place (flipped (apart h owns))) owns;
         owned = record { heap = own_heap ∙ sym heap; thread = own ∙ sym thread; filled = ap is_some has };
+        room = room;
         apart = apart;
       }
 
   -- a reference came out of an object
   pub taken_gains : (old new : FrameSeen A) (given : HandleSeen) (c : ℕ) → KeepsThread old new → given.heap ≡ old.heap
-      → given.thread ≡ old.seat.thread → cell_in old given.place ≡ None → ChangesPlace old new given.place (Some c)
+      → given.thread ≡ old.seat.thread → given.place < MOST_PLACES → cell_in old given.place ≡ None
+      → ChangesPlace old new given.place (Some c)
       → new.len ≡ old.len + 1 → Gains old new given
-  taken_gains old new given c thread own_heap own vacant places len =
-      gains_place old new given c own_heap own thread.heap thread.thread len vacant places.has places.others
+  taken_gains old new given c thread own_heap own room vacant places len =
+      gains_place old new given c own_heap own thread.heap thread.thread len room vacant places.has places.others
 
   -- a new handle has a reference
   pub given_gains : (old new : FrameSeen A) (source : Source) (c : ℕ) (given : HandleSeen) → new.heap ≡ old.heap
       → Given old new source c given → Gains old new given
   given_gains old new source c given heap g =
-      gains_place old new given c g.heap g.thread heap g.seat.1 g.len g.vacant g.has g.others
+      gains_place old new given c g.heap g.thread heap g.seat.1 g.len g.room g.vacant g.has g.others
 
   -- a handle's reference goes
   pub released_loses : (old new : FrameSeen A) (gone : HandleSeen) (c : ℕ) → new.heap ≡ old.heap

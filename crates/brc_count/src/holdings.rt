@@ -19,10 +19,10 @@ ghost use Rattle.brc_count.specs.Frames.{popped_seen, IsUnlocked, KeepsButStart,
 use crate::held::Held;
 use crate::ledger::Ledger;
 use crate::start::ClaimStart;
-use brc_biased::{Counter, Home};
 use brc_biased::block::Worklist;
-use brc_words::{Fault, MOST_PLACES};
 use brc_biased::law::world::{Dropped, Source};
+use brc_biased::{Counter, Home};
+use brc_words::{Fault, MOST_PLACES};
 use slab::Slab;
 use std::alloc::Allocator;
 use std::marker::Model;

@@ -26,8 +26,8 @@ use crate::held::Held;
 use crate::holdings::Holdings;
 use brc_biased::Home;
 use brc_biased::block::Block;
-use brc_words::Fault;
 use brc_biased::law::world::{Change, Source};
+use brc_words::Fault;
 use slab::Slab;
 use std::alloc::Allocator;
 

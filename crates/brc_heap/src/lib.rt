@@ -19,8 +19,8 @@ pub use asking::{is_same, truth_of};
 // the heap and its threads
 pub use brc_close::{CloseFault, NoReport, close, close_or_end};
 pub use brc_count::Ledger;
-pub use brc_report::{Cells, Content, Remain, Report, check_report, write_report};
 pub use brc_count::table::Rest;
+pub use brc_report::{Cells, Content, Remain, Report, check_report, write_report};
 pub use brc_thread::{Heap, Options, Resting, Retired, Root, give_back, take_apart};
 pub use fixed::{Leaving, Mutator};
 
@@ -33,11 +33,11 @@ pub use fixed::Frame;
 pub use brc_things::{new_dict, new_int, new_list, new_mailbox, new_text, none, truth};
 
 // what they are and hold
-pub use brc_count::block::KeyRef;
 pub use brc_containers::{
     int_of, kind_of, len_of, text_into, text_of, try_int_of, try_kind_of, try_len_of,
     try_text_into, try_text_of,
 };
+pub use brc_count::block::KeyRef;
 pub use brc_dicts::{
     dict_del, dict_del_by, dict_find, dict_find_by, dict_key, dict_key_by, dict_pair, dict_put,
     dict_set, try_dict_del, try_dict_del_by, try_dict_find, try_dict_find_by, try_dict_key,

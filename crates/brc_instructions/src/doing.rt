@@ -7,8 +7,8 @@ ghost use Rattle.brc_instructions.specs.Doing.{Refusing, Telling};
 ghost use Rattle.brc_instructions.specs.Registers.{Stands};
 
 use crate::registers::Registers;
-use brc_count::biased::Home;
 use brc_count::Frame;
+use brc_count::biased::Home;
 use brc_words::Fault;
 use std::alloc::Allocator;
 use std::sync::Wait;

@@ -5,8 +5,8 @@ ghost use Rattle.brc_count.specs.Frames.{FrameSeen, HandleSeen, IsUnlocked, Owns
 ghost use Rattle.brc_count.specs.Owned.{Loses, Trades};
 ghost use Rattle.brc_loops.specs.Turns.{Turns, Passes, FailsPassing};
 
-use brc_count::biased::Home;
 use brc_count::Frame;
+use brc_count::biased::Home;
 use std::alloc::Allocator;
 
 /// What has one handle, and gives it for another at each turn. It is used up by a turn, and comes back: where a method

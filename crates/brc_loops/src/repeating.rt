@@ -5,8 +5,8 @@ ghost use Rattle.brc_count.specs.Frames.{FrameSeen, IsUnlocked};
 ghost use Rattle.brc_count.specs.Owned.{Keeps};
 ghost use Rattle.brc_loops.specs.Turns.{Turns, FailsIn};
 
-use brc_count::biased::Home;
 use brc_count::Frame;
+use brc_count::biased::Home;
 use std::alloc::Allocator;
 
 /// What is done with a frame, which has the same handles before and afterwards.

@@ -7,8 +7,8 @@ ghost use Rattle.brc_loops.specs.declared.waiting.Look.{Look};
 ghost use Rattle.brc_loops.specs.declared.waiting.Look.TheVariants as looks;
 ghost use Rattle.brc_loops.specs.Turns.{LooksUntil};
 
-use brc_count::biased::Home;
 use brc_count::Frame;
+use brc_count::biased::Home;
 use std::alloc::Allocator;
 use std::sync::Wait;
 use std::thread;

@@ -9,11 +9,11 @@ ghost use Rattle.brc_containers.specs.Called.{Late};
 ghost use Rattle.brc_containers.specs.Looking.{KindOf, LenOf, IntOf, TextOf};
 ghost use Rattle.brc_places.specs.Reading.{Reads};
 
-use brc_count::biased::Home;
 use brc_containers::{
     int_of, kind_of, len_of, text_of, try_int_of, try_kind_of, try_len_of, try_text_of,
 };
 use brc_count::Frame;
+use brc_count::biased::Home;
 use brc_handles::Handles;
 use brc_words::{Fault, Kind, Text};
 use std::alloc::Allocator;

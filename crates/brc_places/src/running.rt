@@ -5,8 +5,8 @@ ghost use Rattle.brc_handles.specs.Handles.{OwnsEach};
 ghost use Rattle.brc_handles.specs.Standing.{KeepsStanding};
 
 use crate::stack::Stack;
-use brc_count::biased::Home;
 use brc_count::Frame;
+use brc_count::biased::Home;
 use std::alloc::Allocator;
 use std::sync::Wait;
 use std::thread;

@@ -12,8 +12,8 @@ ghost use Rattle.brc_instructions.specs.Registers.{Stands};
 ghost use Rattle.brc_section.specs.Lines.{Led};
 
 use crate::waiting::{Await, Awaited, Look, Seated};
-use brc_count::biased::Home;
 use brc_count::Frame;
+use brc_count::biased::Home;
 use brc_instructions::{
     Add, CopyHeld, Does, Done, DropHeld, Empty, Give, Giving, Len, MakeEmpty, MakeInt, MakeText,
     Registers, Take, Taking,

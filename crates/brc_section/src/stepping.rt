@@ -15,8 +15,8 @@ use crate::lines::{
 };
 use crate::names::key_of;
 use crate::waiting::{Await, Awaited, Look, Seated};
-use brc_count::biased::Home;
 use brc_count::Frame;
+use brc_count::biased::Home;
 use brc_instructions::{Does, Done, GiveGlobal, Giving, Registers, Share};
 use brc_script::{Instruction, Register};
 use brc_words::{Key, Text};

@@ -4,8 +4,8 @@ ghost use Rattle.std.specs.Prelude.{IsTrue};
 ghost use Rattle.brc_section.specs.Waiting.{FollowsLetter, FoundNothing, WantsForLetter};
 
 use crate::board::Board;
-use brc_count::biased::Home;
 use brc_count::Frame;
+use brc_count::biased::Home;
 use brc_instructions::{Does, Done, Give, GiveGlobal, Giving, Registers};
 use brc_script::Register;
 use brc_words::{Fault, Key};

@@ -5,8 +5,8 @@
 ghost use Rattle.brc_instructions.specs.Registers.{Stands};
 
 use crate::gate::{Gate, Operands};
-use brc_count::biased::Home;
 use brc_count::Frame;
+use brc_count::biased::Home;
 use brc_instructions::Registers;
 use brc_script::{Instruction, Line, Register};
 use brc_words::FIRST_MORTAL;

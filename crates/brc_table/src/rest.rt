@@ -96,7 +96,8 @@ impl<A: Allocator> RootSeat<A> {
     pub fn abandon(self) {
         let RootSeat {
             place: _place,
-            next: _next,
+            free: _free,
+            rows: _rows,
         } = self;
     }
 }

@@ -7,8 +7,8 @@ ghost use Rattle.brc_count.specs.law.rule.Opening.{first_view};
 ghost use Rattle.brc_count.specs.table.Seated.{TableSeen};
 
 use crate::root::Root;
-use brc_count::biased::Home;
 use brc_count::Ledger;
+use brc_count::biased::Home;
 use brc_count::table::{HeapTable, Rest};
 use brc_words::Fault;
 use std::alloc::{Allocator, Global};

@@ -8,8 +8,8 @@ ghost use Rattle.brc_count.specs.Closing.{TurnsLeaving};
 ghost use Rattle.brc_thread.specs.Threads.{ledger_of};
 
 use brc_count::biased::Home;
-use brc_count::{ClosedFrame, Ledger};
 use brc_count::table::ThreadSeat;
+use brc_count::{ClosedFrame, Ledger};
 use std::alloc::{Allocator, Global};
 use std::marker::Model;
 

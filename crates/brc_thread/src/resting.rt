@@ -4,8 +4,8 @@ ghost use Rattle.std.specs.Prelude.{◌≡◌, []};
 ghost use Rattle.brc_count.specs.Frames.{IsUnlocked};
 
 use crate::mutator::Mutator;
-use brc_count::biased::Home;
 use brc_count::RestingFrame;
+use brc_count::biased::Home;
 use std::alloc::{Allocator, Global};
 use std::marker::Model;
 

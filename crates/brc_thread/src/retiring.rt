@@ -10,8 +10,8 @@ use crate::heap::Heap;
 use crate::leaving::{Leaving, Retired};
 use crate::mutator::Mutator;
 use crate::root::Root;
-use brc_count::biased::Home;
 use brc_count::Ledger;
+use brc_count::biased::Home;
 use std::alloc::Allocator;
 use std::sync::Wait;
 

@@ -5,8 +5,8 @@ ghost use Rattle.brc_heap.specs.Words.{IsUnlocked, Keeps, Owns};
 ghost use Rattle.test_tools.specs.Calls.{EndsBare, IsBare, Parts};
 
 use crate::registering::SIZES;
-use brc_count::biased::Home;
 use brc_count::Frame;
+use brc_count::biased::Home;
 use brc_heap::{Fault, Handle, Handles, Heap, Key, Mutator, close_or_end, dict_put, none, send};
 use brc_loops::{
     Life, Never, Nothing, Waited, fetch_until, gather_all, gather_answers, recv_until, rest_more,

@@ -4,8 +4,8 @@ ghost use Rattle.std.specs.Prelude.{◌≡◌};
 ghost use Rattle.test_tools.specs.Calls.{OwnsAll};
 
 use crate::memory::Pieces;
-use brc_count::biased::Home;
 use brc_count::Frame;
+use brc_count::biased::Home;
 use brc_handles::Handles;
 use brc_things::none;
 use brc_words::Fault;

@@ -7,8 +7,8 @@ ghost use Rattle.test_tools.specs.Calls.{EndsBare, IsBare, OwnsAll, OwnsOne, Sta
 
 use crate::tests::objects::entries;
 use crate::tests::threads::{a_heap, a_thread, is_empty};
-use brc_count::biased::Home;
 use brc_count::Handle;
+use brc_count::biased::Home;
 use brc_handles::Handles;
 use brc_things::none;
 use brc_thread::Mutator;

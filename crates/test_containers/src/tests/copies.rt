@@ -4,8 +4,8 @@ ghost use Rattle.brc_count.specs.Frames.{IsUnlocked};
 ghost use Rattle.test_tools.specs.Calls.{Adds, OwnsOne, Stays};
 
 use crate::tests::guards::Way;
-use brc_count::biased::Home;
 use brc_containers::{text_into, text_of, try_text_into, try_text_of};
+use brc_count::biased::Home;
 use brc_count::{Frame, Handle};
 use brc_dicts::{dict_key, dict_pair, try_dict_key, try_dict_pair, try_dict_put};
 use brc_things::none;

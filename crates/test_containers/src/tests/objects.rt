@@ -2,8 +2,8 @@
 
 ghost use Rattle.test_tools.specs.Calls.{OwnsOne, Parts, Stays};
 
-use brc_count::biased::Home;
 use brc_containers::{int_of, len_of};
+use brc_count::biased::Home;
 use brc_count::{Frame, Handle};
 use std::alloc::Allocator;
 use std::process::Abort;

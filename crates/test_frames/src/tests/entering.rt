@@ -3,8 +3,8 @@
 ghost use Rattle.std.specs.Prelude.{◌<◌};
 
 use crate::tests::phases::{ends, entered, leaves, opened};
-use brc_count::biased::{first_counts, no_bits};
 use brc_count::Frame;
+use brc_count::biased::{first_counts, no_bits};
 use brc_words::Fault;
 use bumpalo::Bump;
 use std::alloc::{Allocator, Global};

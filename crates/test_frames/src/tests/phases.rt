@@ -8,8 +8,8 @@ ghost use Rattle.brc_count.specs.Closing.{BeginsBy};
 ghost use Rattle.brc_count.specs.Frames.{IsUnlocked};
 
 use brc_count::biased::Home;
-use brc_count::{Frame, Ledger};
 use brc_count::table::{HeapTable, Rest, RootSeat};
+use brc_count::{Frame, Ledger};
 use brc_thread::Options;
 use std::alloc::Allocator;
 use std::process::Abort;
