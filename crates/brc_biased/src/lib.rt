@@ -25,7 +25,3 @@ pub use counter::{Counter, first_counts};
 pub use home::Home;
 pub use owned::{no_bits, strike};
 pub use resting::RestingCounter;
-
-// what it stands on, for the crates above
-pub use brc_table as table;
-pub use brc_table::{block, law};

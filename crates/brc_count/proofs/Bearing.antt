@@ -4,23 +4,23 @@ use Rattle.std.proofs.Common.{sym, ◌∙◌, ap, subst, inl, inr}
 use Rattle.std.proofs.lemmas.Bool.{cases_eq, eq-eqb}
 use Rattle.slab.specs.Slab.{Slab, get, Updates}
 use Rattle.atomic_table.specs.Table.{rest}
-use Rattle.brc_biased.specs.block.declared.payload.Payload.{Payload}
-use Rattle.brc_biased.specs.block.declared.payload.Payload.TheVariants as payloads
-use Rattle.brc_biased.specs.block.Payload.{kind_of}
-use Rattle.brc_biased.specs.law.rule.Logs.{kind_in}
-use Rattle.brc_biased.specs.table.Shown.{contents_of}
-use Rattle.brc_biased.specs.law.world.declared.event.Dropped.TheVariants as drops
-use Rattle.brc_biased.specs.law.world.declared.row.Hand.TheVariants as hands
-use Rattle.brc_biased.specs.law.world.declared.row.Phase.TheVariants as phases
-use Rattle.brc_biased.specs.law.world.Lists.{names, place_at, filled}
-use Rattle.brc_biased.proofs.law.world.Framing.{place_at-filled_here, place_at-filled_else}
-use Rattle.brc_biased.specs.law.known.Items.{Part, put}
-use Rattle.brc_biased.specs.law.known.Going_On.{filling, bearing, handing}
-use Rattle.brc_biased.specs.law.known.Taken.{Blocks, listed_at}
-use Rattle.brc_biased.specs.law.rule.declared.told.Told.{Told}
-use Rattle.brc_biased.specs.law.rule.Seen.{part_seen, risen_seen, taken_seen}
-use Rattle.brc_biased.specs.table.Knowing.{known_seen, Keeps}
-use Rattle.brc_biased.specs.table.Seated.{TableSeen, SeatSeen}
+use Rattle.brc_table.specs.block.declared.payload.Payload.{Payload}
+use Rattle.brc_table.specs.block.declared.payload.Payload.TheVariants as payloads
+use Rattle.brc_table.specs.block.Payload.{kind_of}
+use Rattle.brc_table.specs.law.rule.Logs.{kind_in}
+use Rattle.brc_table.specs.Shown.{contents_of}
+use Rattle.brc_table.specs.law.world.declared.event.Dropped.TheVariants as drops
+use Rattle.brc_table.specs.law.world.declared.row.Hand.TheVariants as hands
+use Rattle.brc_table.specs.law.world.declared.row.Phase.TheVariants as phases
+use Rattle.brc_table.specs.law.world.Lists.{names, place_at, filled}
+use Rattle.brc_table.proofs.law.world.Framing.{place_at-filled_here, place_at-filled_else}
+use Rattle.brc_table.specs.law.known.Items.{Part, put}
+use Rattle.brc_table.specs.law.known.Going_On.{filling, bearing, handing}
+use Rattle.brc_table.specs.law.known.Taken.{Blocks, listed_at}
+use Rattle.brc_table.specs.law.rule.declared.told.Told.{Told}
+use Rattle.brc_table.specs.law.rule.Seen.{part_seen, risen_seen, taken_seen}
+use Rattle.brc_table.specs.Knowing.{known_seen, Keeps}
+use Rattle.brc_table.specs.Seated.{TableSeen, SeatSeen}
 use Rattle.brc_biased.specs.Up.{IsKnown}
 use Rattle.brc_count.specs.declared.held.Held.{Held}
 use Rattle.brc_count.specs.declared.ledger.Ledger.{Ledger}

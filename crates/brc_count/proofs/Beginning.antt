@@ -1,18 +1,18 @@
 -- How the log of a thread begins that the root registers.
 use Rattle.std.proofs.Common.{◌≡◌, ◌<◌, ℕ, zero, suc, Bool, true, false, List, [], replicate, refl, ◌∙◌, ap}
-use Rattle.brc_biased.specs.law.world.declared.row.Stage.TheVariants as stages
-use Rattle.brc_biased.specs.law.world.declared.event.Step.TheVariants.{Register}
-use Rattle.brc_biased.specs.law.world.Heap.{words_for}
-use Rattle.brc_biased.specs.law.world.Lists.{is_blank}
-use Rattle.brc_biased.specs.law.rule.declared.told.Moved.TheVariants.{Nothing}
-use Rattle.brc_biased.specs.law.rule.declared.told.Told.{Told}
-use Rattle.brc_biased.specs.law.rule.declared.told.Told.TheVariants.{Did}
-use Rattle.brc_biased.specs.law.world.Steps.{is_active}
-use Rattle.brc_biased.specs.law.rule.Seen.{part_seen, counts_seen}
-use Rattle.brc_biased.specs.law.rule.declared.view.View.{View}
-use Rattle.brc_biased.specs.law.rule.Logs.{begins}
-use Rattle.brc_biased.specs.law.steps.Joining.{is_again, starting, next_thread}
-use Rattle.brc_biased.specs.table.Seated.{TableSeen, Stays}
+use Rattle.brc_table.specs.law.world.declared.row.Stage.TheVariants as stages
+use Rattle.brc_table.specs.law.world.declared.event.Step.TheVariants.{Register}
+use Rattle.brc_table.specs.law.world.Heap.{words_for}
+use Rattle.brc_table.specs.law.world.Lists.{is_blank}
+use Rattle.brc_table.specs.law.rule.declared.told.Moved.TheVariants.{Nothing}
+use Rattle.brc_table.specs.law.rule.declared.told.Told.{Told}
+use Rattle.brc_table.specs.law.rule.declared.told.Told.TheVariants.{Did}
+use Rattle.brc_table.specs.law.world.Steps.{is_active}
+use Rattle.brc_table.specs.law.rule.Seen.{part_seen, counts_seen}
+use Rattle.brc_table.specs.law.rule.declared.view.View.{View}
+use Rattle.brc_table.specs.law.rule.Logs.{begins}
+use Rattle.brc_table.specs.law.steps.Joining.{is_again, starting, next_thread}
+use Rattle.brc_table.specs.Seated.{TableSeen, Stays}
 use Rattle.brc_count.specs.Frames.{FrameSeen, Framing, ledger_seen}
 use Rattle.brc_count.specs.Closing.{IsFirst, FirstNew, FirstAgain, Opens, NoneOpened, Opened, stage_opened}
 use Rattle.brc_count.proofs.Leaving.{stage_active}

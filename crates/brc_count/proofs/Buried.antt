@@ -7,18 +7,18 @@ use Rattle.std.proofs.Math.Seq.{take-append_seam, get_or-append_seam}
 use Rattle.std.proofs.lemmas.List.{length-append, get_or_append_left, length-set, get_or-set_same, get_or_past}
 use Rattle.std.proofs.lemmas.Option.{slice_get_within, slice_get-get_or, get_or_from_slice_get}
 use Rattle.std.proofs.lemmas.Bool.{cases_eq, cases_lt, eq-eqb, ne_eqb}
-use Rattle.brc_biased.specs.block.declared.payload.Payload.{Payload}
-use Rattle.brc_biased.specs.block.declared.payload.Payload.TheVariants as payloads
-use Rattle.brc_biased.specs.block.Payload.{entries_of}
-use Rattle.brc_biased.specs.law.world.Lists.{is_marked, front_of, last_of}
-use Rattle.brc_biased.proofs.law.world.Changes.{read_here, read_there}
-use Rattle.brc_biased.specs.law.known.Items.{put, has_found}
-use Rattle.brc_biased.specs.law.known.Taken.{Blocks, listed_at, cut, off, taken_on}
-use Rattle.brc_biased.specs.law.rule.Logs.{entries_in}
-use Rattle.brc_biased.specs.law.steps.Taking.{AreCells}
-use Rattle.brc_biased.specs.table.Knowing.{entries_of as answered}
-use Rattle.brc_biased.specs.table.Moving.{is_there}
-use Rattle.brc_biased.specs.table.Shown.{contents_of, plain_key}
+use Rattle.brc_table.specs.block.declared.payload.Payload.{Payload}
+use Rattle.brc_table.specs.block.declared.payload.Payload.TheVariants as payloads
+use Rattle.brc_table.specs.block.Payload.{entries_of}
+use Rattle.brc_table.specs.law.world.Lists.{is_marked, front_of, last_of}
+use Rattle.brc_table.proofs.law.world.Changes.{read_here, read_there}
+use Rattle.brc_table.specs.law.known.Items.{put, has_found}
+use Rattle.brc_table.specs.law.known.Taken.{Blocks, listed_at, cut, off, taken_on}
+use Rattle.brc_table.specs.law.rule.Logs.{entries_in}
+use Rattle.brc_table.specs.law.steps.Taking.{AreCells}
+use Rattle.brc_table.specs.Knowing.{entries_of as answered}
+use Rattle.brc_table.specs.Moving.{is_there}
+use Rattle.brc_table.specs.Shown.{contents_of, plain_key}
 use Rattle.brc_count.specs.Frames.{are_apart, Buried}
 
 some_is : {X : Type 0} {a b : X} → Some a ≡ Some b → a ≡ b

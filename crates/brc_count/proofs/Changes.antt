@@ -5,49 +5,49 @@ use Rattle.std.proofs.Common.{sym, ◌∙◌, ap, subst, replicate}
 use Rattle.std.proofs.lemmas.Bool.{eq-eqb, cases_eq, cases_lt, lt-ltb}
 use Rattle.std.proofs.lemmas.List.{length-set, get_or-set_same, get_or_past, get_or-replicate, length-replicate}
 use Rattle.std.specs.Int.{bit_at}
-use Rattle.brc_biased.specs.law.world.declared.event.Step.TheVariants.{Register}
-use Rattle.brc_biased.specs.law.rule.declared.told.Moved.TheVariants.{Nothing}
-use Rattle.brc_biased.specs.law.rule.declared.told.Told.{Told}
-use Rattle.brc_biased.specs.law.rule.declared.told.Told.TheVariants.{Did}
+use Rattle.brc_table.specs.law.world.declared.event.Step.TheVariants.{Register}
+use Rattle.brc_table.specs.law.rule.declared.told.Moved.TheVariants.{Nothing}
+use Rattle.brc_table.specs.law.rule.declared.told.Told.{Told}
+use Rattle.brc_table.specs.law.rule.declared.told.Told.TheVariants.{Did}
 use Rattle.brc_count.specs.Closing.{IsFirst, FirstNew, FirstAgain}
-use Rattle.brc_biased.specs.law.world.Heap.{words_for}
+use Rattle.brc_table.specs.law.world.Heap.{words_for}
 use Rattle.std.proofs.lemmas.Nat.Bits.{bit_at-zero}
 use Rattle.slab.specs.Slab.{Slab, get, Updates}
 use Rattle.brc_words.specs.declared.limits.TheConstants.{MOST_PLACES}
 use Rattle.atomic_table.specs.Table.{rest}
-use Rattle.brc_biased.specs.block.declared.payload.Payload.{Payload}
-use Rattle.brc_biased.specs.block.Payload.{entries_of}
-use Rattle.brc_biased.specs.block.Blocks.{PopsEntry}
-use Rattle.brc_biased.specs.law.world.declared.event.Dropped.TheVariants as drops
-use Rattle.brc_biased.specs.law.world.declared.event.Source.{Source}
-use Rattle.brc_biased.specs.law.world.declared.event.Step.{Step}
-use Rattle.brc_biased.specs.law.world.declared.event.Step.TheVariants.{LocalUp, Free}
-use Rattle.brc_biased.specs.law.world.declared.row.Hand.TheVariants as hands
-use Rattle.brc_biased.specs.law.world.declared.row.Stage.{Stage}
-use Rattle.brc_biased.specs.law.world.declared.row.Stage.TheVariants as stages
-use Rattle.brc_biased.specs.law.world.Lists.{used_words, names, place_at, filled, vacated, front_of, last_of, is_marked, word_at}
-use Rattle.brc_biased.specs.law.world.Steps.{is_active, stage_ok, lock_ok, locked_cell}
-use Rattle.brc_biased.proofs.law.world.Bitwise.{blank_word}
+use Rattle.brc_table.specs.block.declared.payload.Payload.{Payload}
+use Rattle.brc_table.specs.block.Payload.{entries_of}
+use Rattle.brc_table.specs.block.Blocks.{PopsEntry}
+use Rattle.brc_table.specs.law.world.declared.event.Dropped.TheVariants as drops
+use Rattle.brc_table.specs.law.world.declared.event.Source.{Source}
+use Rattle.brc_table.specs.law.world.declared.event.Step.{Step}
+use Rattle.brc_table.specs.law.world.declared.event.Step.TheVariants.{LocalUp, Free}
+use Rattle.brc_table.specs.law.world.declared.row.Hand.TheVariants as hands
+use Rattle.brc_table.specs.law.world.declared.row.Stage.{Stage}
+use Rattle.brc_table.specs.law.world.declared.row.Stage.TheVariants as stages
+use Rattle.brc_table.specs.law.world.Lists.{used_words, names, place_at, filled, vacated, front_of, last_of, is_marked, word_at}
+use Rattle.brc_table.specs.law.world.Steps.{is_active, stage_ok, lock_ok, locked_cell}
+use Rattle.brc_table.proofs.law.world.Bitwise.{blank_word}
 use Rattle.std.proofs.lemmas.List.Folds.{sum_by-replicate}
-use Rattle.brc_biased.proofs.law.world.Framing.{place_at-filled_here, place_at-filled_else, place_at-vacated_else}
-use Rattle.brc_biased.specs.law.known.Items.{Part, meant, put}
-use Rattle.brc_biased.specs.law.known.Going_On.{filling, giving_back}
-use Rattle.brc_biased.specs.law.known.Taken.{Blocks, listed_at, cut, off, taken_on}
-use Rattle.brc_biased.specs.law.rule.Seen.{part_seen, risen_seen, taken_seen, contents_locked}
-use Rattle.brc_biased.specs.law.rule.Logs.{entries_in}
-use Rattle.brc_biased.specs.law.steps.Owing.{Carries}
-use Rattle.brc_biased.specs.law.steps.Taking.{AreCells}
-use Rattle.brc_biased.specs.table.Knowing.{known_seen, entries_of as entries_answered, Keeps}
-use Rattle.brc_biased.specs.table.Moving.{is_there, out_with, found_or}
-use Rattle.brc_biased.specs.table.Shown.{contents_of}
-use Rattle.brc_biased.specs.table.Seated.{TableSeen, SeatSeen, Stays, Continues}
+use Rattle.brc_table.proofs.law.world.Framing.{place_at-filled_here, place_at-filled_else, place_at-vacated_else}
+use Rattle.brc_table.specs.law.known.Items.{Part, meant, put}
+use Rattle.brc_table.specs.law.known.Going_On.{filling, giving_back}
+use Rattle.brc_table.specs.law.known.Taken.{Blocks, listed_at, cut, off, taken_on}
+use Rattle.brc_table.specs.law.rule.Seen.{part_seen, risen_seen, taken_seen, contents_locked}
+use Rattle.brc_table.specs.law.rule.Logs.{entries_in}
+use Rattle.brc_table.specs.law.steps.Owing.{Carries}
+use Rattle.brc_table.specs.law.steps.Taking.{AreCells}
+use Rattle.brc_table.specs.Knowing.{known_seen, entries_of as entries_answered, Keeps}
+use Rattle.brc_table.specs.Moving.{is_there, out_with, found_or}
+use Rattle.brc_table.specs.Shown.{contents_of}
+use Rattle.brc_table.specs.Seated.{TableSeen, SeatSeen, Stays, Continues}
 use Rattle.brc_biased.specs.Standing.{Holds, KeepsPlaces, may_give_up, released, Stands}
 use Rattle.brc_biased.specs.Released.{Answers}
 use Rattle.brc_biased.specs.Up.{IsKnown, Raising}
 use Rattle.brc_biased.proofs.Marking.{marks_wide}
 use Rattle.brc_count.specs.declared.held.Held.{Held}
 use Rattle.brc_count.specs.declared.ledger.Ledger.{Ledger}
-use Rattle.brc_biased.specs.law.rule.declared.contents.Contents.TheVariants as contents
+use Rattle.brc_table.specs.law.rule.declared.contents.Contents.TheVariants as contents
 use Rattle.brc_count.specs.Frames.{place_seen, locked_place, lock_seen, cell_held, block_listed, slot_out, slots_out}
 use Rattle.brc_count.specs.Frames.{pushed, Buried, Holding, FrameSeen, KeepsHandles, Turned, Turns, OneMore}
 use Rattle.brc_count.proofs.Buried.{listed_here, unlisted_front, nothing_buried, after_cut, after_free, after_given}

@@ -3,8 +3,8 @@ use Rattle.std.proofs.Common.{◌≡◌, ℕ, zero, suc, ◌+◌, ◌-◌, ◌<�
 use Rattle.std.proofs.Common.{if◌then◌else◌, refl, sym, ◌∙◌, ap, subst, inl, inr, arith}
 use Rattle.std.proofs.lemmas.Bool.{cases_eq, eq-eqb, ne_eqb}
 use Rattle.brc_words.specs.declared.limits.TheConstants.{FIRST_MORTAL}
-use Rattle.brc_biased.specs.law.rule.Seen.{counts_seen}
-use Rattle.brc_biased.specs.table.Seated.{TableSeen}
+use Rattle.brc_table.specs.law.rule.Seen.{counts_seen}
+use Rattle.brc_table.specs.Seated.{TableSeen}
 use Rattle.brc_count.specs.Frames.{FrameSeen, IsActive, IsUnlocked, popped_seen}
 use Rattle.brc_count.specs.Closing.{HandsOne, HandsEach, NoneYet, NotOwned, Handed}
 

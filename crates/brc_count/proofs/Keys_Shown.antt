@@ -6,14 +6,14 @@ use Rattle.std.proofs.lemmas.List.Elements.{All-map}
 use Rattle.brc_words.specs.declared.key.Key.{Key}
 use Rattle.brc_words.specs.declared.key.Key.TheVariants as keys
 use Rattle.brc_words.specs.declared.kind.Kind.TheVariants as kinds
-use Rattle.brc_biased.specs.block.Payload.{kind_of, keys_of}
-use Rattle.brc_biased.specs.block.declared.payload.Payload.{Payload}
-use Rattle.brc_biased.specs.block.declared.payload.Payload.TheVariants as payloads
-use Rattle.brc_biased.proofs.block.Columns.{map-remove}
-use Rattle.brc_biased.specs.law.rule.declared.contents.PlainKey.{PlainKey}
-use Rattle.brc_biased.specs.law.rule.declared.contents.Contents.{Contents}
-use Rattle.brc_biased.specs.law.rule.Keys.{keys_in, OneKeyMore, KeyPut}
-use Rattle.brc_biased.specs.table.Shown.{contents_of, plain_key}
+use Rattle.brc_table.specs.block.Payload.{kind_of, keys_of}
+use Rattle.brc_table.specs.block.declared.payload.Payload.{Payload}
+use Rattle.brc_table.specs.block.declared.payload.Payload.TheVariants as payloads
+use Rattle.brc_table.proofs.block.Columns.{map-remove}
+use Rattle.brc_table.specs.law.rule.declared.contents.PlainKey.{PlainKey}
+use Rattle.brc_table.specs.law.rule.declared.contents.Contents.{Contents}
+use Rattle.brc_table.specs.law.rule.Keys.{keys_in, OneKeyMore, KeyPut}
+use Rattle.brc_table.specs.Shown.{contents_of, plain_key}
 
 module _ {A : Type 0} where
   same_key : (a b : Key A) → plain_key a ≡ plain_key b → a ≡ b

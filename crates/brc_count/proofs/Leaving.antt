@@ -6,18 +6,18 @@ use Rattle.std.proofs.lemmas.Bool.{cases_eq, cases_lt, eq-eqb, ne_eqb, lt-ltb}
 use Rattle.std.proofs.lemmas.List.{get_or_past}
 use Rattle.std.proofs.lemmas.List.Sums.{sum_by-cons, get_or-le-sum_by}
 use Rattle.slab.specs.Slab.{Slab, slab_len}
-use Rattle.brc_biased.specs.block.declared.payload.Payload.{Payload}
-use Rattle.brc_biased.specs.law.world.declared.event.Step.TheVariants.{Close, Reopen}
-use Rattle.brc_biased.specs.law.world.declared.row.Stage.{Stage}
-use Rattle.brc_biased.specs.law.world.declared.row.Stage.TheVariants as stages
-use Rattle.brc_biased.specs.law.world.Heap.{words_for}
-use Rattle.brc_biased.specs.law.world.Lists.{place_at, is_marked, is_bare, is_unmarked, is_blank, filled_places, marked_cells}
-use Rattle.brc_biased.specs.law.world.Steps.{stage_ok, closes_next, closed_more, opened_more, is_left, is_active, may_begin_closing}
-use Rattle.brc_biased.specs.law.known.Taken.{listed_at}
+use Rattle.brc_table.specs.block.declared.payload.Payload.{Payload}
+use Rattle.brc_table.specs.law.world.declared.event.Step.TheVariants.{Close, Reopen}
+use Rattle.brc_table.specs.law.world.declared.row.Stage.{Stage}
+use Rattle.brc_table.specs.law.world.declared.row.Stage.TheVariants as stages
+use Rattle.brc_table.specs.law.world.Heap.{words_for}
+use Rattle.brc_table.specs.law.world.Lists.{place_at, is_marked, is_bare, is_unmarked, is_blank, filled_places, marked_cells}
+use Rattle.brc_table.specs.law.world.Steps.{stage_ok, closes_next, closed_more, opened_more, is_left, is_active, may_begin_closing}
+use Rattle.brc_table.specs.law.known.Taken.{listed_at}
 use Rattle.brc_words.specs.declared.limits.TheConstants.{FIRST_MORTAL}
-use Rattle.brc_biased.specs.law.rule.Seen.{part_seen, counts_seen}
-use Rattle.brc_biased.specs.law.steps.Owing.{Allowed, Closes}
-use Rattle.brc_biased.specs.table.Seated.{TableSeen, SeatSeen}
+use Rattle.brc_table.specs.law.rule.Seen.{part_seen, counts_seen}
+use Rattle.brc_table.specs.law.steps.Owing.{Allowed, Closes}
+use Rattle.brc_table.specs.Seated.{TableSeen, SeatSeen}
 use Rattle.brc_count.specs.declared.held.Held.{Held}
 use Rattle.brc_count.specs.declared.ledger.Ledger.{Ledger}
 use Rattle.brc_count.specs.Frames.{FrameSeen, Holding, locked_place, cell_held}

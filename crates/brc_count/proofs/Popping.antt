@@ -11,20 +11,20 @@ use Rattle.std.proofs.lemmas.List.Sums.{sum_by-cons}
 use Rattle.std.proofs.lemmas.Nat.Bits.{bit_at-zero, bit_at-lt, bit_at_or, bit_at_xor, bit_at-pow_same, bit_at-pow_other}
 use Rattle.std.proofs.lemmas.Nat.Bits.{same_from_bits}
 use Rattle.slab.specs.Slab.{Slab}
-use Rattle.brc_biased.specs.block.declared.payload.Payload.{Payload}
-use Rattle.brc_biased.specs.law.world.Heap.{words_for}
-use Rattle.brc_biased.specs.law.world.Lists.{names, place_at, bit_of, word_at, without_bit, is_blank, used_words}
-use Rattle.brc_biased.proofs.law.world.Bitwise.{bit_inside}
-use Rattle.brc_biased.specs.law.world.declared.event.Dropped.TheVariants as drops
-use Rattle.brc_biased.specs.law.known.Items.{Part, popped_told}
-use Rattle.brc_biased.specs.law.known.Going_On.{popping, closing, reopening, settling, taking}
-use Rattle.brc_biased.specs.law.known.Taken.{taken_on}
-use Rattle.brc_biased.specs.law.rule.declared.told.Told.{Told}
-use Rattle.brc_biased.specs.law.rule.Seen.{part_seen, taken_seen}
-use Rattle.brc_biased.specs.law.steps.Taking.{AreQueued}
-use Rattle.brc_biased.specs.table.Knowing.{known_seen, entries_of as entries_answered, Keeps}
-use Rattle.brc_biased.specs.table.Moving.{is_there, out_with}
-use Rattle.brc_biased.specs.table.Seated.{TableSeen, SeatSeen, Stays, Continues}
+use Rattle.brc_table.specs.block.declared.payload.Payload.{Payload}
+use Rattle.brc_table.specs.law.world.Heap.{words_for}
+use Rattle.brc_table.specs.law.world.Lists.{names, place_at, bit_of, word_at, without_bit, is_blank, used_words}
+use Rattle.brc_table.proofs.law.world.Bitwise.{bit_inside}
+use Rattle.brc_table.specs.law.world.declared.event.Dropped.TheVariants as drops
+use Rattle.brc_table.specs.law.known.Items.{Part, popped_told}
+use Rattle.brc_table.specs.law.known.Going_On.{popping, closing, reopening, settling, taking}
+use Rattle.brc_table.specs.law.known.Taken.{taken_on}
+use Rattle.brc_table.specs.law.rule.declared.told.Told.{Told}
+use Rattle.brc_table.specs.law.rule.Seen.{part_seen, taken_seen}
+use Rattle.brc_table.specs.law.steps.Taking.{AreQueued}
+use Rattle.brc_table.specs.Knowing.{known_seen, entries_of as entries_answered, Keeps}
+use Rattle.brc_table.specs.Moving.{is_there, out_with}
+use Rattle.brc_table.specs.Seated.{TableSeen, SeatSeen, Stays, Continues}
 use Rattle.brc_biased.specs.Released.{Answers}
 use Rattle.brc_biased.specs.Standing.{KeepsPlaces}
 use Rattle.brc_biased.specs.Up.{IsKnown}

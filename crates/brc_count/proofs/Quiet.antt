@@ -2,17 +2,17 @@
 use Rattle.std.proofs.Common.{◌≡◌, ℕ, ◌+◌, ◌*◌, ◌/◌, true, min, ◌∷◌, Option, Some, None, is_some, refl, sym, ◌∙◌}
 use Rattle.std.proofs.Common.{ap, subst}
 use Rattle.std.proofs.lemmas.Bool.{true≢false}
-use Rattle.brc_biased.specs.law.world.declared.event.Dropped.TheVariants as drops
-use Rattle.brc_biased.specs.law.world.declared.event.Step.TheVariants.{Free, Drain, Wake}
-use Rattle.brc_biased.specs.law.world.Heap.{words_for}
-use Rattle.brc_biased.specs.law.rule.declared.told.Moved.TheVariants.{Nothing}
-use Rattle.brc_biased.specs.law.rule.declared.told.Told.{Told}
-use Rattle.brc_biased.specs.law.rule.declared.told.Told.TheVariants.{Did}
-use Rattle.brc_biased.specs.law.living.Quiet.{is_quiet, Quietly, NoItem, OneMore}
-use Rattle.brc_biased.specs.law.living.Living.{OwnLog}
-use Rattle.brc_biased.proofs.law.living.Earlier.{own_before}
-use Rattle.brc_biased.proofs.law.living.Quiet_Items.{quietly_joined}
-use Rattle.brc_biased.specs.table.Seated.{TableSeen}
+use Rattle.brc_table.specs.law.world.declared.event.Dropped.TheVariants as drops
+use Rattle.brc_table.specs.law.world.declared.event.Step.TheVariants.{Free, Drain, Wake}
+use Rattle.brc_table.specs.law.world.Heap.{words_for}
+use Rattle.brc_table.specs.law.rule.declared.told.Moved.TheVariants.{Nothing}
+use Rattle.brc_table.specs.law.rule.declared.told.Told.{Told}
+use Rattle.brc_table.specs.law.rule.declared.told.Told.TheVariants.{Did}
+use Rattle.brc_table.specs.law.living.Quiet.{is_quiet, Quietly, NoItem, OneMore}
+use Rattle.brc_table.specs.law.living.Living.{OwnLog}
+use Rattle.brc_table.proofs.law.living.Earlier.{own_before}
+use Rattle.brc_table.proofs.law.living.Quiet_Items.{quietly_joined}
+use Rattle.brc_table.specs.Seated.{TableSeen}
 use Rattle.brc_biased.proofs.Quiet.{released_quietly, settled_quietly}
 use Rattle.brc_count.specs.Frames.{FrameSeen, HandleSeen, Owns, place_seen, ReleasedOf, Turned, EntryReleased}
 use Rattle.brc_count.specs.Frames.{BlockFreed, Turns}

@@ -5,28 +5,28 @@ use Rattle.slab.specs.Slab.{Slab, get, slab_len}
 use Rattle.brc_words.specs.declared.limits.TheConstants.{FIRST_MORTAL, MOST_PLACES}
 use Rattle.brc_words.specs.declared.fault.Fault.{Fault}
 use Rattle.brc_words.specs.declared.fault.Fault.TheVariants.{OutOfMemory, FrameFull}
-use Rattle.brc_biased.specs.block.declared.payload.Payload.{Payload}
-use Rattle.brc_biased.specs.block.Payload.{entries_of}
-use Rattle.brc_biased.specs.block.Blocks.{PopsEntry}
-use Rattle.brc_biased.specs.law.world.declared.event.Dropped.TheVariants as drops
-use Rattle.brc_biased.specs.law.world.declared.event.Source.{Source}
-use Rattle.brc_biased.specs.law.world.declared.event.Step.TheVariants.{LocalUp, Free}
-use Rattle.brc_biased.specs.law.world.declared.row.Hand.TheVariants as hands
+use Rattle.brc_table.specs.block.declared.payload.Payload.{Payload}
+use Rattle.brc_table.specs.block.Payload.{entries_of}
+use Rattle.brc_table.specs.block.Blocks.{PopsEntry}
+use Rattle.brc_table.specs.law.world.declared.event.Dropped.TheVariants as drops
+use Rattle.brc_table.specs.law.world.declared.event.Source.{Source}
+use Rattle.brc_table.specs.law.world.declared.event.Step.TheVariants.{LocalUp, Free}
+use Rattle.brc_table.specs.law.world.declared.row.Hand.TheVariants as hands
 use Rattle.std.specs.Int.{bit_at}
-use Rattle.brc_biased.specs.law.world.Heap.{words_for}
-use Rattle.brc_biased.specs.law.world.Lists.{place_at, is_marked, word_at, is_blank}
-use Rattle.brc_biased.specs.law.world.Steps.{is_active, is_left, locked_cell, lock_ok}
-use Rattle.brc_biased.specs.law.known.Items.{meant}
-use Rattle.brc_biased.specs.law.known.Taken.{Blocks, listed_at}
-use Rattle.brc_biased.specs.law.rule.declared.told.Moved.TheVariants.{Nothing}
-use Rattle.brc_biased.specs.law.rule.declared.told.Told.{Told}
-use Rattle.brc_biased.specs.law.rule.declared.told.Told.TheVariants.{Did}
-use Rattle.brc_biased.specs.law.rule.Logs.{entries_in}
-use Rattle.brc_biased.specs.law.rule.Seen.{part_seen, counts_seen, risen_seen, taken_seen}
-use Rattle.brc_biased.specs.law.steps.Taking.{AreCells}
-use Rattle.brc_biased.specs.table.Seated.{TableSeen, SeatSeen, Stays}
-use Rattle.brc_biased.specs.table.Moving.{found_locked}
-use Rattle.brc_biased.specs.table.Shown.{contents_of}
+use Rattle.brc_table.specs.law.world.Heap.{words_for}
+use Rattle.brc_table.specs.law.world.Lists.{place_at, is_marked, word_at, is_blank}
+use Rattle.brc_table.specs.law.world.Steps.{is_active, is_left, locked_cell, lock_ok}
+use Rattle.brc_table.specs.law.known.Items.{meant}
+use Rattle.brc_table.specs.law.known.Taken.{Blocks, listed_at}
+use Rattle.brc_table.specs.law.rule.declared.told.Moved.TheVariants.{Nothing}
+use Rattle.brc_table.specs.law.rule.declared.told.Told.{Told}
+use Rattle.brc_table.specs.law.rule.declared.told.Told.TheVariants.{Did}
+use Rattle.brc_table.specs.law.rule.Logs.{entries_in}
+use Rattle.brc_table.specs.law.rule.Seen.{part_seen, counts_seen, risen_seen, taken_seen}
+use Rattle.brc_table.specs.law.steps.Taking.{AreCells}
+use Rattle.brc_table.specs.Seated.{TableSeen, SeatSeen, Stays}
+use Rattle.brc_table.specs.Moving.{found_locked}
+use Rattle.brc_table.specs.Shown.{contents_of}
 use Rattle.brc_biased.specs.Counter.{CounterSeen}
 use Rattle.brc_biased.specs.Standing.{may_give_up}
 use Rattle.brc_biased.specs.Released.{Released}

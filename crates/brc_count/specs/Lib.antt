@@ -5,6 +5,6 @@ pub mod Polling
 pub mod Closing
 pub mod Making
 pub use Rattle.brc_biased.specs as biased
-pub use Rattle.brc_biased.specs.block as block
-pub use Rattle.brc_biased.specs.law as law
-pub use Rattle.brc_biased.specs.table as table
+pub use Rattle.brc_table.specs.block as block
+pub use Rattle.brc_table.specs.law as law
+pub use Rattle.brc_table.specs as table

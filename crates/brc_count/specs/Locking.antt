@@ -1,24 +1,24 @@
 -- What contracts see of a frame's locked object, and what locking it, naming its entries and unlocking it do.
 use Rattle.std.specs.Prelude.{◌≡◌, ◌≢◌, ◌<◌, ◌≤◌, ℕ, true, List, ◌∷◌, length, Option, Some, None, is_some}
 use Rattle.brc_words.specs.declared.limits.TheConstants.{MOST_ENTRIES}
-use Rattle.brc_biased.specs.block.declared.payload.Payload.{Payload}
-use Rattle.brc_biased.specs.law.world.declared.event.Change.{Change}
-use Rattle.brc_biased.specs.law.world.declared.event.Step.TheVariants.{Lock, Unlock}
-use Rattle.brc_biased.specs.law.known.declared.word.Field.TheVariants.{Mutex}
-use Rattle.brc_biased.specs.law.known.declared.word.Word.TheVariants.{Of}
-use Rattle.brc_biased.specs.law.known.Taken.{listed_at}
-use Rattle.brc_biased.specs.law.rule.declared.contents.PlainKey.{PlainKey}
-use Rattle.brc_biased.specs.law.rule.declared.contents.Contents.{Contents}
-use Rattle.brc_biased.specs.law.rule.declared.told.Moved.TheVariants as moves
-use Rattle.brc_biased.specs.law.rule.declared.told.Told.{Told}
-use Rattle.brc_biased.specs.law.rule.declared.told.Told.TheVariants.{Did, Lost}
-use Rattle.brc_biased.specs.law.rule.Keys.{keys_in}
-use Rattle.brc_biased.specs.law.rule.Logs.{entries_in}
-use Rattle.brc_biased.specs.law.rule.Seen.{part_seen, taken_seen, contents_locked}
-use Rattle.brc_biased.specs.law.payloads.Payloads.{FindsOwn}
-use Rattle.brc_biased.specs.law.steps.Taking.{AreCells}
-use Rattle.brc_biased.specs.table.Moving.{found_locked}
-use Rattle.brc_biased.specs.table.Shown.{contents_of}
+use Rattle.brc_table.specs.block.declared.payload.Payload.{Payload}
+use Rattle.brc_table.specs.law.world.declared.event.Change.{Change}
+use Rattle.brc_table.specs.law.world.declared.event.Step.TheVariants.{Lock, Unlock}
+use Rattle.brc_table.specs.law.known.declared.word.Field.TheVariants.{Mutex}
+use Rattle.brc_table.specs.law.known.declared.word.Word.TheVariants.{Of}
+use Rattle.brc_table.specs.law.known.Taken.{listed_at}
+use Rattle.brc_table.specs.law.rule.declared.contents.PlainKey.{PlainKey}
+use Rattle.brc_table.specs.law.rule.declared.contents.Contents.{Contents}
+use Rattle.brc_table.specs.law.rule.declared.told.Moved.TheVariants as moves
+use Rattle.brc_table.specs.law.rule.declared.told.Told.{Told}
+use Rattle.brc_table.specs.law.rule.declared.told.Told.TheVariants.{Did, Lost}
+use Rattle.brc_table.specs.law.rule.Keys.{keys_in}
+use Rattle.brc_table.specs.law.rule.Logs.{entries_in}
+use Rattle.brc_table.specs.law.rule.Seen.{part_seen, taken_seen, contents_locked}
+use Rattle.brc_table.specs.law.payloads.Payloads.{FindsOwn}
+use Rattle.brc_table.specs.law.steps.Taking.{AreCells}
+use Rattle.brc_table.specs.Moving.{found_locked}
+use Rattle.brc_table.specs.Shown.{contents_of}
 use Rattle.brc_count.specs.Frames.{FrameSeen, place_seen, locked_place, lock_seen, popped_seen, IsUnlocked}
 
 -- What a thread knows of the object that it has locked: it stands in a place of the frame; what the locking found, with

@@ -1,11 +1,11 @@
 -- What a poll does: the thread takes its notify word, drains the queue words that it names, and deals with each entry.
 use Rattle.std.specs.Prelude.{◌≡◌, ℕ, min, ◌+◌, ◌*◌, ◌/◌, ◌∷◌, Option}
 use Rattle.std.specs.Int.{bit_at}
-use Rattle.brc_biased.specs.block.declared.payload.Payload.{Payload}
-use Rattle.brc_biased.specs.law.world.declared.event.Step.TheVariants.{Drain, Wake}
-use Rattle.brc_biased.specs.law.world.Heap.{words_for}
-use Rattle.brc_biased.specs.law.rule.declared.told.Moved.TheVariants.{Nothing}
-use Rattle.brc_biased.specs.law.rule.declared.told.Told.TheVariants.{Did}
+use Rattle.brc_table.specs.block.declared.payload.Payload.{Payload}
+use Rattle.brc_table.specs.law.world.declared.event.Step.TheVariants.{Drain, Wake}
+use Rattle.brc_table.specs.law.world.Heap.{words_for}
+use Rattle.brc_table.specs.law.rule.declared.told.Moved.TheVariants.{Nothing}
+use Rattle.brc_table.specs.law.rule.declared.told.Told.TheVariants.{Did}
 use Rattle.brc_biased.specs.Released.{Settled}
 use Rattle.brc_count.specs.Frames.{FrameSeen, pushed}
 

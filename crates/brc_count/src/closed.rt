@@ -2,18 +2,18 @@
 
 ghost use Rattle.std.specs.Prelude.{◌≡◌, ◌-◌, ◌<◌, ◌≤◌, ℕ, [], ◌⊎◌, length, IsTrue, IsFalse, IfOk, IfErr, OnErr, true};
 ghost use Rattle.std.specs.Prelude.{false};
-ghost use Rattle.brc_biased.specs.law.world.Lists.{word_at, is_blank, is_unmarked};
-ghost use Rattle.brc_biased.specs.law.world.Steps.{is_left, is_free_hand};
-ghost use Rattle.brc_biased.specs.law.rule.Seen.{part_seen};
+ghost use Rattle.brc_table.specs.law.world.Lists.{word_at, is_blank, is_unmarked};
+ghost use Rattle.brc_table.specs.law.world.Steps.{is_left, is_free_hand};
+ghost use Rattle.brc_table.specs.law.rule.Seen.{part_seen};
 ghost use Rattle.brc_count.specs.Frames.{KeepsHandles, ledger_seen, popped_seen};
-ghost use Rattle.brc_biased.specs.law.steps.Joining.{Leaves};
-ghost use Rattle.brc_biased.specs.table.Seated.{view_of};
+ghost use Rattle.brc_table.specs.law.steps.Joining.{Leaves};
+ghost use Rattle.brc_table.specs.Seated.{view_of};
 ghost use Rattle.brc_count.specs.Closing.{TurnedLeaving, TurnsLeaving};
 
 use crate::holdings::Holdings;
 use crate::ledger::Ledger;
 use brc_biased::Home;
-use brc_biased::table::ThreadSeat;
+use brc_table::ThreadSeat;
 use std::alloc::Allocator;
 use std::marker::Model;
 

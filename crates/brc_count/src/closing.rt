@@ -2,23 +2,23 @@
 //! begins whose number was used before: it opens them again.
 
 ghost use Rattle.std.specs.Prelude.{◌≡◌, ◌+◌, ◌<◌, ◌≤◌, ◌==◌, if◌then◌else◌, ℕ, [], List, true};
-ghost use Rattle.brc_biased.specs.law.world.Heap.{words_for};
-ghost use Rattle.brc_biased.specs.law.world.Lists.{is_blank};
-ghost use Rattle.brc_biased.specs.law.rule.declared.told.Told.{Told};
-ghost use Rattle.brc_biased.specs.law.rule.Seen.{part_seen};
-ghost use Rattle.brc_biased.specs.law.world.Steps.{is_left};
-ghost use Rattle.brc_biased.specs.law.steps.Joining.{Leaves};
-ghost use Rattle.brc_biased.specs.table.Seated.{Stays, view_of};
+ghost use Rattle.brc_table.specs.law.world.Heap.{words_for};
+ghost use Rattle.brc_table.specs.law.world.Lists.{is_blank};
+ghost use Rattle.brc_table.specs.law.rule.declared.told.Told.{Told};
+ghost use Rattle.brc_table.specs.law.rule.Seen.{part_seen};
+ghost use Rattle.brc_table.specs.law.world.Steps.{is_left};
+ghost use Rattle.brc_table.specs.law.steps.Joining.{Leaves};
+ghost use Rattle.brc_table.specs.Seated.{Stays, view_of};
 ghost use Rattle.brc_count.specs.Frames.{IsUnlocked, IsActive, popped_seen};
 ghost use Rattle.brc_words.specs.declared.limits.TheConstants.{FIRST_MORTAL};
-ghost use Rattle.brc_biased.specs.law.rule.Seen.{counts_seen};
-ghost use Rattle.brc_biased.specs.law.world.declared.row.Stage.TheVariants as stages;
+ghost use Rattle.brc_table.specs.law.rule.Seen.{counts_seen};
+ghost use Rattle.brc_table.specs.law.world.declared.row.Stage.TheVariants as stages;
 ghost use Rattle.brc_count.specs.Closing.{Closes, HandsOne, HandsEach, Opens, stage_with, stage_opened};
 
 use crate::holdings::Holdings;
 use crate::polling::join;
 use brc_biased::Home;
-use brc_biased::table::ThreadSeat;
+use brc_table::ThreadSeat;
 use brc_words::FIRST_MORTAL;
 use std::alloc::Allocator;
 

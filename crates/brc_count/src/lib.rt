@@ -31,4 +31,5 @@ pub use start::unasked_claims_take_the_lowest_cell;
 
 // what it stands on, for the crates above
 pub use brc_biased as biased;
-pub use brc_biased::{block, law, table};
+pub use brc_table as table;
+pub use brc_table::{block, law};

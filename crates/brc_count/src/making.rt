@@ -3,15 +3,15 @@
 ghost use Rattle.std.specs.Prelude.{◌≡◌, ◌<◌, [], IfOk, IfErr, OnOk, OnErr, true};
 ghost use Rattle.brc_words.specs.Kinds.{is_mortal};
 ghost use Rattle.brc_words.specs.declared.limits.TheConstants.{MOST_PLACES, MOST_BIRTHS};
-ghost use Rattle.brc_biased.specs.law.rule.Logs.{kind_in, entries_in};
-ghost use Rattle.brc_biased.specs.table.Shown.{contents_of};
+ghost use Rattle.brc_table.specs.law.rule.Logs.{kind_in, entries_in};
+ghost use Rattle.brc_table.specs.Shown.{contents_of};
 ghost use Rattle.brc_count.specs.Frames.{handle_at, IsActive, IsUnlocked, IsAsBefore, ledger_seen, popped_seen};
 ghost use Rattle.brc_count.specs.Making.{Made, FoundNone, RefusedMaking};
 
 use crate::held::Held;
 use crate::holdings::Holdings;
 use brc_biased::Home;
-use brc_biased::block::{Block, Payload};
+use brc_table::block::{Block, Payload};
 use brc_words::{Fault, MOST_BIRTHS};
 use std::alloc::Allocator;
 

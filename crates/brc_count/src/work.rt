@@ -2,12 +2,12 @@
 
 ghost use Rattle.std.specs.Prelude.{◌≡◌, ◌-◌, ◌≤◌, ◌<◌, [], IsTrue, IsFalse, true};
 ghost use Rattle.brc_biased.specs.Standing.{may_give_up};
-ghost use Rattle.brc_biased.specs.law.rule.Seen.{part_seen};
+ghost use Rattle.brc_table.specs.law.rule.Seen.{part_seen};
 ghost use Rattle.brc_count.specs.Frames.{MayGiveUp, Turned, Turns, KeepsHandles, popped_seen, IsUnlocked};
 
 use crate::holdings::Holdings;
 use brc_biased::Home;
-use brc_biased::law::world::Dropped;
+use brc_table::law::world::Dropped;
 use std::alloc::Allocator;
 
 impl<H: Home<A>, A: Allocator> Holdings<H, A> {

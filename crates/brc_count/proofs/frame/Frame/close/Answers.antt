@@ -1,7 +1,7 @@
 use Rattle.std.proofs.Common.{◌<◌, subst, ap, ◌∙◌, arith}
-use Rattle.brc_biased.specs.law.world.Heap.{words_for}
-use Rattle.brc_biased.specs.law.world.Steps.{is_left}
-use Rattle.brc_biased.specs.table.Seated.{TableSeen}
+use Rattle.brc_table.specs.law.world.Heap.{words_for}
+use Rattle.brc_table.specs.law.world.Steps.{is_left}
+use Rattle.brc_table.specs.Seated.{TableSeen}
 use Rattle.brc_count.specs.Frames.{FrameSeen}
 use Rattle.brc_count.specs.Closing.{Closes, GoesOut}
 use Rattle.brc_count.proofs.Leaving.{stage_left}

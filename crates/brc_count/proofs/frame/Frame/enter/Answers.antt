@@ -1,7 +1,7 @@
 use Rattle.std.proofs.Common.{rules, ◌≡◌, ◌<◌, ◌∙◌, ap}
-use Rattle.brc_biased.specs.law.world.Heap.{words_for}
-use Rattle.brc_biased.specs.law.steps.Joining.{starting}
-use Rattle.brc_biased.specs.table.Seated.{SeatSeen}
+use Rattle.brc_table.specs.law.world.Heap.{words_for}
+use Rattle.brc_table.specs.law.steps.Joining.{starting}
+use Rattle.brc_table.specs.Seated.{SeatSeen}
 use Rattle.brc_count.specs.Closing.{IsFirst}
 use Rattle.brc_count.proofs.Beginning.{started_first, begins_new, new_ledger, begins_again, again_ledger}
 use Rattle.brc_count.proofs.frame.Frame.enter.Goals as goal

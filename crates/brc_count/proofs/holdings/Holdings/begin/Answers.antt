@@ -1,5 +1,5 @@
 use Rattle.std.proofs.Common.{◌≡◌, Some, ◌∙◌, sym, subst}
-use Rattle.brc_biased.specs.table.Shown.{contents_of}
+use Rattle.brc_table.specs.Shown.{contents_of}
 use Rattle.brc_count.specs.Frames.{FrameSeen, IsActive, IsUnlocked}
 use Rattle.brc_count.specs.Locking.{cell_in}
 use Rattle.brc_count.proofs.Locks.{lock_carries, after_lock, after_busy}

@@ -1,5 +1,5 @@
 use Rattle.std.proofs.Common.{refl}
-use Rattle.brc_biased.specs.law.rule.Seen.{part_seen}
+use Rattle.brc_table.specs.law.rule.Seen.{part_seen}
 use Rattle.brc_count.specs.Closing.{NoWord}
 use Rattle.brc_count.proofs.Leaving.{is_first}
 use Rattle.brc_count.proofs.holdings.Holdings.close_all.Goals as goal

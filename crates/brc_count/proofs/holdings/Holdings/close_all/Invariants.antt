@@ -1,7 +1,7 @@
 use Rattle.std.proofs.Common.{◌≡◌, ◌<◌, ◌≤◌, ℕ}
 use Rattle.brc_words.specs.declared.limits.TheConstants.{FIRST_MORTAL}
-use Rattle.brc_biased.specs.law.world.Heap.{words_for}
-use Rattle.brc_biased.specs.law.rule.Seen.{part_seen, counts_seen}
+use Rattle.brc_table.specs.law.world.Heap.{words_for}
+use Rattle.brc_table.specs.law.rule.Seen.{part_seen, counts_seen}
 use Rattle.brc_count.specs.Frames.{IsUnlocked}
 use Rattle.brc_count.specs.Closing.{Closes, stage_with}
 use Rattle.brc_count.proofs.holdings.Holdings.close_all.Given as goal

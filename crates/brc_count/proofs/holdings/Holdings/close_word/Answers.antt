@@ -1,7 +1,7 @@
 use Rattle.std.proofs.Common.{◌≡◌, true, refl, sym, subst}
-use Rattle.brc_biased.specs.law.world.Heap.{words_for}
-use Rattle.brc_biased.specs.law.world.Lists.{word_at, is_blank}
-use Rattle.brc_biased.specs.law.rule.Seen.{part_seen}
+use Rattle.brc_table.specs.law.world.Heap.{words_for}
+use Rattle.brc_table.specs.law.world.Lists.{word_at, is_blank}
+use Rattle.brc_table.specs.law.rule.Seen.{part_seen}
 use Rattle.brc_count.specs.Closing.{Closed, stage_with}
 use Rattle.brc_count.specs.Frames.{FrameSeen, IsUnlocked, popped_seen}
 use Rattle.brc_count.proofs.Leaving.{may_close}

@@ -1,10 +1,10 @@
 use Rattle.std.proofs.Common.{◌≡◌, ◌<◌, length, subst, sym, refl, ◌∙◌, ap}
-use Rattle.brc_biased.specs.law.known.Items.{Part}
-use Rattle.brc_biased.specs.law.rule.Seen.{part_seen}
-use Rattle.brc_biased.specs.table.Seated.{TableSeen}
+use Rattle.brc_table.specs.law.known.Items.{Part}
+use Rattle.brc_table.specs.law.rule.Seen.{part_seen}
+use Rattle.brc_table.specs.Seated.{TableSeen}
 use Rattle.brc_count.specs.Frames.{IsUnlocked, popped_seen}
 use Rattle.brc_count.proofs.Popping.{after_pops, drained_pops, drained_word}
-use Rattle.brc_biased.specs.law.world.Lists.{word_at}
+use Rattle.brc_table.specs.law.world.Lists.{word_at}
 use Rattle.brc_count.proofs.holdings.Holdings.drain.Goals as goal
 
 pub invariant_of-self : goal.invariant_of-self

@@ -1,5 +1,5 @@
 use Rattle.std.proofs.Common.{◌≡◌, ℕ}
-use Rattle.brc_biased.specs.law.world.Lists.{word_at}
+use Rattle.brc_table.specs.law.world.Lists.{word_at}
 use Rattle.brc_count.specs.Frames.{KeepsHandles, popped_seen}
 use Rattle.brc_count.specs.Polling.{DrainsEach}
 use Rattle.brc_count.proofs.holdings.Holdings.drain_each.Given as goal

@@ -1,5 +1,5 @@
 use Rattle.std.proofs.Common.{◌≡◌, ◌+◌, ◌*◌, ℕ, sym, subst}
-use Rattle.brc_biased.specs.law.world.Lists.{word_at}
+use Rattle.brc_table.specs.law.world.Lists.{word_at}
 use Rattle.brc_count.specs.Frames.{FrameSeen, KeepsHandles, popped_seen}
 use Rattle.brc_count.specs.Polling.{DrainsEach, DrainsNamed, NoName, NotNamed, Named}
 use Rattle.brc_count.proofs.Changes.{kept, kept_on}

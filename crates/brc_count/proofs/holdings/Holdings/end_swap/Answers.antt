@@ -1,10 +1,10 @@
 use Rattle.std.proofs.Common.{◌≡◌, Some, sym, subst, refl, false}
-use Rattle.brc_biased.specs.law.world.declared.event.Change.TheVariants as changes
-use Rattle.brc_biased.specs.law.world.declared.row.Hand.TheVariants as hands
-use Rattle.brc_biased.specs.law.rule.Seen.{part_seen}
-use Rattle.brc_biased.specs.law.steps.Owing.{Unlocks}
-use Rattle.brc_biased.specs.table.Moving.{found_locked}
-use Rattle.brc_biased.specs.table.Shown.{shows}
+use Rattle.brc_table.specs.law.world.declared.event.Change.TheVariants as changes
+use Rattle.brc_table.specs.law.world.declared.row.Hand.TheVariants as hands
+use Rattle.brc_table.specs.law.rule.Seen.{part_seen}
+use Rattle.brc_table.specs.law.steps.Owing.{Unlocks}
+use Rattle.brc_table.specs.Moving.{found_locked}
+use Rattle.brc_table.specs.Shown.{shows}
 use Rattle.brc_count.specs.Frames.{FrameSeen}
 use Rattle.brc_count.specs.Locking.{IsLocked, cell_locked}
 use Rattle.brc_count.proofs.Locks.{unlocks_swap, after_end_filled, changes_place}

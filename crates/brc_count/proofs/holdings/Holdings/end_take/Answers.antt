@@ -1,12 +1,12 @@
 use Rattle.std.proofs.Common.{◌≡◌, ◌<◌, Some, None, ◌∙◌, sym, ap, subst, refl, false}
 use Rattle.slab.specs.Slab.{Updates}
 use Rattle.brc_words.specs.declared.limits.TheConstants.{MOST_PLACES}
-use Rattle.brc_biased.specs.law.world.declared.event.Change.TheVariants as changes
-use Rattle.brc_biased.specs.law.world.declared.row.Hand.TheVariants as hands
-use Rattle.brc_biased.specs.law.rule.Seen.{part_seen}
-use Rattle.brc_biased.specs.law.steps.Owing.{Unlocks}
-use Rattle.brc_biased.specs.table.Moving.{found_locked}
-use Rattle.brc_biased.specs.table.Shown.{shows}
+use Rattle.brc_table.specs.law.world.declared.event.Change.TheVariants as changes
+use Rattle.brc_table.specs.law.world.declared.row.Hand.TheVariants as hands
+use Rattle.brc_table.specs.law.rule.Seen.{part_seen}
+use Rattle.brc_table.specs.law.steps.Owing.{Unlocks}
+use Rattle.brc_table.specs.Moving.{found_locked}
+use Rattle.brc_table.specs.Shown.{shows}
 use Rattle.brc_count.specs.Frames.{FrameSeen, cell_held}
 use Rattle.brc_count.specs.Locking.{IsLocked, cell_in, cell_locked}
 use Rattle.brc_count.proofs.Locks.{unlocks_take, after_end_filled, changes_place}

@@ -1,5 +1,5 @@
 use Rattle.std.proofs.Common.{subst, ◌∙◌, sym, ap, refl}
-use Rattle.brc_biased.specs.law.known.Items.{Part}
+use Rattle.brc_table.specs.law.known.Items.{Part}
 use Rattle.brc_count.specs.Frames.{IsActive, SourceFits, SourceNames, cell_held}
 use Rattle.brc_count.proofs.Changes.{raising, after_up}
 use Rattle.brc_count.proofs.holdings.Holdings.fill.Goals as goal

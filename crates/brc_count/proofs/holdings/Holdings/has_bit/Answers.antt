@@ -2,7 +2,7 @@ use Rattle.std.proofs.Common.{◌≡◌, ◌<◌, subst, sym, ◌∙◌, ap}
 use Rattle.std.specs.Int.{bit_at}
 use Rattle.std.proofs.lemmas.Bool.{eqb-true}
 use Rattle.std.proofs.lemmas.Nat.Bits.{shr_and_one}
-use Rattle.brc_biased.specs.law.world.Lists.{word_at}
+use Rattle.brc_table.specs.law.world.Lists.{word_at}
 use Rattle.brc_count.proofs.Popping.{word_read}
 use Rattle.brc_count.proofs.holdings.Holdings.has_bit.Goals as goal
 

@@ -1,9 +1,9 @@
 use Rattle.std.proofs.Common.{◌≡◌, true, refl, sym, subst, ap}
-use Rattle.brc_biased.specs.law.world.Lists.{is_blank}
-use Rattle.brc_biased.specs.law.world.Steps.{is_left, is_free_hand}
-use Rattle.brc_biased.specs.law.rule.Seen.{part_seen}
-use Rattle.brc_biased.specs.law.steps.Joining.{Leaves}
-use Rattle.brc_biased.specs.table.Seated.{SeatSeen, view_of}
+use Rattle.brc_table.specs.law.world.Lists.{is_blank}
+use Rattle.brc_table.specs.law.world.Steps.{is_left, is_free_hand}
+use Rattle.brc_table.specs.law.rule.Seen.{part_seen}
+use Rattle.brc_table.specs.law.steps.Joining.{Leaves}
+use Rattle.brc_table.specs.Seated.{SeatSeen, view_of}
 use Rattle.brc_count.specs.Frames.{FrameSeen, Holding, popped_seen}
 use Rattle.brc_count.proofs.Leaving.{holds_unmarked}
 use Rattle.brc_count.proofs.holdings.Holdings.into_seat.Goals as goal

@@ -1,6 +1,6 @@
 use Rattle.std.proofs.Common.{◌≡◌, ◌≢◌, ◌<◌, sym, subst, ap, ◌∙◌}
 use Rattle.std.specs.Int.{bit_at}
-use Rattle.brc_biased.specs.law.world.Lists.{word_at}
+use Rattle.brc_table.specs.law.world.Lists.{word_at}
 use Rattle.brc_count.specs.Frames.{FrameSeen, popped_seen}
 use Rattle.brc_count.proofs.Popping.{lowest_set, word_read}
 use Rattle.brc_count.proofs.holdings.Holdings.lowest_bit.Goals as goal

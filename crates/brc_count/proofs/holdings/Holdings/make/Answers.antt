@@ -1,6 +1,6 @@
 use Rattle.std.proofs.Common.{refl, sym, subst, ap, ◌∙◌}
-use Rattle.brc_biased.specs.block.Payload.{kind_of}
-use Rattle.brc_biased.specs.law.known.Items.{Part}
+use Rattle.brc_table.specs.block.Payload.{kind_of}
+use Rattle.brc_table.specs.law.known.Items.{Part}
 use Rattle.brc_count.specs.Frames.{IsUnlocked, StartSeen, cell_held}
 use Rattle.brc_count.proofs.Bearing.{born_known, after_birth, contents_kind}
 use Rattle.brc_count.proofs.holdings.Holdings.make.Goals as goal

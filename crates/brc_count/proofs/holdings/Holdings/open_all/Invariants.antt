@@ -1,7 +1,7 @@
 use Rattle.std.proofs.Common.{◌≡◌}
-use Rattle.brc_biased.specs.law.world.Heap.{words_for}
-use Rattle.brc_biased.specs.law.rule.Seen.{part_seen}
-use Rattle.brc_biased.specs.table.Seated.{Stays}
+use Rattle.brc_table.specs.law.world.Heap.{words_for}
+use Rattle.brc_table.specs.law.rule.Seen.{part_seen}
+use Rattle.brc_table.specs.Seated.{Stays}
 use Rattle.brc_count.specs.Frames.{IsUnlocked}
 use Rattle.brc_count.specs.Closing.{Opens, stage_opened}
 use Rattle.brc_count.proofs.holdings.Holdings.open_all.Given as goal

@@ -1,6 +1,6 @@
 use Rattle.std.proofs.Common.{◌≡◌, sym, subst}
-use Rattle.brc_biased.specs.law.world.Heap.{words_for}
-use Rattle.brc_biased.specs.law.rule.Seen.{part_seen}
+use Rattle.brc_table.specs.law.world.Heap.{words_for}
+use Rattle.brc_table.specs.law.rule.Seen.{part_seen}
 use Rattle.brc_count.specs.Closing.{Opened, stage_opened}
 use Rattle.brc_count.specs.Frames.{FrameSeen, IsUnlocked}
 use Rattle.brc_count.proofs.Leaving.{may_open}

@@ -1,5 +1,5 @@
 use Rattle.std.proofs.Common.{◌+◌, ◌/◌}
-use Rattle.brc_biased.specs.law.world.Heap.{words_for}
+use Rattle.brc_table.specs.law.world.Heap.{words_for}
 use Rattle.brc_count.specs.Frames.{popped_seen}
 use Rattle.brc_count.proofs.Popping.{nothing_named, blank_from}
 use Rattle.brc_count.proofs.holdings.Holdings.poll.Goals as goal

@@ -1,5 +1,5 @@
 use Rattle.std.proofs.Common.{subst, ◌∙◌, refl, sym, ap}
-use Rattle.brc_biased.specs.law.known.Items.{Part}
+use Rattle.brc_table.specs.law.known.Items.{Part}
 use Rattle.brc_count.specs.Frames.{IsUnlocked, cell_held, pushed}
 use Rattle.brc_count.proofs.Changes.{after_release, same_cell}
 use Rattle.brc_count.proofs.holdings.Holdings.release.Goals as goal

@@ -1,5 +1,5 @@
 use Rattle.std.proofs.Common.{◌≡◌, ◌/◌, subst, sym, refl, ◌∙◌, ap}
-use Rattle.brc_biased.specs.law.world.Lists.{bit_of, word_at}
+use Rattle.brc_table.specs.law.world.Lists.{bit_of, word_at}
 use Rattle.brc_count.specs.Frames.{IsUnlocked, popped_seen, pushed}
 use Rattle.brc_count.proofs.Popping.{after_settle}
 use Rattle.brc_count.proofs.holdings.Holdings.settle_left.Goals as goal

@@ -1,5 +1,5 @@
 use Rattle.std.proofs.Common.{◌+◌, subst, sym, ◌∙◌, arith}
-use Rattle.brc_biased.specs.law.world.Lists.{word_at}
+use Rattle.brc_table.specs.law.world.Lists.{word_at}
 use Rattle.brc_count.specs.Frames.{AreBits, FrameSeen, popped_seen, KeepsHandles}
 use Rattle.brc_count.specs.Polling.{DealsBits, NoBit, NotSet, Dealt}
 use Rattle.brc_count.proofs.Changes.{kept, kept_on}

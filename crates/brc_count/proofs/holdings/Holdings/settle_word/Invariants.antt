@@ -1,4 +1,4 @@
-use Rattle.brc_biased.specs.law.world.Lists.{word_at}
+use Rattle.brc_table.specs.law.world.Lists.{word_at}
 use Rattle.brc_count.specs.Frames.{KeepsHandles, popped_seen}
 use Rattle.brc_count.specs.Polling.{DealsBits}
 use Rattle.brc_count.proofs.Popping.{Sifted}
