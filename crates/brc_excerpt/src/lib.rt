@@ -5,8 +5,6 @@
 
 mod excerpt;
 mod quoting;
-#[cfg(test)]
-mod tests;
 
 pub use excerpt::{Excerpt, MOST_SHOWN};
 pub use quoting::put_quoted;

@@ -1,6 +1,7 @@
 //! The tests, by crate.
 
 mod comparing;
+mod excerpt;
 mod explaining;
 mod meaning;
 mod memory;

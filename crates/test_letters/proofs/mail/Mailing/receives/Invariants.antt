@@ -1,5 +1,0 @@
-use Rattle.brc_heap.specs.Words.{IsUnlocked, Keeps}
-use Rattle.test_letters.proofs.mail.Mailing.receives.Given as goal
-
-abbrev pub invariant-loop : goal.invariant-loop
-invariant-loop g l = Keeps l.fn.frame l.frame × IsUnlocked l.frame

@@ -1,5 +1,0 @@
-use Rattle.brc_heap.specs.Words.{IsUnlocked, Keeps}
-use Rattle.test_letters.proofs.mail.Mailing.sends.Given as goal
-
-abbrev pub invariant-loop-before : goal.invariant-loop-before
-invariant-loop-before g l = Keeps l.fn.frame l.frame × IsUnlocked l.frame

@@ -1,0 +1,119 @@
+//! Heaps that are closed, and their reports: a list that holds itself, a text that the globals hold, globals that are
+//! cleared, threads that nobody gathered or that are gathered late, and a report for which memory is wanting.
+
+mod late;
+mod lives;
+
+use brc_heap::{Heap, NoReport, Options, Report, close_or_end, write_report};
+use late::closed_late;
+use lives::{Life, lives};
+use std::alloc::{AllocGlobal, Allocator, Global};
+use std::io::{self, Write};
+use std::sync::Wait;
+use test_tools::{Heaps, Memories};
+
+/// The least heap.
+pub(crate) const SIZES: Options = Options {
+    cells: 512,
+    local_limit: 10,
+};
+
+/// The report of a heap whose only thread lived so; None where something was refused. It is of scarce memory.
+fn report_of<A: Allocator + Copy>(
+    rt: &impl Wait,
+    memories: Memories<A>,
+    life: Life,
+) -> Option<Report<A>> {
+    let (heap, mut root) = Heap::new(memories.ample, SIZES).ok()?;
+    if let Ok(mut mutator) = root.register(memories.ample, &heap) {
+        lives(rt, memories.ample, &mut mutator, life);
+        let _ledger = mutator.end(rt, &mut root, &heap);
+    }
+    close_or_end(memories.scarce, heap, root).ok()
+}
+
+/// How many threads were registered, and how many gathered, of a heap that so many left with the root, one after the
+/// other, and one more without it. All of them bear number 1.
+fn missing<A: Allocator + Copy>(rt: &impl Wait, alloc: A, ends: u32) -> Option<(u32, u32)> {
+    let (heap, mut root) = Heap::new(alloc, SIZES).ok()?;
+    for _ in 0..ends {
+        if let Ok(mutator) = root.register(alloc, &heap) {
+            let _ledger = mutator.end(rt, &mut root, &heap);
+        }
+    }
+    if let Ok(mutator) = root.register(alloc, &heap) {
+        let _retired = mutator.retire(rt);
+    }
+    match close_or_end(alloc, heap, root) {
+        Err(
+            NoReport::Missing {
+                registered,
+                gathered,
+            },
+        ) => Some((registered, gathered)),
+        _ => None,
+    }
+}
+
+/// Whether a report is had from so many bytes.
+fn is_had(rt: &impl Wait, alloc: Global, bytes: usize) -> bool {
+    match Heaps::new(alloc, 1 << 22, bytes) {
+        Ok(heaps) => report_of(rt, heaps.memories(), Life::HoldsItself).is_some(),
+        Err(_) => false,
+    }
+}
+
+/// Whether the report is refused with little memory, and had with more.
+fn is_refused_first(rt: &impl Wait, alloc: Global) -> bool {
+    for more in 0..64usize {
+        if is_had(rt, alloc, 64 * (more + 1)) {
+            return more > 2;
+        }
+    }
+    false
+}
+
+/// A report's text, or that there is none.
+fn shows(
+    rt: &impl Print,
+    output: &mut impl Write,
+    what: &str,
+    report: Option<Report<Global>>,
+) -> io::Result<()> {
+    println!(rt; "{what}:")?;
+    let Some(report) = report else {
+        return println!(rt; "no report");
+    };
+    match write_report(&report, output) {
+        Ok(()) => Ok(()),
+        Err(_) => println!(rt; "not written"),
+    }
+}
+
+/// Heaps are made and closed, one after the other; what their reports say is printed.
+pub(crate) fn says<R: AllocGlobal + Print + Wait, W: Write>(
+    rt: &R,
+    output: &mut W,
+) -> io::Result<()> {
+    let memories = Memories {
+        ample: rt.alloc(),
+        scarce: rt.alloc(),
+    };
+    let report = report_of(rt, memories, Life::HoldsItself);
+    shows(rt, output, "a list that holds itself", report)?;
+    let report = report_of(rt, memories, Life::LeavesAText);
+    shows(rt, output, "a text that the globals hold", report)?;
+    let report = report_of(rt, memories, Life::ClearsUp);
+    shows(rt, output, "globals that are cleared", report)?;
+    for ends in 1..3 {
+        let missing = missing(rt, rt.alloc(), ends);
+        println!(rt; "registered and gathered: {missing:?}")?;
+    }
+    if let Some(late) = closed_late(rt, rt.alloc()) {
+        let (registered, gathered) = late.missing;
+        println!(rt; "of three at once: {registered} registered, {gathered} gathered")?;
+        shows(rt, output, "once the third is gathered", Some(late.report))?;
+    }
+    let refused = is_refused_first(rt, rt.alloc());
+    println!(rt; "refused for want of memory, and had with more: {refused}")
+}

@@ -1,0 +1,110 @@
+//! Two threads of a runtime push a number each onto one list, which they find in the globals; a third takes it out, and
+//! all dies with it.
+
+ghost use Rattle.std.specs.Prelude.{◌≡◌};
+ghost use Rattle.brc_heap.specs.Words.{IsUnlocked, Keeps, Owns};
+
+use brc_heap::{
+    Frame, Handle, Heap, Key, Ledger, Mutator, Options, Root, dict_del, dict_find, dict_put,
+    give_back, list_push, new_int, new_list, take_apart,
+};
+use brc_loops::{Life, Nothing, gather_all, rest_more, run_all};
+use std::alloc::{AllocGlobal, Global};
+use std::io;
+use std::sync::Wait;
+use std::thread::Threads;
+
+const LIST: i64 = 1; // the list's key in the globals
+
+/// A new list goes into the globals, unless something is refused.
+fn shares(rt: &impl Wait, alloc: Global, frame: &mut Frame, globals: &Handle)
+    requires owned { Owns frame.old globals.now }
+    requires unlocked { IsUnlocked frame.old }
+    ensures keeps { Keeps frame.old frame.new }
+    ensures unlocked { IsUnlocked frame.new }
+{
+    let Ok(list) = new_list(alloc, frame) else {
+        return;
+    };
+    match dict_put(rt, frame, globals, Key::Int(LIST), list) {
+        Ok(None) => {}
+        Ok(Some(old)) => frame.release(old),
+        Err(handed) => frame.release(handed.back.1),
+    }
+}
+
+/// The number becomes the list's last entry, unless something is refused.
+fn pushes(rt: &impl Wait, alloc: Global, frame: &mut Frame, list: &Handle, number: i64)
+    requires owned { Owns frame.old list.now }
+    requires unlocked { IsUnlocked frame.old }
+    ensures keeps { Keeps frame.old frame.new }
+    ensures unlocked { IsUnlocked frame.new }
+{
+    let Ok(number) = new_int(alloc, frame, number) else {
+        return;
+    };
+    if let Err(handed) = list_push(rt, frame, list, number) {
+        frame.release(handed.back);
+    }
+}
+
+/// What a thread of the machine does: it finds the list in the globals, and pushes a number of its own.
+#[derive(Drop)]
+struct Pushing {
+    alloc: Global,
+}
+
+impl<R: Wait> Life<R> for Pushing {
+    type Answer = ();
+
+    fn live(&self, rt: &R, mutator: &mut Mutator) {
+        let number = 1_000 * mutator.thread() as i64 + 1;
+        if let Ok(globals) = mutator.globals() {
+            let frame = mutator.frame();
+            if let Ok(list) = dict_find(rt, frame, &globals, &Key::Int(LIST)) {
+                pushes(rt, self.alloc, frame, &list, number);
+                frame.release(list);
+            }
+            frame.release(globals);
+        }
+    }
+}
+
+/// Two threads are registered, do their work, each on a thread of the machine, and are gathered: their ledgers.
+fn two_work<R>(rt: &R, alloc: Global, heap: &Heap, root: &mut Root) -> Option<(Ledger, Ledger)>
+where
+    R: Threads + Wait + Sync,
+    requires root { root.old.table ≡ heap.now.table }
+    ensures root { root.new.table ≡ root.old.table }
+{
+    let mut two = Vec::new(alloc);
+    let _registered = rest_more(rt, alloc, heap, root, &Nothing, 2, &mut two);
+    let ended = run_all(rt, heap, &Pushing { alloc }, two).ok()?;
+    let ledgers = match (ended.get(0), ended.get(1)) {
+        (Some(one), Some(two)) => Some((one.retired.ledger(), two.retired.ledger())),
+        _ => None,
+    };
+    gather_all(root, heap, ended);
+    ledgers
+}
+
+/// A heap is opened, the threads live on it, and their ledgers are printed.
+pub(crate) fn says<R: AllocGlobal + Print + Threads + Wait + Sync>(rt: &R) -> io::Result<()> {
+    let Ok((heap, mut root)) = Heap::new(rt.alloc(), Options::USUAL) else {
+        return println!(rt; "no heap can be had");
+    };
+    let mut ledgers = (None, None);
+    if let Ok(mut last) = root.register(rt.alloc(), &heap) {
+        if let Ok(globals) = last.globals() {
+            shares(rt, rt.alloc(), last.frame(), &globals);
+            ledgers.0 = two_work(rt, rt.alloc(), &heap, &mut root);
+            if let Ok(list) = dict_del(rt, last.frame(), &globals, &Key::Int(LIST)) {
+                last.frame().release(list);
+            }
+            last.frame().release(globals);
+        }
+        ledgers.1 = Some(last.end(rt, &mut root, &heap));
+    }
+    give_back(take_apart(heap, root));
+    println!(rt; "{ledgers:?}")
+}
