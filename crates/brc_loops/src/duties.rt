@@ -81,7 +81,7 @@ fn serve_whole<R: Wait, J, D: Duty<R, J>>(
 /// Each thread wakes on a thread of the machine of its own, if one can be had, lives with the job beside it, and
 /// retires. Each answers its own job, and the answers are in the order of these. Where the machine has no thread for
 /// one, those before it live first: so one may wait for an earlier one, and not for a later one. All memory is had
-/// before the first wakes: if it is missing, all come back with their jobs, and none has lived. They can be run again,
+/// before the first wakes: if it is missing, all of these pairs come back, and none has lived. They can be run again,
 /// or ended (`end_each`).
 pub fn run_each<R: Threads + Wait + Sync, J: Send + Drop, D: Duty<R, J> + Sync>(
     rt: &R,

@@ -1,4 +1,4 @@
-use Rattle.std.proofs.Common.{refl, rules, arith}
+use Rattle.std.proofs.Common.{refl, rules}
 use Rattle.brc_loops.proofs.Reversing.{reversing_more}
 use Rattle.brc_loops.proofs.errands.laid_out.Goals as goal
 
