@@ -9,7 +9,7 @@ use crate::letters::{Post, SENDERS};
 use crate::lives::{Asked, CELLS, Timed};
 use crate::request::Case;
 use crate::timing::{Span, Times, refused, times_of};
-use brc_loops::{Ended, rest_more, run_all};
+use brc_loops::{Ended, end_all, rest_more, run_all};
 use brc_thread::{Heap, Options, Resting, Root, give_back, take_apart};
 use std::alloc::Global;
 use std::io;
@@ -34,7 +34,10 @@ fn rested<R: Wait>(
     let task = Giving { rt, alloc, asked };
     match rest_more(rt, alloc, heap, root, &task, asked.threads as u64, &mut all) {
         Some(()) => Ok(all),
-        None => Err(refused()),
+        None => {
+            end_all(rt, root, heap, all);
+            Err(refused())
+        }
     }
 }
 
@@ -69,6 +72,68 @@ fn answer_of(alloc: Global, all: Vec<Ended<io::Result<Option<Span>>>>) -> io::Re
     })
 }
 
+/// They live; where memory is missing for that, they end here.
+fn lived<R: Threads + Wait + Clock + CpuClock + Sync>(
+    rt: &R,
+    heap: &Heap<Global>,
+    root: &mut Root<Global>,
+    timed: &Timed<'_>,
+    all: Vec<Resting<Global>>,
+) -> io::Result<Vec<Ended<io::Result<Option<Span>>>>>
+    requires heap { root.old.table ≡ heap.now.table }
+    requires all { All (λ resting. resting.heap ≡ heap.now) all.items }
+    ensures root { root.new.table ≡ root.old.table }
+{
+    match run_all(rt, heap, timed, all) {
+        Ok(ended) => Ok(ended),
+        Err(all) => {
+            end_all(rt, root, heap, all);
+            Err(refused())
+        }
+    }
+}
+
+/// The busy threads live, and the idle ones after them.
+fn answer_of_both<R: Threads + Wait + Clock + CpuClock + Sync>(
+    rt: &R,
+    alloc: Global,
+    heap: &Heap<Global>,
+    root: &mut Root<Global>,
+    asked: Asked,
+    busy: Vec<Resting<Global>>,
+    owning: Asked,
+    idle: Vec<Resting<Global>>,
+) -> io::Result<Answer>
+    requires heap { root.old.table ≡ heap.now.table }
+    requires busy { All (λ resting. resting.heap ≡ heap.now) busy.items }
+    requires idle { All (λ resting. resting.heap ≡ heap.now) idle.items }
+    ensures root { root.new.table ≡ root.old.table }
+{
+    let post = Post::new();
+    let timed = Timed {
+        alloc,
+        post: &post,
+        asked,
+    };
+    let idling = Timed {
+        alloc,
+        post: &post,
+        asked: owning,
+    };
+    match lived(rt, heap, root, &timed, busy) {
+        Ok(mut all) => {
+            for one in lived(rt, heap, root, &idling, idle)? {
+                all.push(one)?;
+            }
+            answer_of(alloc, all)
+        }
+        Err(error) => {
+            end_all(rt, root, heap, idle);
+            Err(error)
+        }
+    }
+}
+
 /// Runs a case on this heap: the busy threads do, and the idle ones end after them.
 fn answer_on<R: Threads + Wait + Clock + CpuClock + Sync>(
     rt: &R,
@@ -90,23 +155,13 @@ fn answer_on<R: Threads + Wait + Clock + CpuClock + Sync>(
         ..asked
     };
     let idle = rested(rt, alloc, heap, root, owning)?;
-    let busy = rested(rt, alloc, heap, root, asked)?;
-    let post = Post::new();
-    let timed = Timed {
-        alloc,
-        post: &post,
-        asked,
-    };
-    let idling = Timed {
-        alloc,
-        post: &post,
-        asked: owning,
-    };
-    let mut all = run_all(rt, heap, &timed, busy)?;
-    for one in run_all(rt, heap, &idling, idle)? {
-        all.push(one)?;
+    match rested(rt, alloc, heap, root, asked) {
+        Ok(busy) => answer_of_both(rt, alloc, heap, root, asked, busy, owning, idle),
+        Err(error) => {
+            end_all(rt, root, heap, idle);
+            Err(error)
+        }
     }
-    answer_of(alloc, all)
 }
 
 /// How many threads a case has.

@@ -6,7 +6,7 @@ ghost use Rattle.brc_heap.specs.Words.{IsUnlocked, Keeps, Owns};
 use crate::coming::Coming;
 use crate::shared::{clears, finds, puts, takes};
 use brc_heap::{Frame, Handle, Heap, Mutator, Root};
-use brc_loops::{Ended, Life, Nothing, gather_all, rest_more, run_all};
+use brc_loops::{Ended, Life, Nothing, end_all, gather_all, rest_more, run_all};
 use rand::RngExt;
 use rand_core::{Rng, SeedableRng};
 use rand_pcg::Pcg32;
@@ -123,7 +123,10 @@ where
             gather_all(root, heap, ended);
             whole && there.is_some()
         }
-        Err(_) => false,
+        Err(all) => {
+            end_all(rt, root, heap, all);
+            false
+        }
     }
 }
 

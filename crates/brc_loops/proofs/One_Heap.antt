@@ -52,3 +52,30 @@ module _ {X : Type 0} where
       → All (λ (one : Ended X). one.retired.heap ≡ heap) left
   others_ended heap x before left next all =
       All-rest (λ (one : Ended X). one.retired.heap ≡ heap) x left before next all
+
+module _ {A : Type 0} where
+  -- the first of those that rest still, and the others
+  pub first_resting : (heap : TableSeen) (x : FrameSeen A) (before left : List (FrameSeen A)) → before ≡ x ∷ left
+      → All (λ (one : FrameSeen A). one.heap ≡ heap) before → x.heap ≡ heap
+  first_resting heap x before left next all =
+      All-head (λ (one : FrameSeen A). one.heap ≡ heap) x left
+      (subst (All (λ (one : FrameSeen A). one.heap ≡ heap)) next all)
+
+  pub others_resting : (heap : TableSeen) (x : FrameSeen A) (before left : List (FrameSeen A)) → before ≡ x ∷ left
+      → All (λ (one : FrameSeen A). one.heap ≡ heap) before → All (λ (one : FrameSeen A). one.heap ≡ heap) left
+  others_resting heap x before left next all =
+      All-rest (λ (one : FrameSeen A). one.heap ≡ heap) x left before next all
+
+module _ {A J : Type 0} where
+  -- so with a job beside each
+  pub first_job : (heap : TableSeen) (x : FrameSeen A × J) (before left : List (FrameSeen A × J)) → before ≡ x ∷ left
+      → All (λ (given : FrameSeen A × J). given.0.heap ≡ heap) before → x.0.heap ≡ heap
+  first_job heap x before left next all =
+      All-head (λ (given : FrameSeen A × J). given.0.heap ≡ heap) x left
+      (subst (All (λ (given : FrameSeen A × J). given.0.heap ≡ heap)) next all)
+
+  pub others_jobs : (heap : TableSeen) (x : FrameSeen A × J) (before left : List (FrameSeen A × J)) → before ≡ x ∷ left
+      → All (λ (given : FrameSeen A × J). given.0.heap ≡ heap) before
+      → All (λ (given : FrameSeen A × J). given.0.heap ≡ heap) left
+  others_jobs heap x before left next all =
+      All-rest (λ (given : FrameSeen A × J). given.0.heap ≡ heap) x left before next all

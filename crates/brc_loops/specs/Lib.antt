@@ -1,3 +1,4 @@
+pub mod Errands
 pub mod Held
 pub mod Stopping
 pub mod Turns

@@ -1,15 +1,15 @@
 //! Threads that differ: each lives with a job of its own.
 
-ghost use Rattle.std.specs.Prelude.{⊤, ◌≡◌, ◌++◌, All, IfOk, IfSome, length, map};
+ghost use Rattle.std.specs.Prelude.{⊤, ◌≡◌, ◌+◌, ◌++◌, All, IfOk, IfErr, IfSome, length, map};
 ghost use Rattle.std.specs.List.{AllZip};
 ghost use Rattle.brc_count.specs.Frames.{IsUnlocked};
 ghost use Rattle.brc_thread.specs.Counting.{gatherings};
 
-use crate::threads::Ended;
+use crate::errands::do_all;
+use crate::threads::{Ended, end_one};
 use brc_thread::{Heap, Mutator, Resting, Root};
-use std::alloc::{AllocError, Allocator, Global};
+use std::alloc::{Allocator, Global};
 use std::sync::Wait;
-use std::thread;
 use std::thread::Threads;
 
 /// What a thread does with its job between its waking and its end.
@@ -32,7 +32,8 @@ pub trait Duty<R, J> {
 
 /// A thread is registered for each job, in their order, and rests beside it behind the others. It makes its objects in a
 /// part of the heap of its own (`Root::register_apart`). None if no thread more can be registered or memory ran out:
-/// those that were registered up to then rest here, and the jobs that are left are dropped.
+/// those that were registered up to then rest here, to be run or ended all the same (`run_each`, `end_each`), and the
+/// jobs that are left are dropped.
 pub fn rest_each<'h, J: Drop, A: Allocator + Copy>(
     alloc: A,
     heap: &'h Heap<A>,
@@ -78,14 +79,16 @@ fn serve_whole<R: Wait, J, D: Duty<R, J>>(
 }
 
 /// Each thread wakes on a thread of the machine of its own, if one can be had, lives with the job beside it, and
-/// retires. Each answers its own job, and the answers are in the order of these. On `Err`, if memory ran out, some may
-/// not have lived, and none can be gathered any more.
+/// retires. Each answers its own job, and the answers are in the order of these. Where the machine has no thread for
+/// one, those before it live first: so one may wait for an earlier one, and not for a later one. All memory is had
+/// before the first wakes: if it is missing, all of these pairs come back, and none has lived. They can be run again,
+/// or ended (`end_each`).
 pub fn run_each<R: Threads + Wait + Sync, J: Send + Drop, D: Duty<R, J> + Sync>(
     rt: &R,
     heap: &Heap<Global>,
     duty: &D,
     jobs: Vec<(Resting<Global>, J)>,
-) -> Result<Vec<Ended<D::Answer>>, AllocError>
+) -> Result<Vec<Ended<D::Answer>>, Vec<(Resting<Global>, J)>>
 where
     D::Answer: Send + Drop,
     requires heap { All (λ job. job.0.heap ≡ heap.now) jobs.items }
@@ -93,8 +96,9 @@ where
     ensures count { IfOk result (λ ended. length ended.items ≡ length jobs.items) }
     ensures each { IfOk result
         (λ ended. AllZip (λ job one. D.answers duty.now job.1 one.answer) jobs.items ended.items) }
+    ensures back { IfErr result (λ same. same ≡ jobs) }
 {
-    thread::map_vec(
+    do_all(
         rt,
         jobs,
         &|given| -> Ended<D::Answer>
@@ -103,4 +107,22 @@ where
             ensures answers { D.answers duty.entry.now given.1 result.answer }
         { serve_whole(rt, heap, duty, given) },
     )
+}
+
+/// Each of these threads ends here, without having lived, and the root gathers it, in order; the jobs are dropped. So a
+/// run that is refused leaves nobody behind. It takes no memory.
+pub fn end_each<J: Drop>(
+    rt: &impl Wait,
+    root: &mut Root<Global>,
+    heap: &Heap<Global>,
+    jobs: Vec<(Resting<Global>, J)>,
+)
+    requires root { root.old.table ≡ heap.now.table }
+    requires heap { All (λ job. job.0.heap ≡ heap.now) jobs.items }
+    ensures root { root.new.table ≡ root.old.table }
+    ensures gathered { gatherings root.new.view ≡ gatherings root.old.view + length jobs.items }
+{
+    for (resting, _job) in jobs {
+        end_one(rt, root, heap, resting);
+    }
 }

@@ -4,11 +4,11 @@ ghost use Rattle.std.specs.Prelude.{◌≡◌, ◌+◌, All, IfOk, IfErr, OnOk, 
 ghost use Rattle.brc_count.specs.Frames.{FrameSeen, IsUnlocked};
 ghost use Rattle.brc_thread.specs.Counting.{gatherings};
 
+use crate::errands::do_all;
 use crate::repeating::Task;
 use brc_thread::{Heap, Mutator, Resting, Retired, Root};
-use std::alloc::{AllocError, Allocator, Global};
+use std::alloc::{Allocator, Global};
 use std::sync::Wait;
-use std::thread;
 use std::thread::Threads;
 
 /// What a thread does between its waking and its end.
@@ -34,7 +34,7 @@ pub struct Ended<X> {
 
 /// So many threads more are registered, and rest beside the others; each does the task first, after so many threads
 /// before it. None if no thread more can be registered (`Root::register`), if memory ran out, or if the task failed:
-/// those that were registered up to then rest here.
+/// those that were registered up to then rest here, to be run or ended all the same (`run_all`, `end_all`).
 pub fn rest_more<'h, T: Task<&'h Heap<A>, A>, A: Allocator + Copy>(
     rt: &impl Wait,
     alloc: A,
@@ -83,20 +83,23 @@ fn live_whole<R: Wait, L: Life<R>>(
 }
 
 /// Each wakes on a thread of the machine of its own, where one can be had, lives and retires. The answers are in their
-/// order. On `Err`, where memory ran out, some may not have lived, and none can be gathered any more.
+/// order. Where the machine has no thread for one, those before it live first: so one may wait for an earlier one, and
+/// not for a later one. All memory is had before the first wakes: if it is missing, all come back, and none has lived.
+/// They can be run again, or ended (`end_all`).
 pub fn run_all<R: Threads + Wait + Sync, L: Life<R> + Sync>(
     rt: &R,
     heap: &Heap<Global>,
     life: &L,
     all: Vec<Resting<Global>>,
-) -> Result<Vec<Ended<L::Answer>>, AllocError>
+) -> Result<Vec<Ended<L::Answer>>, Vec<Resting<Global>>>
 where
     L::Answer: Send + Drop,
     requires heap { All (λ resting. resting.heap ≡ heap.now) all.items }
     ensures heap { IfOk result (λ ended. All (λ one. one.retired.heap ≡ heap.now) ended.items) }
     ensures count { IfOk result (λ ended. length ended.items ≡ length all.items) }
+    ensures back { IfErr result (λ same. same ≡ all) }
 {
-    thread::map_vec(
+    do_all(
         rt,
         all,
         &|resting| -> Ended<L::Answer>
@@ -104,6 +107,40 @@ where
             ensures { result.retired.heap ≡ heap.entry.now }
         { live_whole(rt, heap, life, resting) },
     )
+}
+
+/// A thread that rests wakes here, retires without having lived, and is gathered. It takes no memory.
+pub(crate) fn end_one(
+    rt: &impl Wait,
+    root: &mut Root<Global>,
+    heap: &Heap<Global>,
+    resting: Resting<Global>,
+)
+    requires root { root.old.table ≡ heap.now.table }
+    requires heap { resting.heap ≡ heap.now }
+    ensures root { root.new.table ≡ root.old.table }
+    ensures gathered { gatherings root.new.view ≡ gatherings root.old.view + 1 }
+{
+    let retired = resting.wake(heap).retire(rt);
+    root.gather(heap, retired);
+}
+
+/// Each of these that rest ends here, without having lived, and the root gathers it, in order. So a run that is refused
+/// leaves nobody behind. It takes no memory.
+pub fn end_all(
+    rt: &impl Wait,
+    root: &mut Root<Global>,
+    heap: &Heap<Global>,
+    all: Vec<Resting<Global>>,
+)
+    requires root { root.old.table ≡ heap.now.table }
+    requires heap { All (λ resting. resting.heap ≡ heap.now) all.items }
+    ensures root { root.new.table ≡ root.old.table }
+    ensures gathered { gatherings root.new.view ≡ gatherings root.old.view + length all.items }
+{
+    for resting in all {
+        end_one(rt, root, heap, resting);
+    }
 }
 
 /// The root gathers each of them, in order.

@@ -4,7 +4,7 @@ ghost use Rattle.std.specs.Prelude.{◌≡◌, ◌+◌, ◌*◌, All, IsTrue, le
 ghost use Rattle.brc_thread.specs.Counting.{gatherings};
 
 use crate::repeating::Nothing;
-use crate::threads::{Ended, Life, rest_more, run_all};
+use crate::threads::{Ended, Life, end_all, rest_more, run_all};
 use brc_thread::{Heap, Root};
 use std::alloc::Global;
 use std::sync::Wait;
@@ -35,7 +35,7 @@ fn gather_each<X: Drop, T: Tally<X>>(
     }
 }
 
-/// One wave: whether all of its threads lived and were gathered.
+/// One wave: whether it had all of its threads, and they lived. They are gathered in any case.
 fn one_wave<R: Threads + Wait + Sync, L: Life<R> + Sync, T: Tally<L::Answer>>(
     rt: &R,
     alloc: Global,
@@ -58,14 +58,18 @@ where
             gather_each(root, heap, ended, tally);
             is_whole
         }
-        Err(_) => false,
+        Err(all) => {
+            end_all(rt, root, heap, all);
+            false
+        }
     }
 }
 
 /// So many waves, one after another. In each, so many threads are registered, live each on a thread of the machine, and
 /// are gathered before the next wave begins; so their numbers are used again. All answers are added, wave by wave.
-/// Whether each wave had all of its threads: one that has fewer, because no more can be registered or memory ran out,
-/// doesn't end the others.
+/// Whether each wave had all of its threads, and they lived: one that has fewer, because no more can be registered or
+/// memory ran out, doesn't end the others. Where memory is missing for a wave's run, its threads are ended without
+/// having lived, and gathered too. So nobody is left behind, and the heap can be closed, whatever was refused.
 pub fn waves<R: Threads + Wait + Sync, L: Life<R> + Sync, T: Tally<L::Answer>>(
     rt: &R,
     alloc: Global,

@@ -7,12 +7,15 @@ use brc_heap::{Fault, Frame, Heap, KeyRef};
 use brc_places::{GiveBy, Make, Stack, Step, TakeBy, Turn};
 use std::alloc::Global;
 use std::sync::Wait;
+use std::sync::atomic::{AtomicBool, Ordering};
 
-/// A program, where the machine is in it, and what it has told.
+/// A program, where the machine is in it, and what it has told. Once all letters that it may wait for are sent, `sent`
+/// says so.
 #[derive(Drop)]
 pub(crate) struct Machine<'p> {
     pub(crate) alloc: Global,
     pub(crate) program: &'p [Instruction],
+    pub(crate) sent: &'p AtomicBool,
     pub(crate) next: usize,
     pub(crate) told: Option<i64>,
     pub(crate) fault: Option<Fault>,
@@ -20,10 +23,15 @@ pub(crate) struct Machine<'p> {
 
 impl<'p> Machine<'p> {
     /// At the program's first instruction.
-    pub(crate) fn new(alloc: Global, program: &'p [Instruction]) -> Machine<'p> {
+    pub(crate) fn new(
+        alloc: Global,
+        program: &'p [Instruction],
+        sent: &'p AtomicBool,
+    ) -> Machine<'p> {
         Machine {
             alloc,
             program,
+            sent,
             next: 0,
             told: None,
             fault: None,
@@ -114,20 +122,24 @@ impl<'p> Machine<'p> {
 }
 
 impl<'p, 'h, R: Wait> Step<R, &'h Heap<Global>, Global> for Machine<'p> {
-    /// One instruction. A machine that waits for a letter deals with what other threads asked of its objects.
+    /// One instruction. A machine that waits for a letter deals with what other threads asked of its objects. Whether all
+    /// letters are sent is asked before the try, so none is missed; after that one that isn't there is a fault.
     fn step(&mut self, rt: &R, frame: &mut Frame<'h>, stack: &mut Stack) -> Turn {
         let Some(instruction) = self.program.get(self.next) else {
             return Turn::Ends;
         };
         match *instruction {
-            Instruction::Receive => match self.does(rt, frame, stack, Instruction::Receive) {
-                Err(Fault::NoSuchPlace) => {
-                    let _told = frame.poll();
-                    let _left = frame.work(100);
-                    Turn::Waits
+            Instruction::Receive => {
+                let all_sent = self.sent.load(Ordering::SeqCst);
+                match self.does(rt, frame, stack, Instruction::Receive) {
+                    Err(Fault::NoSuchPlace) if !all_sent => {
+                        let _told = frame.poll();
+                        let _left = frame.work(100);
+                        Turn::Waits
+                    }
+                    done => self.goes_on(done),
                 }
-                done => self.goes_on(done),
-            },
+            }
             Instruction::Tell => match self.number(rt, frame, stack) {
                 Ok(number) => {
                     self.told = Some(number);

@@ -12,7 +12,7 @@ ghost use Rattle.brc_heap.specs.Words.{IsUnlocked};
 use brc_heap::{
     CloseFault, Fault, Heap, Mutator, Options, Root, close, give_back, take_apart, write_report,
 };
-use brc_loops::{Life, Nothing, gather_all, rest_more, run_all};
+use brc_loops::{Ended, Life, Nothing, end_all, gather_all, rest_more, run_all};
 use brc_places::{Stack, run_steps};
 use instruction::Instruction;
 use machine::Machine;
@@ -20,6 +20,7 @@ use programs::{ADDS, ENDS, OPENS, SENDS};
 use std::alloc::Global;
 use std::io;
 use std::sync::Wait;
+use std::sync::atomic::{AtomicBool, Ordering};
 use std::thread::Threads;
 
 /// What a machine told last, and why it ended, if for a fault.
@@ -29,8 +30,14 @@ struct Told {
     fault: Option<Fault>,
 }
 
-/// A machine with a stack of its own runs a program.
-fn runs(rt: &impl Wait, alloc: Global, mutator: &mut Mutator, program: &[Instruction]) -> Told
+/// A machine with a stack of its own runs a program. Who waits for letters does so until all are sent.
+fn runs(
+    rt: &impl Wait,
+    alloc: Global,
+    mutator: &mut Mutator,
+    program: &[Instruction],
+    sent: &AtomicBool,
+) -> Told
     requires bare { mutator.old.len ≡ 0 }
     requires unlocked { IsUnlocked mutator.old }
     ensures heap { mutator.new.heap ≡ mutator.old.heap }
@@ -38,7 +45,7 @@ fn runs(rt: &impl Wait, alloc: Global, mutator: &mut Mutator, program: &[Instruc
     ensures unlocked { IsUnlocked mutator.new }
 {
     let frame = mutator.frame();
-    let mut machine = Machine::new(alloc, program);
+    let mut machine = Machine::new(alloc, program, sent);
     let mut stack = Stack::new(alloc);
     run_steps(rt, &mut machine, frame, &mut stack);
     stack.release_all(frame);
@@ -48,20 +55,32 @@ fn runs(rt: &impl Wait, alloc: Global, mutator: &mut Mutator, program: &[Instruc
     }
 }
 
-/// What a thread of the machine does: one of the two sends, and the other adds up.
+/// What a thread of the machine does: one of the two sends, and the other adds up, until the first has ended, whatever it
+/// came to.
 #[derive(Drop)]
 struct Working {
     alloc: Global,
+    sent: AtomicBool,
 }
 
 impl<R: Wait> Life<R> for Working {
     type Answer = Told;
 
     fn live(&self, rt: &R, mutator: &mut Mutator) -> Told {
-        if mutator.thread() % 2 == 0 {
-            return runs(rt, self.alloc, mutator, &SENDS);
+        if mutator.thread() % 2 == 1 {
+            return runs(rt, self.alloc, mutator, &ADDS, &self.sent);
         }
-        runs(rt, self.alloc, mutator, &ADDS)
+        let told = runs(rt, self.alloc, mutator, &SENDS, &self.sent);
+        self.sent.store(true, Ordering::SeqCst);
+        told
+    }
+}
+
+/// What two threads told.
+fn told_by(ended: &[Ended<Told>]) -> Option<(Told, Told)> {
+    match ended {
+        [one, two] => Some((one.answer, two.answer)),
+        _ => None,
     }
 }
 
@@ -74,13 +93,21 @@ where
 {
     let mut two = Vec::new(alloc);
     let _registered = rest_more(rt, alloc, heap, root, &Nothing, 2, &mut two);
-    let ended = run_all(rt, heap, &Working { alloc }, two).ok()?;
-    let told = match (ended.get(0), ended.get(1)) {
-        (Some(one), Some(two)) => Some((one.answer, two.answer)),
-        _ => None,
+    let working = Working {
+        alloc,
+        sent: AtomicBool::new(false),
     };
-    gather_all(root, heap, ended);
-    told
+    match run_all(rt, heap, &working, two) {
+        Ok(ended) => {
+            let told = told_by(ended.as_slice());
+            gather_all(root, heap, ended);
+            told
+        }
+        Err(two) => {
+            end_all(rt, root, heap, two); // memory is missing: none has lived
+            None
+        }
+    }
 }
 
 /// The report of the heap, which is closed, as a text.
@@ -112,10 +139,12 @@ fn main(rt: HostRuntime) -> io::Result<()> {
         return println!(rt; "no heap can be had");
     };
     let mut told = None;
+    let nobody = AtomicBool::new(true); // nobody sends to the first
     if let Ok(mut first) = root.register(rt.alloc(), &heap) {
-        let opened = runs(&rt, rt.alloc(), &mut first, &OPENS);
+        let opened = runs(&rt, rt.alloc(), &mut first, &OPENS, &nobody);
         let worked = two_work(&rt, rt.alloc(), &heap, &mut root);
-        let ended = runs(&rt, rt.alloc(), &mut first, &ENDS);
+        let ended = runs(&rt, rt.alloc(), &mut first, &ENDS, &nobody);
+        let _cleared = first.clear_globals(); // where a program ended early, the mailbox is there still
         let _ledger = first.end(&rt, &mut root, &heap);
         told = Some((opened, worked, ended));
     }

@@ -8,7 +8,7 @@ use brc_heap::{
     Frame, Handle, Heap, Key, Ledger, Mutator, Options, Root, dict_del, dict_find, dict_put,
     give_back, list_push, new_int, new_list, take_apart,
 };
-use brc_loops::{Life, Nothing, gather_all, rest_more, run_all};
+use brc_loops::{Ended, Life, Nothing, end_all, gather_all, rest_more, run_all};
 use std::alloc::{AllocGlobal, Global};
 use std::io;
 use std::sync::Wait;
@@ -70,6 +70,14 @@ impl<R: Wait> Life<R> for Pushing {
     }
 }
 
+/// The ledgers of two threads.
+fn ledgers_of(ended: &[Ended<()>]) -> Option<(Ledger, Ledger)> {
+    match ended {
+        [one, two] => Some((one.retired.ledger(), two.retired.ledger())),
+        _ => None,
+    }
+}
+
 /// Two threads are registered, do their work, each on a thread of the machine, and are gathered: their ledgers.
 fn two_work<R>(rt: &R, alloc: Global, heap: &Heap, root: &mut Root) -> Option<(Ledger, Ledger)>
 where
@@ -79,13 +87,17 @@ where
 {
     let mut two = Vec::new(alloc);
     let _registered = rest_more(rt, alloc, heap, root, &Nothing, 2, &mut two);
-    let ended = run_all(rt, heap, &Pushing { alloc }, two).ok()?;
-    let ledgers = match (ended.get(0), ended.get(1)) {
-        (Some(one), Some(two)) => Some((one.retired.ledger(), two.retired.ledger())),
-        _ => None,
-    };
-    gather_all(root, heap, ended);
-    ledgers
+    match run_all(rt, heap, &Pushing { alloc }, two) {
+        Ok(ended) => {
+            let ledgers = ledgers_of(ended.as_slice());
+            gather_all(root, heap, ended);
+            ledgers
+        }
+        Err(two) => {
+            end_all(rt, root, heap, two); // memory is missing: none has lived
+            None
+        }
+    }
 }
 
 /// A heap is opened, the threads live on it, and their ledgers are printed.

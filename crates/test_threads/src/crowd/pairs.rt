@@ -5,7 +5,7 @@ ghost use Rattle.std.specs.Prelude.{◌≡◌};
 
 use crate::crowd::pair::Parting;
 use brc_heap::{Heap, Options, Report, Root, close_or_end};
-use brc_loops::{Ended, Nothing, gather_all, rest_more, run_all};
+use brc_loops::{Ended, Nothing, end_all, gather_all, rest_more, run_all};
 use std::alloc::Global;
 use std::sync::Wait;
 use std::thread::Threads;
@@ -43,7 +43,10 @@ where
             gather_all(root, heap, ended);
             done
         }
-        Err(_) => false,
+        Err(two) => {
+            end_all(rt, root, heap, two);
+            false
+        }
     }
 }
 

@@ -4,7 +4,7 @@ ghost use Rattle.std.specs.Prelude.{◌≡◌};
 
 use crate::letters::mail::{Counted, LETTERS, Mailing, Role, SENDERS};
 use brc_heap::{Heap, Root};
-use brc_loops::{gather_all, gather_answers, rest_each, run_each};
+use brc_loops::{end_each, gather_all, gather_answers, rest_each, run_each};
 use std::alloc::{AllocError, Global};
 use std::sync::Wait;
 use std::thread::Threads;
@@ -13,7 +13,8 @@ use std::thread::Threads;
 const RECEIVERS: u32 = 3;
 
 /// The role of each thread: the senders' letters are all different. Who opens the mailbox comes first, and who waits
-/// for letters comes last: so all ends too if the machine has one thread for all of them.
+/// for letters comes last. So each waits for earlier ones alone, and all ends too where the machine has one thread for
+/// several of them (`run_each`).
 fn roles(alloc: Global) -> Result<Vec<Role>, AllocError> {
     let mut roles = Vec::new(alloc);
     roles.push(Role::Opens)?;
@@ -45,11 +46,16 @@ where
     let roles = roles(alloc).ok()?;
     let mut jobs = Vec::new(alloc);
     let _all = rest_each(alloc, heap, root, roles, &mut jobs);
-    let ended = run_each(rt, heap, &Mailing::new(alloc), jobs).ok()?;
-    match gather_answers(alloc, root, heap, ended) {
-        Ok(answers) => Some(total(answers.as_slice())),
-        Err(ended) => {
-            gather_all(root, heap, ended);
+    match run_each(rt, heap, &Mailing::new(alloc), jobs) {
+        Ok(ended) => match gather_answers(alloc, root, heap, ended) {
+            Ok(answers) => Some(total(answers.as_slice())),
+            Err(ended) => {
+                gather_all(root, heap, ended);
+                None
+            }
+        },
+        Err(jobs) => {
+            end_each(rt, root, heap, jobs);
             None
         }
     }

@@ -9,8 +9,8 @@ use brc_count::Frame;
 use brc_count::biased::Home;
 use brc_heap::{Fault, Handle, Handles, Heap, Key, Mutator, close_or_end, dict_put, none, send};
 use brc_loops::{
-    Life, Never, Nothing, Waited, fetch_until, gather_all, gather_answers, recv_until, rest_more,
-    run_all,
+    Life, Never, Nothing, Waited, end_all, fetch_until, gather_all, gather_answers, recv_until,
+    rest_more, run_all,
 };
 use linked_list_allocator::LocalHeap;
 use std::alloc::Global;
@@ -195,11 +195,12 @@ where
     let mut three = Vec::new(alloc);
     let _all = rest_more(rt, alloc, &heap, &mut root, &Nothing, 3, &mut three);
     let mut had = false;
-    if let Ok(ended) = run_all(rt, &heap, &SaysWhich, three) {
-        match gather_answers(scarce, &mut root, &heap, ended) {
+    match run_all(rt, &heap, &SaysWhich, three) {
+        Ok(ended) => match gather_answers(scarce, &mut root, &heap, ended) {
             Ok(answers) => had = answers.as_slice() == [1, 2, 3].as_slice(),
             Err(ended) => gather_all(&mut root, &heap, ended),
-        }
+        },
+        Err(three) => end_all(rt, &mut root, &heap, three),
     }
     close_or_end(alloc, heap, root).is_ok() && had
 }
