@@ -26,7 +26,7 @@ use Rattle.brc_thread.specs.contracts.heap.Heap as Heap
 use Rattle.brc_thread.specs.contracts.root.Root as Root
 use Rattle.brc_thread.proofs.Sent.{heap_sync}
 use Rattle.brc_shared.specs.contracts.desk.Desk as Desk
-use Rattle.brc_shared.specs.contracts.kept.Kept as Kept
+use Rattle.brc_shared.specs.contracts.inner.Inner as Inner
 use Rattle.brc_shared.specs.contracts.shared.Shared as Shared
 
 -- ---- a block
@@ -82,14 +82,14 @@ desk_send = search (sendable, crosses, option.the_send, table.the_field_send, ro
 desk_sync : IsSync Desk.the_row
 desk_sync = search (sendable, crosses, option.the_send, table.the_field_sync, root_send) depth 40
 
-kept_send : IsSend Kept.the_row
-kept_send = search (sendable, crosses, heap_send, desk_send) depth 40
+inner_send : IsSend Inner.the_row
+inner_send = search (sendable, crosses, heap_send, desk_send) depth 40
 
-kept_sync : IsSync Kept.the_row
-kept_sync = search (sendable, crosses, heap_sync, desk_sync) depth 40
+inner_sync : IsSync Inner.the_row
+inner_sync = search (sendable, crosses, heap_sync, desk_sync) depth 40
 
 pub shared_send : IsSend Shared.the_row
-shared_send = search (sendable, crosses, kept_send, kept_sync) depth 40
+shared_send = search (sendable, crosses, inner_send, inner_sync) depth 40
 
 pub shared_sync : IsSync Shared.the_row
-shared_sync = search (sendable, crosses, kept_send, kept_sync) depth 40
+shared_sync = search (sendable, crosses, inner_send, inner_sync) depth 40

@@ -7,7 +7,7 @@ use Rattle.atomic_table.specs.Table.{State, Me, Step}
 use Rattle.brc_count.specs.table.Seated.{TableSeen, RootSeen}
 
 -- what contracts see of a heap with the desk of its root
-pub record KeptSeen : Type 0 where
+pub record InnerSeen : Type 0 where
   pub heap : TableSeen
   pub desk : TableId
 

@@ -10,31 +10,28 @@ use Rattle.brc_count.specs.law.steps.Joining.{next_thread, gathering}
 use Rattle.brc_count.specs.table.Seated.{TableSeen, RootSeen, view_of}
 use Rattle.brc_count.specs.Closing.{BeginsBy}
 use Rattle.brc_count.specs.Frames.{FrameSeen}
-use Rattle.brc_thread.specs.Counting.{registrations, gatherings, births_of_all, frees_of_all, in_u32, in_u64}
+use Rattle.brc_thread.specs.Counting.{registrations, gatherings, in_u32, Counts}
 use Rattle.brc_thread.specs.Threads.{RefusesThread, RetiredSeen}
 use Rattle.brc_close.specs.Closing.{Closes}
-use Rattle.brc_shared.specs.declared.shared.Counts.{Counts}
-use Rattle.brc_shared.specs.declared.shared.StaysOpen.{StaysOpen}
-use Rattle.brc_shared.specs.declared.shared.StaysOpen.TheVariants as reasons
+use Rattle.brc_shared.specs.declared.shared.RootCounts.{RootCounts}
+use Rattle.brc_shared.specs.declared.shared.NotClosed.{NotClosed}
+use Rattle.brc_shared.specs.declared.shared.NotClosed.TheVariants as reasons
 use Rattle.brc_shared.specs.declared.shared.Stays.{Stays}
 use Rattle.brc_shared.specs.declared.shared.Stays.TheVariants.{Open, Memory}
 
--- the numbers are those of what a root has done
-pub record Counted (view : View) (counts : Counts) : Type 0 where
-  pub registered : counts.registered ≡ registrations view
-  pub gathered : counts.gathered ≡ in_u32 (gatherings view)
-  pub allocs : counts.ledger.allocs ≡ in_u64 (births_of_all view.gathered)
-  pub frees : counts.ledger.frees ≡ in_u64 (frees_of_all view.gathered)
+-- the numbers are what a root counts that has done this
+abbrev pub HasCounted : View → RootCounts → Type 0
+HasCounted view counts = Counts view counts.registered counts.gathered counts.ledger
 
 -- the heap's root had counted so much, at one moment
-pub record CountsOf (heap : TableSeen) (counts : Counts) : Type 0 where
+pub record CountsOf (heap : TableSeen) (counts : RootCounts) : Type 0 where
   pub root : RootSeen
   pub of_heap : root.table ≡ heap.table
-  pub counted : Counted root.view counts
+  pub counted : HasCounted root.view counts
 
 -- The heap's root gave the thread the lowest number that nobody had, and the log that such a thread begins with; the
 -- count that is told is of all registrations before.
-pub record Registers (heap : TableSeen) (mutator : FrameSeen Global) (before : ℕ) : Type 0 where
+pub record RegistersHere (heap : TableSeen) (mutator : FrameSeen Global) (before : ℕ) : Type 0 where
   pub root : RootSeen
   pub of_heap : root.table ≡ heap.table
   pub thread : mutator.seat.thread ≡ next_thread root.view
@@ -43,18 +40,18 @@ pub record Registers (heap : TableSeen) (mutator : FrameSeen Global) (before : �
 
 -- Nobody is registered: another call had the root, or the heap's root has no number for a thread more, or memory was
 -- missing.
-abbrev pub Refuses : TableSeen → Fault → Type 0
-Refuses heap faults.Busy = Unit {0}
-Refuses heap faults.TooManyThreads =
+abbrev pub RefusesHere : TableSeen → Fault → Type 0
+RefusesHere heap faults.Busy = Unit {0}
+RefusesHere heap faults.TooManyThreads =
     (root : RootSeen) × (root.table ≡ heap.table) × RefusesThread root faults.TooManyThreads
-Refuses heap faults.OutOfMemory = Unit {0}
-Refuses heap _ = ⊥
+RefusesHere heap faults.OutOfMemory = Unit {0}
+RefusesHere heap _ = ⊥
 
 -- the heap's root took in what the thread did, and had counted so much then
-pub record Gathers (heap : TableSeen) (retired : RetiredSeen Global) (counts : Counts) : Type 0 where
+pub record GathersHere (heap : TableSeen) (retired : RetiredSeen Global) (counts : RootCounts) : Type 0 where
   pub root : RootSeen
   pub of_heap : root.table ≡ heap.table
-  pub counted : Counted (gathering root.view (view_of retired.seat)) counts
+  pub counted : HasCounted (gathering root.view (view_of retired.seat)) counts
 
 -- the report is of the last state of the one run of all threads, each of which the heap's root registered and gathered
 pub record ClosesAs (heap : TableSeen) (report : Report Global) : Type 0 where
@@ -69,7 +66,7 @@ HasGatheredAll heap = (root : RootSeen) × (root.table ≡ heap.table) × (regis
 
 -- Why a heap is open still: another call had the root; or the heap's root has gathered another number of threads than it
 -- registered, and both are told; or it has gathered all, and others lead to the heap.
-abbrev pub IsOpenBy : TableSeen → StaysOpen → Type 0
+abbrev pub IsOpenBy : TableSeen → NotClosed → Type 0
 IsOpenBy heap reasons.Busy = Unit {0}
 IsOpenBy heap (reasons.Missing registered gathered) =
     (root : RootSeen) × (root.table ≡ heap.table) × (registrations root.view ≢ gatherings root.view)

@@ -7,7 +7,7 @@
 #![tactic(auto)]
 
 mod desk;
-mod kept;
+mod inner;
 mod shared;
 
-pub use shared::{Counts, Shared, Stays, StaysOpen};
+pub use shared::{NotClosed, RootCounts, Shared, Stays};

@@ -5,9 +5,9 @@ ghost use Rattle.brc_words.specs.declared.fault.Fault.TheVariants as faults;
 ghost use Rattle.brc_count.specs.law.world.Heap.{AreOptions};
 ghost use Rattle.brc_count.specs.Frames.{IsUnlocked, first_word, ledger_seen};
 ghost use Rattle.brc_thread.specs.Counting.{registrations, gatherings};
-ghost use Rattle.brc_shared.specs.Shared.{Counted, CountsOf, Registers, Refuses, Gathers, ClosesAs, StaysAs};
+ghost use Rattle.brc_shared.specs.Shared.{HasCounted, CountsOf, RegistersHere, RefusesHere, GathersHere, ClosesAs, StaysAs};
 
-use crate::kept::Kept;
+use crate::inner::Inner;
 use brc_close::{NoReport, close_or_end};
 use brc_count::Ledger;
 use brc_count::biased::Home;
@@ -23,7 +23,7 @@ use std::sync::Arc;
 /// its blocks is freed without a report.
 #[derive(Drop)]
 pub struct Shared {
-    kept: Arc<Kept, Global>,
+    inner: Arc<Inner, Global>,
 }
 
 impl Model for Shared {
@@ -32,20 +32,20 @@ impl Model for Shared {
 
     ghost Value = { TableSeen };
 
-    ghost view = { λ s. (arc_value s.kept).heap };
+    ghost view = { λ s. (arc_value s.inner).heap };
 }
 
 impl Home<Global> for Shared {
     ghost seen = { λ s. s };
 
     fn table(&self) -> &HeapTable<Global> {
-        self.kept.heap.table()
+        self.inner.heap.table()
     }
 }
 
 /// What a heap's root had counted at one moment.
 #[derive(Clone, Copy, Debug)]
-pub struct Counts {
+pub struct RootCounts {
     /// How many threads were registered, also those whose numbers were given again: 65,536 at most.
     pub registered: u32,
     /// How many of them were gathered.
@@ -56,10 +56,10 @@ pub struct Counts {
 
 /// Why a heap isn't closed.
 #[derive(Clone, Copy, Debug, PartialEq, Eq)]
-pub enum StaysOpen {
+pub enum NotClosed {
     /// Another call has the root at this moment.
     Busy,
-    /// Not every thread that was registered is gathered. Both numbers count registrations, as in `Counts`.
+    /// Not every thread that was registered is gathered. Both numbers count registrations, as in `RootCounts`.
     Missing { registered: u32, gathered: u32 },
     /// Every thread is gathered, and another `Shared` leads to the heap.
     Held,
@@ -68,7 +68,7 @@ pub enum StaysOpen {
 /// Why `close` has no report.
 pub enum Stays {
     /// Nothing was done: the same heap is handed back, with the reason.
-    Open(Shared, StaysOpen),
+    Open(Shared, NotClosed),
     /// Memory for the report was missing. The heap has ended, and the memory of its blocks is freed.
     Memory,
 }
@@ -83,11 +83,11 @@ impl Shared {
         ensures refused { IfErr result (λ fault. (fault ≡ faults.BadOptions) ⊎ (fault ≡ faults.OutOfMemory)) }
     {
         let (heap, root) = Heap::new(alloc, options)?;
-        let Some(kept) = Kept::new(alloc, heap, root) else {
+        let Some(inner) = Inner::new(alloc, heap, root) else {
             return Err(Fault::OutOfMemory);
         };
-        match Arc::new(alloc, kept) {
-            Ok(kept) => Ok(Shared { kept }),
+        match Arc::new(alloc, inner) {
+            Ok(inner) => Ok(Shared { inner }),
             Err(_) => Err(Fault::OutOfMemory),
         }
     }
@@ -96,8 +96,8 @@ impl Shared {
     pub fn again(&self) -> Result<Shared, AllocError>
         ensures same { IfOk result (λ more. more ≡ self.now) }
     {
-        match Arc::try_clone(&self.kept) {
-            Ok(kept) => Ok(Shared { kept }),
+        match Arc::try_clone(&self.inner) {
+            Ok(inner) => Ok(Shared { inner }),
             Err(refused) => Err(refused),
         }
     }
@@ -107,15 +107,15 @@ impl Shared {
     /// Then as `Root::register`: TooManyThreads, and OutOfMemory. A refusal registers nobody.
     pub fn register(&self, alloc: Global) -> Result<(Mutator<Shared, Global>, u32), Fault>
         ensures heap { IfOk result (λ made. made.0.heap ≡ self.now) }
-        ensures registers { IfOk result (λ made. Registers self.now made.0 made.1) }
+        ensures registers { IfOk result (λ made. RegistersHere self.now made.0 made.1) }
         ensures idle { IfOk result (λ made. (made.0.len ≡ 0) × (made.0.works ≡ [])) }
         ensures unlocked { IfOk result (λ made. IsUnlocked made.0) }
         ensures first { IfOk result (λ made. (made.0.from ≡ first_word) × (made.0.near ≡ false)) }
         ensures ledger { IfOk result (λ made. ledger_seen made.0 ≡ record { allocs = 0; frees = 0 }) }
 
-        ensures refused { IfErr result (Refuses self.now) }
+        ensures refused { IfErr result (RefusesHere self.now) }
     {
-        let Some((root, clerk)) = self.kept.take() else {
+        let Some((root, clerk)) = self.inner.take() else {
             return Err(Fault::Busy);
         };
         let mut root = root;
@@ -124,7 +124,7 @@ impl Shared {
             Ok(shared) => root.register(alloc, shared),
             Err(_) => Err(Fault::OutOfMemory),
         };
-        self.kept.put(root, clerk);
+        self.inner.put(root, clerk);
         match made {
             Ok(mutator) => Ok((mutator, before)),
             Err(fault) => Err(fault),
@@ -133,30 +133,30 @@ impl Shared {
 
     /// Takes in a thread of this heap that is done: the root's counts with it. If another call has the root at this
     /// moment, the thread is handed back as it was, to be tried again.
-    pub fn gather(&self, retired: Retired<Global>) -> Result<Counts, Retired<Global>>
+    pub fn gather(&self, retired: Retired<Global>) -> Result<RootCounts, Retired<Global>>
         requires heap { retired.heap ≡ self.now }
-        ensures gathers { IfOk result (Gathers self.now retired) }
+        ensures gathers { IfOk result (GathersHere self.now retired) }
         ensures back { IfErr result (λ back. back ≡ retired) }
     {
-        let Some((root, clerk)) = self.kept.take() else {
+        let Some((root, clerk)) = self.inner.take() else {
             return Err(retired);
         };
         let mut root = root;
-        root.gather(&self.kept.heap, retired);
+        root.gather(&self.inner.heap, retired);
         let counts = counts_of(&root);
-        self.kept.put(root, clerk);
+        self.inner.put(root, clerk);
         Ok(counts)
     }
 
     /// What the root has counted; None if another call has the root at this moment.
-    pub fn counts(&self) -> Option<Counts>
+    pub fn counts(&self) -> Option<RootCounts>
         ensures counts { IfSome result (CountsOf self.now) }
     {
-        let Some((root, clerk)) = self.kept.take() else {
+        let Some((root, clerk)) = self.inner.take() else {
             return None;
         };
         let counts = counts_of(&root);
-        self.kept.put(root, clerk);
+        self.inner.put(root, clerk);
         Some(counts)
     }
 
@@ -167,14 +167,14 @@ impl Shared {
         ensures report { IfOk result (ClosesAs self) }
         ensures stays { IfErr result (StaysAs self) }
     {
-        let Some((root, clerk)) = self.kept.take() else {
-            return Err(Stays::Open(self, StaysOpen::Busy));
+        let Some((root, clerk)) = self.inner.take() else {
+            return Err(Stays::Open(self, NotClosed::Busy));
         };
         let registered = root.registered();
         let gathered = root.gathered();
         if registered != gathered {
-            self.kept.put(root, clerk);
-            let missing = StaysOpen::Missing {
+            self.inner.put(root, clerk);
+            let missing = NotClosed::Missing {
                 registered,
                 gathered,
             };
@@ -182,22 +182,22 @@ impl Shared {
         }
         // The root stays in hand until it is known whether others lead to the heap: so nobody is registered between the
         // look at its counts and its end.
-        let Shared { kept } = self;
-        match Arc::try_unwrap(kept) {
-            Ok(kept) => close_all(alloc, kept.into_heap(), root),
-            Err(kept) => {
-                kept.put(root, clerk);
-                Err(Stays::Open(Shared { kept }, StaysOpen::Held))
+        let Shared { inner } = self;
+        match Arc::try_unwrap(inner) {
+            Ok(inner) => close_all(alloc, inner.into_heap(), root),
+            Err(inner) => {
+                inner.put(root, clerk);
+                Err(Stays::Open(Shared { inner }, NotClosed::Held))
             }
         }
     }
 }
 
 /// What a root has counted.
-fn counts_of(root: &Root<Global>) -> Counts
-    ensures { Counted root.now.view result }
+fn counts_of(root: &Root<Global>) -> RootCounts
+    ensures { HasCounted root.now.view result }
 {
-    Counts {
+    RootCounts {
         registered: root.registered(),
         gathered: root.gathered(),
         ledger: root.ledger(),

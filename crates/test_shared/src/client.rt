@@ -4,7 +4,7 @@ ghost use Rattle.std.specs.Prelude.{◌≡◌};
 ghost use Rattle.brc_heap.specs.Words.{IsUnlocked};
 
 use brc_heap::Fault;
-use brc_shared::{Counts, Shared};
+use brc_shared::{RootCounts, Shared};
 use brc_thread::{Mutator, Retired};
 use std::alloc::Global;
 use std::sync::Wait;
@@ -22,7 +22,7 @@ pub(crate) struct Client {
 }
 
 /// The thread is gathered at the desk of its heap. Each try finds the root there or doesn't; nobody has it for long.
-fn gathers(rt: &impl Wait, desk: &Shared, retired: Retired<Global>) -> Counts
+fn gathers(rt: &impl Wait, desk: &Shared, retired: Retired<Global>) -> RootCounts
     requires heap { retired.heap ≡ desk.now }
 {
     let mut retired = retired;
@@ -58,7 +58,7 @@ impl Client {
     }
 
     /// The thread leaves, and is gathered where it was registered: what the root has counted then.
-    pub(crate) fn end(self, rt: &impl Wait) -> Counts {
+    pub(crate) fn end(self, rt: &impl Wait) -> RootCounts {
         let Client {
             mutator,
             desk,

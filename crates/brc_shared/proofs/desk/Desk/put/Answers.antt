@@ -12,6 +12,6 @@ store-requires c =
       c.exchange.ensures.0 ∙ c.requires.clerk.0,
       omega (arith, c.args.self.now.one.0),
       subst (λ m. tables.Allows (AtDesk shared.key) shared.table_id.slots c.exchange.new.seat.id m 0 (λ found. 0)
-        (λ found. PutsRoot (tables.step shared.table_id.slots 0 0 0 none) m 0))
-      (sym me) (allows shared.key shared.table_id.slots c.exchange.new.seat.id c.args.root c.requires.of_heap),
+          (λ found. PutsRoot (tables.step shared.table_id.slots 0 0 0 none) m 0))
+          (sym me) (allows shared.key shared.table_id.slots c.exchange.new.seat.id c.args.root c.requires.of_heap),
     )

@@ -8,28 +8,28 @@ use std::alloc::Global;
 use std::marker::Model;
 
 /// A heap with the desk of its root.
-pub(crate) struct Kept {
+pub(crate) struct Inner {
     pub(crate) heap: Heap<Global>,
     desk: Desk,
     ghost same: { desk.table.shared.key ≡ heap },
 }
 
-impl Model for Kept {
-    ghost use Rattle.brc_shared.specs.Desk.{KeptSeen};
+impl Model for Inner {
+    ghost use Rattle.brc_shared.specs.Desk.{InnerSeen};
 
-    ghost Value = { KeptSeen };
+    ghost Value = { InnerSeen };
 
-    ghost view = { λ k. record { heap = k.heap; desk = k.desk.table.shared.table_id } };
+    ghost view = { λ i. record { heap = i.heap; desk = i.desk.table.shared.table_id } };
 }
 
-impl Kept {
+impl Inner {
     /// The heap with its root at a desk. None if memory for the desk is missing: then the heap is taken apart.
-    pub(crate) fn new(alloc: Global, heap: Heap<Global>, root: Root<Global>) -> Option<Kept>
+    pub(crate) fn new(alloc: Global, heap: Heap<Global>, root: Root<Global>) -> Option<Inner>
         requires heap { root.table ≡ heap.table }
-        ensures heap { IfSome result (λ kept. kept.heap ≡ heap) }
+        ensures heap { IfSome result (λ inner. inner.heap ≡ heap) }
     {
         match Desk::new(alloc, &heap, root) {
-            Ok(desk) => Some(Kept { heap, desk }),
+            Ok(desk) => Some(Inner { heap, desk }),
             Err(root) => {
                 give_back(take_apart(heap, root));
                 None
@@ -58,14 +58,14 @@ impl Kept {
     pub(crate) fn into_heap(self) -> Heap<Global>
         ensures heap { result ≡ self.heap }
     {
-        let Kept { heap, desk } = self;
+        let Inner { heap, desk } = self;
         desk.end();
         heap
     }
 }
 
 /// A heap that nobody closed: the memory of its blocks is freed.
-impl Drop for Kept {
+impl Drop for Inner {
     fn drop(self) {
         give_back(self.into_heap().abandon());
     }
