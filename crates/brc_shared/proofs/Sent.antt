@@ -1,7 +1,7 @@
 -- A shared heap goes to another thread of the machine, and is shared with it, since its heap and its root are. The search
 -- for this is cut at each type on the way, as in `brc_thread`: what a seat gives back are blocks, and a block's type is a
 -- cycle.
-use denote.Param.Send.{IsSend, IsSync, sendable}
+use denote.Param.Send.{IsSend, IsSync, sendable, view_send, view_sync}
 use denote.RattleType.{RattleType}
 use denote.Hole.{as_row}
 use denote.Struct.Field.{u32-field}
@@ -27,6 +27,7 @@ use Rattle.brc_thread.specs.contracts.root.Root as Root
 use Rattle.brc_thread.proofs.Sent.{heap_sync}
 use Rattle.brc_shared.specs.contracts.desk.Desk as Desk
 use Rattle.brc_shared.specs.contracts.inner.Inner as Inner
+use Rattle.brc_shared.specs.contracts.inner.Inner.TheInside as Inside
 use Rattle.brc_shared.specs.contracts.shared.Shared as Shared
 
 -- ---- a block
@@ -76,17 +77,29 @@ root_send = search (sendable, crosses, root_seat_send) depth 40
 
 -- ---- the desk, and what lies behind the count
 
-desk_send : IsSend Desk.the_row
+desk_send : IsSend Desk.the_field.row
 desk_send = search (sendable, crosses, option.the_send, table.the_field_send, root_send) depth 40
 
-desk_sync : IsSync Desk.the_row
+desk_sync : IsSync Desk.the_field.row
 desk_sync = search (sendable, crosses, option.the_send, table.the_field_sync, root_send) depth 40
 
+heap_part_send : IsSend (Heap.the_field Global.the_row ghosts).row
+heap_part_send = heap_send
+
+heap_part_sync : IsSync (Heap.the_field Global.the_row ghosts).row
+heap_part_sync = heap_sync
+
+inside_send : IsSend Inside.the_row
+inside_send = search (sendable, crosses, heap_part_send, desk_send) depth 40
+
+inside_sync : IsSync Inside.the_row
+inside_sync = search (sendable, crosses, heap_part_sync, desk_sync) depth 40
+
 inner_send : IsSend Inner.the_row
-inner_send = search (sendable, crosses, heap_send, desk_send) depth 40
+inner_send = view_send Inside.the_row _ _ _ _ inside_send
 
 inner_sync : IsSync Inner.the_row
-inner_sync = search (sendable, crosses, heap_sync, desk_sync) depth 40
+inner_sync = view_sync Inside.the_row _ _ _ _ inside_sync
 
 pub shared_send : IsSend Shared.the_row
 shared_send = search (sendable, crosses, inner_send, inner_sync) depth 40
