@@ -1,5 +1,5 @@
 -- The root's desk opens with its rule, and a taking and a putting keep it.
-use Rattle.std.proofs.Common.{◌≡◌, ℕ, zero, suc, List, [], ◌∷◌, ◌++◌, Option, Some, None, length, set, get_or, refl, sym, ◌∙◌, ap, subst}
+use Rattle.std.proofs.Common.{◌≡◌, ℕ, zero, suc, List, [], ◌∷◌, ◌++◌, Option, Some, length, set, refl, sym, ◌∙◌, ap}
 use Rattle.std.proofs.Common.{inl, inr, arith, ⊎_elim}
 use Rattle.std.proofs.lemmas.Bool.{cases_eq}
 use Rattle.std.specs.Prelude.{slice_index}

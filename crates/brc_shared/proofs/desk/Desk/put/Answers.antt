@@ -1,4 +1,4 @@
-use Rattle.std.proofs.Common.{◌≡◌, ◌∙◌, ap, sym, subst, arith, [], ◌∷◌, Some}
+use Rattle.std.proofs.Common.{◌∙◌, ap, sym, subst, arith, ◌∷◌, Some}
 use mathlib.Core.Option.{none}
 use Rattle.atomic_table.specs.Table as tables
 use Rattle.brc_shared.specs.Desk.{AtDesk, PutsRoot}

@@ -1,4 +1,4 @@
-use Rattle.std.proofs.Common.{◌≡◌, ◌∙◌, ap, sym, arith, [], ◌∷◌, Some}
+use Rattle.std.proofs.Common.{◌∙◌, ap, sym, arith, ◌∷◌, Some}
 use Rattle.atomic_table.specs.Table as tables
 use Rattle.brc_shared.proofs.desk.Desk.take.Goals as goal
 
