@@ -1,0 +1,2 @@
+pub mod At_Desk
+pub mod Sent

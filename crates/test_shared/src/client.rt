@@ -1,0 +1,70 @@
+//! A thread of a shared heap as one value: it names no lifetime, so it can lie in any struct.
+
+ghost use Rattle.std.specs.Prelude.{◌≡◌};
+ghost use Rattle.brc_heap.specs.Words.{IsUnlocked};
+
+use brc_heap::Fault;
+use brc_shared::{RootCounts, Shared};
+use brc_thread::{Mutator, Retired};
+use std::alloc::Global;
+use std::sync::Wait;
+use std::thread;
+
+/// A thread between two of its tasks, with the desk at which it was registered. It has no handle.
+pub(crate) struct Client {
+    pub(crate) mutator: Mutator<Shared, Global>,
+    desk: Shared,
+    /// How many were registered before it.
+    pub(crate) number: u32,
+    ghost same: { mutator.heap ≡ desk },
+    ghost bare: { mutator.len ≡ 0 },
+    ghost unlocked: { IsUnlocked mutator },
+}
+
+/// The thread is gathered at the desk of its heap. Each try finds the root there or doesn't; nobody has it for long.
+fn gathers(rt: &impl Wait, desk: &Shared, retired: Retired<Global>) -> RootCounts
+    requires heap { retired.heap ≡ desk.now }
+{
+    let mut retired = retired;
+    for _ in rt.forever() {
+        match desk.gather(retired) {
+            Ok(counts) => return counts,
+            Err(back) => {
+                retired = back;
+                thread::yield_now();
+            }
+        }
+    }
+    unreachable!()
+}
+
+impl Client {
+    /// The next thread of the heap. It is tried again while another call has the root.
+    pub(crate) fn register(rt: &impl Wait, alloc: Global, desk: Shared) -> Result<Client, Fault> {
+        for _ in rt.forever() {
+            match desk.register(alloc) {
+                Ok((mutator, number)) => {
+                    return Ok(Client {
+                        mutator,
+                        desk,
+                        number,
+                    });
+                }
+                Err(Fault::Busy) => thread::yield_now(),
+                Err(fault) => return Err(fault),
+            }
+        }
+        unreachable!()
+    }
+
+    /// The thread leaves, and is gathered where it was registered: what the root has counted then.
+    pub(crate) fn end(self, rt: &impl Wait) -> RootCounts {
+        let Client {
+            mutator,
+            desk,
+            number: _number,
+        } = self;
+        let retired = mutator.retire(rt);
+        gathers(rt, &desk, retired)
+    }
+}

@@ -1,0 +1,121 @@
+//! Threads of the machine, each with a `Shared` of its own.
+
+ghost use Rattle.std.specs.Prelude.{◌≡◌};
+ghost use Rattle.brc_heap.specs.Words.{IsUnlocked, Keeps};
+
+use crate::client::Client;
+use crate::sessions::{asks, opens};
+use brc_count::Frame;
+use brc_shared::Shared;
+use std::alloc::Global;
+use std::sync::Wait;
+use std::thread;
+use std::thread::Threads;
+
+/// How many threads of the machine there are.
+const CREW: i64 = 8;
+
+/// How many lives each has, one after the other.
+const LIVES: u32 = 50;
+
+/// What one thread of the machine begins with.
+#[derive(Drop)]
+struct Job {
+    shared: Shared,
+    key: i64,
+}
+
+/// What became of lives.
+#[derive(Clone, Copy)]
+pub(crate) struct Lived {
+    /// How many had all that they asked for.
+    pub(crate) whole: u32,
+    /// The numbers of their registrations, added up.
+    pub(crate) numbers: u32,
+}
+
+impl Lived {
+    /// Nobody has lived.
+    const NOTHING: Lived = Lived {
+        whole: 0,
+        numbers: 0,
+    };
+
+    /// What became of both.
+    fn and(self, later: Lived) -> Lived {
+        Lived {
+            whole: self.whole.saturating_add(later.whole),
+            numbers: self.numbers.saturating_add(later.numbers),
+        }
+    }
+}
+
+/// A thread opens its session, and writes to its own and to its neighbour's: whether it opened one and wrote to its own.
+fn works(rt: &impl Wait, alloc: Global, frame: &mut Frame<Shared, Global>, key: i64) -> bool
+    requires unlocked { IsUnlocked frame.old }
+    ensures keeps { Keeps frame.old frame.new }
+    ensures unlocked { IsUnlocked frame.new }
+{
+    let Ok(globals) = frame.globals() else {
+        return false;
+    };
+    let opened = opens(rt, alloc, frame, &globals, key);
+    let own = asks(rt, alloc, frame, &globals, key, 1_000);
+    // The neighbour may not have opened one yet.
+    let _other = asks(rt, alloc, frame, &globals, (key + 1) % CREW, 2_000);
+    frame.release(globals);
+    opened.is_some() && own.is_some()
+}
+
+/// One life: it is registered, works, leaves and is gathered.
+fn lives(rt: &impl Wait, alloc: Global, job: &Job) -> Lived {
+    let Ok(desk) = job.shared.again() else {
+        return Lived::NOTHING;
+    };
+    let Ok(mut client) = Client::register(rt, alloc, desk) else {
+        return Lived::NOTHING;
+    };
+    let is_whole = works(rt, alloc, client.mutator.frame(), job.key);
+    let number = client.number;
+    let _counts = client.end(rt);
+    Lived {
+        whole: is_whole as u32,
+        numbers: number,
+    }
+}
+
+/// All lives of one thread of the machine.
+fn lives_all(rt: &impl Wait, alloc: Global, job: Job) -> Lived {
+    let mut lived = Lived::NOTHING;
+    for _ in 0..LIVES {
+        lived = lived.and(lives(rt, alloc, &job));
+    }
+    lived
+}
+
+/// The jobs of all threads of the machine; those before one that can't be had.
+fn jobs(alloc: Global, shared: &Shared) -> Vec<Job> {
+    let mut jobs = Vec::new(alloc);
+    for key in 0..CREW {
+        match shared.again() {
+            Ok(shared) => {
+                let _pushed = jobs.push(Job { shared, key });
+            }
+            Err(_) => {}
+        }
+    }
+    jobs
+}
+
+/// All live, each on a thread of the machine: what became of them together.
+pub(crate) fn all_live<R: Threads + Wait + Sync>(rt: &R, alloc: Global, shared: &Shared) -> Lived {
+    let jobs = jobs(alloc, shared);
+    let Ok(all) = thread::map_vec(rt, jobs, &|job| lives_all(rt, alloc, job)) else {
+        return Lived::NOTHING;
+    };
+    let mut lived = Lived::NOTHING;
+    for one in all {
+        lived = lived.and(one);
+    }
+    lived
+}

@@ -1,0 +1,49 @@
+//! A heap that threads share by a count: none of them names a lifetime, and nobody keeps the root.
+//!
+//! Eight threads of the machine each have a `Shared`, and live fifty lives one after the other. In each they are registered
+//! at the desk, open a session in the globals, write to their neighbour's, leave, and are gathered by themselves. At last
+//! the globals are cleared and the heap is closed; its report has no object left.
+#![tactic(auto)]
+
+mod client;
+mod crew;
+mod refusals;
+mod sessions;
+
+use brc_heap::{Options, Report, write_report};
+use brc_shared::{Shared, Stays};
+use crew::all_live;
+use refusals::{clears, shows_refusals};
+use std::alloc::Global;
+use std::io;
+
+/// The report's text, or why there is none.
+fn shows(rt: &HostRuntime, closed: Result<Report<Global>, Stays>) -> io::Result<()> {
+    match closed {
+        Ok(report) => match write_report(&report, &mut rt.stdout()) {
+            Ok(()) => Ok(()),
+            Err(_) => println!(rt; "not written"),
+        },
+        Err(Stays::Open(_shared, reason)) => println!(rt; "still open: {reason:?}"),
+        Err(Stays::Memory) => println!(rt; "no memory for the report"),
+    }
+}
+
+fn main(rt: HostRuntime) -> io::Result<()> {
+    let Ok(shared) = Shared::new(rt.alloc(), Options::USUAL) else {
+        return println!(rt; "no heap can be had");
+    };
+    let Some(shared) = shows_refusals(&rt, rt.alloc(), shared)? else {
+        return println!(rt; "the heap is gone");
+    };
+    let lived = all_live(&rt, rt.alloc(), &shared);
+    println!(rt; "lives {}, numbers {}", lived.whole, lived.numbers)?;
+    println!(rt; "cleared {}", clears(&rt, rt.alloc(), &shared))?;
+    if let Some(counts) = shared.counts() {
+        println!(rt;
+            "registered {}, gathered {}",
+            counts.registered, counts.gathered
+        )?;
+    }
+    shows(&rt, shared.close(rt.alloc()))
+}
