@@ -11,6 +11,7 @@ use brc_count::biased::Home;
 use brc_count::{Frame, Handle};
 use brc_loops::{Passing, Source, pass_on};
 use brc_things::new_list;
+use brc_words::MOST_PLACES;
 use std::alloc::Allocator;
 use std::io;
 use std::rt::Clock;
@@ -67,7 +68,12 @@ impl<'r, R: Wait, H: Home<A>, A: Allocator + Copy> Source<H, A> for Chains<'r, R
             alloc: _alloc,
             chain,
         } = pass_on(linking, frame, self.count.saturating_sub(1))?;
-        Some(chain)
+        // (a place of the frame, but no clause of a trade says so)
+        if chain.place() < MOST_PLACES {
+            return Some(chain);
+        }
+        frame.release(chain);
+        None
     }
 }
 

@@ -9,6 +9,7 @@ module _ {A : Type 0} (old made written : FrameSeen A) (session : HandleSeen) wh
     len = keeps.len ∙ gains.len;
     owns = λ h is. keeps.owns h (gains.owns h is);
     owned = keeps.owns session gains.owned;
+    room = gains.room;
     apart = gains.apart;
   }
 
