@@ -4,7 +4,7 @@ ghost use Rattle.std.specs.Prelude.{◌≡◌};
 ghost use Rattle.brc_heap.specs.Words.{IsUnlocked, Keeps};
 
 use crate::client::Client;
-use crate::sessions::{asks, opens};
+use crate::sessions::{asks, opens, opens_each};
 use brc_count::Frame;
 use brc_shared::Shared;
 use std::alloc::Global;
@@ -13,7 +13,7 @@ use std::thread;
 use std::thread::Threads;
 
 /// How many threads of the machine there are.
-const CREW: i64 = 8;
+const CREW: u32 = 8;
 
 /// How many lives each has, one after the other.
 const LIVES: u32 = 50;
@@ -22,7 +22,7 @@ const LIVES: u32 = 50;
 #[derive(Drop)]
 struct Job {
     shared: Shared,
-    key: i64,
+    key: u32,
 }
 
 /// What became of lives.
@@ -50,8 +50,8 @@ impl Lived {
     }
 }
 
-/// A thread opens its session, and writes to its own and to its neighbour's: whether it opened one and wrote to its own.
-fn works(rt: &impl Wait, alloc: Global, frame: &mut Frame<Shared, Global>, key: i64) -> bool
+/// A thread opens its session, and writes to its neighbour's: whether it could.
+fn works(rt: &impl Wait, alloc: Global, frame: &mut Frame<Shared, Global>, key: u32) -> bool
     requires unlocked { IsUnlocked frame.old }
     ensures keeps { Keeps frame.old frame.new }
     ensures unlocked { IsUnlocked frame.new }
@@ -59,12 +59,38 @@ fn works(rt: &impl Wait, alloc: Global, frame: &mut Frame<Shared, Global>, key: 
     let Ok(globals) = frame.globals() else {
         return false;
     };
-    let opened = opens(rt, alloc, frame, &globals, key);
-    let own = asks(rt, alloc, frame, &globals, key, 1_000);
-    // The neighbour may not have opened one yet.
-    let _other = asks(rt, alloc, frame, &globals, (key + 1) % CREW, 2_000);
+    let neighbour = (key % CREW + 1) % CREW;
+    let opened = opens(rt, alloc, frame, &globals, i64::from(key));
+    let asked = asks(rt, alloc, frame, &globals, i64::from(neighbour), 1_000);
     frame.release(globals);
-    opened.is_some() && own.is_some()
+    opened.is_some() && asked.is_some()
+}
+
+/// A session is opened for each: whether all are.
+fn opens_first(rt: &impl Wait, alloc: Global, frame: &mut Frame<Shared, Global>) -> bool
+    requires unlocked { IsUnlocked frame.old }
+    ensures keeps { Keeps frame.old frame.new }
+    ensures unlocked { IsUnlocked frame.new }
+{
+    let Ok(globals) = frame.globals() else {
+        return false;
+    };
+    let opened = opens_each(rt, alloc, frame, &globals, CREW);
+    frame.release(globals);
+    opened
+}
+
+/// A thread of its own opens a session for each, so that every later one finds its neighbour's: whether it could.
+pub(crate) fn opens_all(rt: &impl Wait, alloc: Global, shared: &Shared) -> bool {
+    let Ok(desk) = shared.again() else {
+        return false;
+    };
+    let Ok(mut client) = Client::register(rt, alloc, desk) else {
+        return false;
+    };
+    let opened = opens_first(rt, alloc, client.mutator.frame());
+    let _counts = client.end(rt);
+    opened
 }
 
 /// One life: it is registered, works, leaves and is gathered.

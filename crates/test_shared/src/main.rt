@@ -1,6 +1,7 @@
 //! A heap that threads share by a count: none of them names a lifetime, and nobody keeps the root.
 //!
-//! Eight threads of the machine each have a `Shared`, and live fifty lives one after the other. In each they are registered
+//! One thread opens eight sessions in the globals. Then eight threads of the machine, each with a `Shared`, live fifty lives
+//! one after the other. In each they are registered
 //! at the desk, open a session in the globals, write to their neighbour's, leave, and are gathered by themselves. At last
 //! the globals are cleared and the heap is closed; its report has no object left.
 #![tactic(auto)]
@@ -12,7 +13,7 @@ mod sessions;
 
 use brc_heap::{Options, Report, write_report};
 use brc_shared::{Shared, Stays};
-use crew::all_live;
+use crew::{all_live, opens_all};
 use refusals::{clears, shows_refusals};
 use std::alloc::Global;
 use std::io;
@@ -36,6 +37,7 @@ fn main(rt: HostRuntime) -> io::Result<()> {
     let Some(shared) = shows_refusals(&rt, rt.alloc(), shared)? else {
         return println!(rt; "the heap is gone");
     };
+    println!(rt; "opened {}", opens_all(&rt, rt.alloc(), &shared))?;
     let lived = all_live(&rt, rt.alloc(), &shared);
     println!(rt; "lives {}, numbers {}", lived.whole, lived.numbers)?;
     println!(rt; "cleared {}", clears(&rt, rt.alloc(), &shared))?;

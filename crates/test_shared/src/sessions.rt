@@ -1,7 +1,8 @@
 //! Sessions in the globals, one for each thread of the machine: a list of what was asked there. It outlives the thread of
 //! the heap that opened it.
 
-ghost use Rattle.brc_heap.specs.Words.{IsUnlocked, Keeps, Owns};
+ghost use Rattle.std.specs.Prelude.{IfSome, IfNone};
+ghost use Rattle.brc_heap.specs.Words.{Gains, IsUnlocked, Keeps, Owns};
 
 use brc_count::Frame;
 use brc_heap::{Handle, Key, dict_find, dict_put, list_push, new_int, new_list};
@@ -9,7 +10,45 @@ use brc_shared::Shared;
 use std::alloc::Global;
 use std::sync::Wait;
 
-/// A new session takes the place of the one that is there under this key, which is released. None if it can't be had.
+/// A request becomes the last entry of a session. None if it can't be had, or has no room there.
+fn writes(
+    rt: &impl Wait,
+    alloc: Global,
+    frame: &mut Frame<Shared, Global>,
+    session: &Handle,
+    request: i64,
+) -> Option<()>
+    requires owned { Owns frame.old session.now }
+    requires unlocked { IsUnlocked frame.old }
+    ensures keeps { Keeps frame.old frame.new }
+    ensures unlocked { IsUnlocked frame.new }
+{
+    let Ok(number) = new_int(alloc, frame, request) else {
+        return None;
+    };
+    match list_push(rt, frame, session, number) {
+        Ok(()) => Some(()),
+        Err(handed) => {
+            frame.release(handed.back);
+            None
+        }
+    }
+}
+
+/// A new session. None if it can't be had.
+fn new_session(alloc: Global, frame: &mut Frame<Shared, Global>) -> Option<Handle>
+    requires unlocked { IsUnlocked frame.old }
+    ensures gains { IfSome result (Gains frame.old frame.new) }
+    ensures keeps { IfNone result (Keeps frame.old frame.new) }
+    ensures unlocked { IsUnlocked frame.new }
+{
+    match new_list(alloc, frame) {
+        Ok(session) => Some(session),
+        Err(_) => None,
+    }
+}
+
+/// A new session takes the place of the one that is there under this key, which is released. None if it isn't put there.
 pub(crate) fn opens(
     rt: &impl Wait,
     alloc: Global,
@@ -22,7 +61,7 @@ pub(crate) fn opens(
     ensures keeps { Keeps frame.old frame.new }
     ensures unlocked { IsUnlocked frame.new }
 {
-    let Ok(session) = new_list(alloc, frame) else {
+    let Some(session) = new_session(alloc, frame) else {
         return None;
     };
     match dict_put(rt, frame, globals, Key::Int(key), session) {
@@ -38,8 +77,7 @@ pub(crate) fn opens(
     }
 }
 
-/// A request is written to the session that is there under this key, whoever opened it. None if it isn't written. It is
-/// made in each case, so that the ledger is the same whichever thread comes first.
+/// A request is written to the session that is there under this key, whoever opened it. None if it isn't written.
 pub(crate) fn asks(
     rt: &impl Wait,
     alloc: Global,
@@ -53,20 +91,31 @@ pub(crate) fn asks(
     ensures keeps { Keeps frame.old frame.new }
     ensures unlocked { IsUnlocked frame.new }
 {
-    let Ok(number) = new_int(alloc, frame, request) else {
-        return None;
-    };
     let Ok(session) = dict_find(rt, frame, globals, &Key::Int(key)) else {
-        frame.release(number);
         return None;
     };
-    let pushed = list_push(rt, frame, &session, number);
+    let written = writes(rt, alloc, frame, &session, request);
     frame.release(session);
-    match pushed {
-        Ok(()) => Some(()),
-        Err(handed) => {
-            frame.release(handed.back);
-            None
+    written
+}
+
+/// A session is opened under each key up to this one: whether all are.
+pub(crate) fn opens_each(
+    rt: &impl Wait,
+    alloc: Global,
+    frame: &mut Frame<Shared, Global>,
+    globals: &Handle,
+    last: u32,
+) -> bool
+    requires owned { Owns frame.old globals.now }
+    requires unlocked { IsUnlocked frame.old }
+    ensures keeps { Keeps frame.old frame.new }
+    ensures unlocked { IsUnlocked frame.new }
+{
+    for key in 0..last {
+        if opens(rt, alloc, frame, globals, i64::from(key)).is_none() {
+            return false;
         }
     }
+    true
 }
