@@ -58,6 +58,7 @@ pub struct Chains<'r, R, A> {
 }
 
 impl<'r, R: Wait, H: Home<A>, A: Allocator + Copy> Source<H, A> for Chains<'r, R, A> {
+    #[tactic(auto, using(crate::proofs::Chained::chained_gains, crate::proofs::Chained::chained_keeps))]
     fn next(&self, frame: &mut Frame<H, A>, _before: u64) -> Option<Handle<A>> {
         let rt = self.rt;
         let alloc = self.alloc;
