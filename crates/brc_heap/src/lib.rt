@@ -5,7 +5,7 @@
 //! released, and lists, dictionaries and mailboxes read and changed under their locks. A `Handle` is a reference; it
 //! must be given back, by `Frame::release` or by a call that takes it. `Handles` keeps many. A thread ends by
 //! `Mutator::retire`, `end` or `depart`; what it owns is handed over, and once the root gathers it its number is given
-//! again. A heap ends by `close_or_end`, with a report of what is left or why there is none; by `close`, which hands heap
+//! again. `Shared` is a heap by a count, with its root at a desk, for threads that can't name a lifetime. A heap ends by `close_or_end`, with a report of what is left or why there is none; by `close`, which hands heap
 //! and root back if a thread isn't gathered; or by `take_apart` and `give_back`.
 //!
 //! What contracts of a client cite stands in `specs/Words.antt`: which handles a frame owns before and after a call.
@@ -23,6 +23,10 @@ pub use brc_count::table::Rest;
 pub use brc_report::{Cells, Content, Remain, Report, check_report, write_report};
 pub use brc_thread::{Heap, Options, Resting, Retired, Root, give_back, take_apart};
 pub use fixed::{Leaving, Mutator};
+
+// a heap by a count, and its threads
+pub use brc_shared::{NotClosed, RootCounts, Shared, Stays};
+pub use fixed::SharedMutator;
 
 // references
 pub use brc_count::{Handed, Handle};

@@ -1,5 +1,5 @@
 -- Errands that were done one and all: each answer is one to its job.
-use Rattle.std.proofs.Common.{◌≡◌, ◌<◌, ◌+◌, ◌-◌, ℕ, zero, suc, take, ◌++◌, List, [], ◌∷◌, length, get_or, Option, Some, None, IsSome, is_some, arith, refl, sym, ap, subst, ◌∙◌}
+use Rattle.std.proofs.Common.{◌≡◌, ◌<◌, ◌+◌, ◌-◌, ℕ, take, ◌++◌, List, [], ◌∷◌, length, get_or, Option, Some, None, IsSome, is_some, arith, refl, sym, ap, subst, ◌∙◌}
 use Rattle.std.specs.Fn.{FnReturns, Shared}
 use Rattle.std.specs.Fork.{AcceptsJobs, GivesJobs}
 use Rattle.std.proofs.Math.Seq.{take-append_seam}

@@ -1,5 +1,5 @@
 -- Jobs that are done, each on a thread of the machine.
-use Rattle.std.specs.Prelude.{◌≡◌, ◌+◌, ◌<◌, ℕ, List, length, get_or, Option, Some, IsSome}
+use Rattle.std.specs.Prelude.{◌≡◌, ◌+◌, ◌<◌, ℕ, List, length, get_or, Some, IsSome}
 use Rattle.std.specs.Fn.{FnReturns, Shared}
 use Rattle.brc_loops.specs.declared.errands.Errand.{Errand}
 

@@ -39,9 +39,9 @@ pub enum GiveBy<'k> {
     Delete(KeyRef<'k>),
 }
 
-/// What the object's call gives.
+/// What the object's call gives, once no other thread has the object locked; so it never answers Busy.
 #[inline(always)]
-fn gave<H: Home<A>, A: Allocator>(
+pub fn give_by<H: Home<A>, A: Allocator>(
     rt: &impl Wait,
     frame: &mut Frame<H, A>,
     object: &Handle<A>,
@@ -65,9 +65,9 @@ fn gave<H: Home<A>, A: Allocator>(
     }
 }
 
-/// The same in the form that never waits.
+/// The same in the form that never waits: Busy, where another thread has the object locked, comes first.
 #[inline(always)]
-fn try_gave<H: Home<A>, A: Allocator>(
+pub fn try_give_by<H: Home<A>, A: Allocator>(
     frame: &mut Frame<H, A>,
     object: &Handle<A>,
     by: GiveBy<'_>,
@@ -116,7 +116,7 @@ pub fn give_at<H: Home<A>, A: Allocator>(
     if !is_there(handles, to) {
         return Err(Fault::NoSuchPlace);
     }
-    match gave(rt, frame, object, by) {
+    match give_by(rt, frame, object, by) {
         Err(fault) => Err(fault),
         Ok(given) => match place(frame, handles, to, given) {
             Ok(()) => Ok(()),
@@ -149,7 +149,7 @@ pub fn try_give_at<H: Home<A>, A: Allocator>(
     if !is_there(handles, to) {
         return Err(Fault::NoSuchPlace);
     }
-    match try_gave(frame, object, by) {
+    match try_give_by(frame, object, by) {
         Err(fault) => Err(fault),
         Ok(given) => match place(frame, handles, to, given) {
             Ok(()) => Ok(()),

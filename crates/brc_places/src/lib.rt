@@ -15,14 +15,19 @@ mod running;
 mod stack;
 mod taking;
 
+// by handle, the call as a value
+pub use giving::{GiveBy, give_by, try_give_by};
+pub use making::{Make, make_by};
+pub use taking::{TakeBy, take_by, try_take_by};
+
 // by place
-pub use giving::{GiveBy, give_at, try_give_at};
-pub use making::{Make, make_at};
+pub use giving::{give_at, try_give_at};
+pub use making::make_at;
 pub use placing::To;
 pub use reading::{
     int_at, kind_at, len_at, text_at, try_int_at, try_kind_at, try_len_at, try_text_at,
 };
-pub use taking::{TakeBy, take_at, try_take_at};
+pub use taking::{take_at, try_take_at};
 
 // from the last one
 pub use stack::Stack;

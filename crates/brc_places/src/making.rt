@@ -61,9 +61,9 @@ fn made_text<H: Home<A>, A: Allocator + Copy>(
     }
 }
 
-/// What is made.
+/// What is made. OutOfMemory for the copy of a text comes first, then what its maker answers (`brc_things`).
 #[inline(always)]
-fn made<H: Home<A>, A: Allocator + Copy>(
+pub fn make_by<H: Home<A>, A: Allocator + Copy>(
     alloc: A,
     frame: &mut Frame<H, A>,
     make: Make<'_>,
@@ -106,7 +106,7 @@ pub fn make_at<H: Home<A>, A: Allocator + Copy>(
     if !is_there(handles, to) {
         return Err(Fault::NoSuchPlace);
     }
-    match made(alloc, frame, make) {
+    match make_by(alloc, frame, make) {
         Err(fault) => Err(fault),
         Ok(given) => match place(frame, handles, to, given) {
             Ok(()) => Ok(()),

@@ -33,9 +33,10 @@ pub enum TakeBy<'k> {
     Put(KeyRef<'k>),
 }
 
-/// The value goes by the call, and what was there comes out; or it is handed back.
+/// The value goes by the call, once no other thread has the object locked, and what was there comes out; or it is handed
+/// back with the fault, which is never Busy.
 #[inline(always)]
-fn took<H: Home<A>, A: Allocator + Copy>(
+pub fn take_by<H: Home<A>, A: Allocator + Copy>(
     rt: &impl Wait,
     alloc: A,
     frame: &mut Frame<H, A>,
@@ -76,9 +77,9 @@ fn took<H: Home<A>, A: Allocator + Copy>(
     }
 }
 
-/// The same in the form that never waits.
+/// The same in the form that never waits: Busy, where another thread has the object locked, comes first.
 #[inline(always)]
-fn try_took<H: Home<A>, A: Allocator + Copy>(
+pub fn try_take_by<H: Home<A>, A: Allocator + Copy>(
     alloc: A,
     frame: &mut Frame<H, A>,
     object: &Handle<A>,
@@ -162,7 +163,7 @@ pub fn take_at<H: Home<A>, A: Allocator + Copy>(
         put_back(handles, value, given);
         return Err(Fault::NoSuchPlace);
     };
-    match took(rt, alloc, frame, object, by, given) {
+    match take_by(rt, alloc, frame, object, by, given) {
         Ok(None) => Ok(()),
         Ok(Some(old)) => {
             put_back(handles, value, old);
@@ -202,7 +203,7 @@ pub fn try_take_at<H: Home<A>, A: Allocator + Copy>(
         put_back(handles, value, given);
         return Err(Fault::NoSuchPlace);
     };
-    match try_took(alloc, frame, object, by, given) {
+    match try_take_by(alloc, frame, object, by, given) {
         Ok(None) => Ok(()),
         Ok(Some(old)) => {
             put_back(handles, value, old);

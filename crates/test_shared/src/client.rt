@@ -3,16 +3,14 @@
 ghost use Rattle.std.specs.Prelude.{◌≡◌};
 ghost use Rattle.brc_heap.specs.Words.{IsUnlocked};
 
-use brc_heap::Fault;
-use brc_shared::{RootCounts, Shared};
-use brc_thread::{Mutator, Retired};
+use brc_heap::{Fault, Retired, RootCounts, Shared, SharedMutator};
 use std::alloc::Global;
 use std::sync::Wait;
 use std::thread;
 
 /// A thread between two of its tasks, with the desk at which it was registered. It has no handle.
 pub(crate) struct Client {
-    pub(crate) mutator: Mutator<Shared, Global>,
+    pub(crate) mutator: SharedMutator,
     desk: Shared,
     /// How many were registered before it.
     pub(crate) number: u32,

@@ -6,7 +6,7 @@ ghost use Rattle.brc_heap.specs.Words.{IsUnlocked, Keeps};
 use crate::client::Client;
 use crate::sessions::{asks, opens, opens_each};
 use brc_count::Frame;
-use brc_shared::Shared;
+use brc_heap::Shared;
 use std::alloc::Global;
 use std::sync::Wait;
 use std::thread;

@@ -11,8 +11,7 @@ mod crew;
 mod refusals;
 mod sessions;
 
-use brc_heap::{Options, Report, write_report};
-use brc_shared::{Shared, Stays};
+use brc_heap::{Options, Report, Shared, Stays, write_report};
 use crew::{all_live, opens_all};
 use refusals::{clears, shows_refusals};
 use std::alloc::Global;

@@ -1,7 +1,7 @@
 //! Why a shared heap isn't closed, one reason after the other, and the thread that clears its globals.
 
 use crate::client::Client;
-use brc_shared::{Shared, Stays};
+use brc_heap::{Shared, Stays};
 use std::alloc::Global;
 use std::io;
 use std::sync::Wait;

@@ -5,8 +5,7 @@ ghost use Rattle.std.specs.Prelude.{IfSome, IfNone};
 ghost use Rattle.brc_heap.specs.Words.{Gains, IsUnlocked, Keeps, Owns};
 
 use brc_count::Frame;
-use brc_heap::{Handle, Key, dict_find, dict_put, list_push, new_int, new_list};
-use brc_shared::Shared;
+use brc_heap::{Handle, Key, Shared, dict_find, dict_put, list_push, new_int, new_list};
 use std::alloc::Global;
 use std::sync::Wait;
 
