@@ -1,8 +1,9 @@
 -- What is seen of a thread from its registration to its end, and of a heap from its opening to its report.
-use Rattle.std.specs.Prelude.{◌≡◌, ◌<◌, ◌⊎◌, ℕ, Option, Some, None, MatchOption, IfSome, length}
+use Rattle.std.specs.Prelude.{◌≡◌, ◌<◌, ◌⊎◌, ◌++◌, ℕ, List, Option, Some, None, MatchOption, length, take, drop}
 use Rattle.std.specs.declared.alloc.Global.{Global}
 use Rattle.brc_words.specs.declared.fault.Fault.TheVariants as faults
 use Rattle.brc_report.specs.declared.report.Report.{Report}
+use Rattle.brc_report.specs.Texts.{report_text}
 use Rattle.brc_count.specs.declared.ledger.Ledger.{Ledger}
 use Rattle.brc_count.specs.table.Seated.{TableSeen}
 use Rattle.brc_count.specs.Frames.{ledger_seen}
@@ -109,6 +110,20 @@ CloseRefused old new (statuses.Fault (faults.Missing registered gathered)) =
 CloseRefused old new (statuses.Fault faults.OutOfMemory) =
     MatchOption (open_at old) ⊥ (λ heap. (new ≡ owners.Gone) × HasGatheredAll heap)
 CloseRefused old new _ = ⊥
+
+-- a report as a text, and the text once it is written
+abbrev pub text_in : Report Global → List ℕ
+text_in report = report_text report.ledger report.live report.remains.items report.cycles.items
+
+-- as much of the text, from a byte on, as there is room for; the rest of the room is as it was
+abbrev pub shown_from : List ℕ → ℕ → List ℕ → List ℕ
+shown_from text from room = take (length room) (drop from text) ++ drop (length (drop from text)) room
+
+-- why a report isn't shown
+abbrev pub ReportRefused : OwnerStage → Status → Type 0
+ReportRefused (owners.Open heap) status = status ≡ statuses.Fault faults.NotIdle
+ReportRefused (owners.Closed report) status = status ≡ statuses.Fault faults.OutOfMemory
+ReportRefused owners.Gone status = status ≡ statuses.Gone
 
 -- the numbers of a report
 pub record Shows (report : Report Global) (left : Left) : Type 0 where

@@ -6,12 +6,12 @@ ghost use Rattle.brc_count.specs.Frames.{HandleSeen, IsUnlocked, KeepsHandles, O
 ghost use Rattle.brc_count.specs.Owned.{Keeps};
 ghost use Rattle.brc_handles.specs.Handles.{slot, filled, IsApart, IsBare, ComesIn};
 ghost use Rattle.brc_client.specs.Numbers.{number_at, place_in};
-ghost use Rattle.brc_client.specs.Clients.{Names, NamesNone, KeepsNumbers, KeepsNames, SpendsName};
+ghost use Rattle.brc_client.specs.Clients.{IsClient, Names, NamesNone, KeepsNumbers, KeepsNames, SpendsName};
 ghost use Rattle.brc_client.specs.Calls.{RefusedOf, Adds, Retained, Releases};
 
 use crate::numbers::{Numbers, PLACES};
 use crate::status::Status;
-use brc_count::{Handle, Ledger};
+use brc_count::{Frame, Handle, Ledger};
 use brc_handles::Handles;
 use brc_shared::Shared;
 use brc_thread::{Leaving, Mutator};
@@ -59,6 +59,28 @@ pub(crate) fn insert(handles: &mut Handles<Global>, numbers: &Numbers, given: Ha
     match handles.put(place, given) {
         None => numbers.number(place),
         Some(_gone) => unreachable!(),
+    }
+}
+
+/// All handles go, by rising place, and their numbers with them.
+fn release_each(
+    frame: &mut Frame<Shared, Global>,
+    handles: &mut Handles<Global>,
+    numbers: &mut Numbers,
+)
+    requires client { IsClient frame.old handles.old }
+    ensures client { IsClient frame.new handles.new }
+    ensures none { IsBare handles.new }
+    ensures heap { frame.new.heap ≡ frame.old.heap }
+{
+    for place in 0..PLACES {
+        if frame.len() == 0 {
+            break;
+        }
+        if let Some(handle) = handles.take(place) {
+            numbers.spend(place);
+            frame.release(handle);
+        }
     }
 }
 
@@ -156,31 +178,13 @@ impl Client {
         Ok(())
     }
 
-    /// The reference in the place goes, if one is there.
-    fn release_at(&mut self, place: usize)
-        requires inside { place < 65536 }
-        ensures none { slot self.new.handles place ≡ None }
-        ensures others { (k : ℕ) → slot self.old.handles k ≡ None → slot self.new.handles k ≡ None }
-        ensures heap { self.new.frame.heap ≡ self.old.frame.heap }
-    {
-        if let Some(handle) = self.handles.take(place) {
-            self.numbers.spend(place);
-            self.mutator.frame().release(handle);
-        }
-    }
-
     /// All references of the thread go, and no number names anything any more. It takes no memory, and waits for nobody.
     pub fn release_all(&mut self)
         ensures none { IsBare self.new.handles }
         ensures nameless { (n : ℕ) → Names self.new n → ⊥ }
         ensures heap { self.new.frame.heap ≡ self.old.frame.heap }
     {
-        for place in 0..PLACES {
-            if self.count() == 0 {
-                break;
-            }
-            self.release_at(place);
-        }
+        release_each(self.mutator.frame(), &mut self.handles, &mut self.numbers);
     }
 
     /// What others asked for is dealt with: the answer is 0 if nobody did since the last poll. It takes no memory.

@@ -1,12 +1,12 @@
 //! What the object of a number is and holds.
 
-ghost use Rattle.std.specs.Prelude.{◌≡◌, ◌≢◌, Ok, Err, IfOk, IfErr, IsTrue, IsFalse, OnOk, OnErr, Some};
+ghost use Rattle.std.specs.Prelude.{◌≡◌, ◌≢◌, ◌⊎◌, Some, IfOk, IfErr, IsTrue, IsFalse};
 ghost use Rattle.brc_words.specs.declared.fault.Fault.TheVariants as faults;
 ghost use Rattle.brc_count.specs.Locking.{cell_in};
 ghost use Rattle.brc_things.specs.Makers.{truth_cell};
 ghost use Rattle.brc_containers.specs.Looking.{KindOf, LenOf, IntOf};
 ghost use Rattle.brc_client.specs.Clients.{Names, NamesNone, KeepsNumbers};
-ghost use Rattle.brc_client.specs.Calls.{OfNamed, Looks, Reads, IsOne};
+ghost use Rattle.brc_client.specs.Calls.{OfNamed, RefusedOf, Looks, Reads, IsOne};
 
 use crate::client::Client;
 use crate::status::Status;
@@ -65,7 +65,8 @@ impl Client {
     pub fn truth(&mut self, number: u64) -> Result<bool, Status>
         ensures truth { IfOk result (λ is_true. OfNamed self.old number
             (λ object. cell_in self.old.frame object.place ≡ Some (truth_cell is_true))) }
-        ensures named { OnErr result (Names self.old number) → result ≡ Err (statuses.Fault faults.WrongKind) }
+        ensures refused { IfErr result (RefusedOf (λ k fault. (fault ≡ faults.WrongKind)
+            × (cell_in self.old.frame k ≢ Some 1) × (cell_in self.old.frame k ≢ Some 2)) self.old self.new number) }
         ensures same { self.new ≡ self.old }
     {
         let place = self.place_of(number)?;

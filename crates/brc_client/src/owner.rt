@@ -1,11 +1,11 @@
 //! A heap from its opening to its report.
 
-ghost use Rattle.std.specs.Prelude.{◌≡◌, ◌≤◌, ◌+◌, Some, IfOk, IfErr, OnOk, OnErr};
+ghost use Rattle.std.specs.Prelude.{◌≡◌, ◌++◌, ◌⊎◌, IfSome, IfOk, IfErr, OnOk, OnErr, length, take, drop};
 ghost use Rattle.brc_words.specs.declared.fault.Fault.TheVariants as faults;
 ghost use Rattle.brc_client.specs.declared.status.Status.TheVariants as statuses;
 ghost use Rattle.brc_client.specs.declared.owner.OwnerStage.TheVariants as stages;
 ghost use Rattle.brc_client.specs.Ends.{OpensWith, RegistersAt, RegisterRefused, CountsAt, open_at, ClosedAs, CloseRefused};
-ghost use Rattle.brc_client.specs.Ends.{Shows, report_of};
+ghost use Rattle.brc_client.specs.Ends.{Shows, report_of, text_in, shown_from, ReportRefused};
 
 use crate::status::Status;
 use crate::thread::{Thread, register};
@@ -23,7 +23,7 @@ use std::mem;
 pub struct Closed {
     report: Report<Global>,
     text: Option<Vec<u8, Global>>,
-    ghost written: { IsWritten report text },
+    ghost written: { IfSome text (λ bytes. bytes.items ≡ text_in report) },
 }
 
 impl Model for Closed {
@@ -210,6 +210,11 @@ impl Owner {
     /// the heap is open, Gone if it has ended without a report, and OutOfMemory.
     pub fn report(&mut self, alloc: Global, from: usize, to: &mut [u8]) -> Result<usize, Status>
         ensures same { self.new ≡ self.old }
+        ensures len { IfOk result (λ len. IfSome (report_of self.old) (λ report. len ≡ length (text_in report))) }
+        ensures shown { OnOk result (IfSome (report_of self.old) (λ report.
+            to.new ≡ shown_from (text_in report) from to.old)) }
+        ensures refused { IfErr result (ReportRefused self.old) }
+        ensures unchanged { OnErr result (to.new ≡ to.old) }
     {
         let closed = match &mut self.stage {
             OwnerStage::Open(_) => return Err(Status::Fault(Fault::NotIdle)),
@@ -231,7 +236,9 @@ impl Owner {
 }
 
 /// As much of the bytes as there is room for.
-fn copy_front(bytes: &[u8], to: &mut [u8]) {
+fn copy_front(bytes: &[u8], to: &mut [u8])
+    ensures { to.new ≡ take (length to.old) bytes.now ++ drop (length bytes.now) to.old }
+{
     let fits = bytes.len().min(to.len());
     to[..fits].copy_from_slice(&bytes[..fits]);
 }
