@@ -45,12 +45,14 @@ pub names_given : (old new : ClientSeen) (given : HandleSeen) (n : ℕ) → give
     → n ≡ number_at new.numbers given.place → Names new n
 names_given old new given n room places set is =
     let place : place_in n ≡ given.place = ap place_in is ∙ place_at new.numbers given.place room in
-    let inside : given.place < length old.handles = omega (arith, room, places) in
-    (given, record {
-      there = ap (slot new.handles) place ∙ ap (λ (l : List (Option HandleSeen)). slot l given.place) set
-          ∙ slot_set old.handles given.place (Some given) inside;
-      spelled = is ∙ ap (number_at new.numbers) (sym place);
-    })
+    let inside : given.place < length old.handles = omega (arith, room, places) in (
+      given,
+      record {
+        there = ap (slot new.handles) place ∙ ap (λ (l : List (Option HandleSeen)). slot l given.place) set
+            ∙ slot_set old.handles given.place (Some given) inside;
+        spelled = is ∙ ap (number_at new.numbers) (sym place);
+      },
+    )
 
 -- ---- a number was spent
 
@@ -63,12 +65,12 @@ name_spent old new spent i came place named set differs others =
     record {
       none = λ names. differs (sym (names.1.spelled ∙ ap (number_at new.numbers) place) ∙ was);
       others = λ n h other names. (
-        let else : place_in n ≢ i = λ same. other (names.spelled ∙ ap (number_at old.numbers) same ∙ sym was) in
-        record {
-          there = ap (λ (l : List (Option HandleSeen)). slot l (place_in n)) set
-              ∙ slot_else old.handles i (place_in n) came else ∙ names.there;
-          spelled = names.spelled ∙ sym (others (place_in n) else);
-        });
+          let else : place_in n ≢ i = λ same. other (names.spelled ∙ ap (number_at old.numbers) same ∙ sym was) in
+          record {
+            there = ap (λ (l : List (Option HandleSeen)). slot l (place_in n)) set
+                ∙ slot_else old.handles i (place_in n) came else ∙ names.there;
+            spelled = names.spelled ∙ sym (others (place_in n) else);
+          });
     }
 
 -- no number names anything where no handle is

@@ -35,10 +35,10 @@ impl Model for Client {
     ghost Value = { ClientSeen };
 
     ghost view = { λ c. record {
-        frame = c.mutator;
-        handles = c.handles;
-        numbers = c.numbers;
-        text = string_bytes c.text;
+      frame = c.mutator;
+      handles = c.handles;
+      numbers = c.numbers;
+      text = string_bytes c.text;
     } };
 
     ghost invariant = { λ c. IsClient c.mutator c.handles };
@@ -86,6 +86,7 @@ fn release_each(
 
 impl Client {
     /// A thread that has no reference yet.
+    #[tactic(auto, using(crate::proofs::Placed::opens))]
     pub(crate) fn new(
         alloc: Global,
         mutator: Mutator<Shared, Global>,
@@ -139,6 +140,7 @@ impl Client {
 
     /// One reference more to the object, under a number of its own. Foreign, Stale; then FrameFull, if the thread has
     /// 65,536 references, and OutOfMemory.
+    #[tactic(auto, using(crate::proofs::Placed::vacant, crate::proofs::Placed::apart, crate::proofs::Placed::gained, crate::proofs::Placed::keeps, crate::proofs::Named::names_kept, crate::proofs::Named::names_given))]
     #[inline]
     pub fn retain(&mut self, number: u64) -> Result<u64, Status>
         ensures more { IfOk result (λ more. (h : HandleSeen) → slot self.old.handles (place_in number) ≡ Some h
@@ -162,6 +164,7 @@ impl Client {
 
     /// The reference goes, and its number names nothing any more. Foreign, Stale. It takes no memory, and waits for
     /// nobody.
+    #[tactic(auto, using(crate::proofs::Placed::lost, crate::proofs::Named::name_spent))]
     #[inline]
     pub fn release(&mut self, number: u64) -> Result<(), Status>
         ensures released { OnOk result (Releases self.old self.new number) }
@@ -179,6 +182,7 @@ impl Client {
     }
 
     /// All references of the thread go, and no number names anything any more. It takes no memory, and waits for nobody.
+    #[tactic(auto, using(crate::proofs::Named::nameless))]
     pub fn release_all(&mut self)
         ensures none { IsBare self.new.handles }
         ensures nameless { (n : ℕ) → Names self.new n → ⊥ }
@@ -188,6 +192,7 @@ impl Client {
     }
 
     /// What others asked for is dealt with: the answer is 0 if nobody did since the last poll. It takes no memory.
+    #[tactic(auto, using(crate::proofs::Placed::keeps))]
     #[inline]
     pub fn poll(&mut self) -> u64
         ensures handles { KeepsHandles self.old.frame self.new.frame }
@@ -199,6 +204,7 @@ impl Client {
 
     /// Dead objects are taken apart, at most so many turns. The answer is the number of turns that weren't needed: above
     /// 0 only if no dead object is left. It takes no memory.
+    #[tactic(auto, using(crate::proofs::Placed::keeps))]
     #[inline]
     pub fn work(&mut self, turns: usize) -> usize
         ensures handles { KeepsHandles self.old.frame self.new.frame }
@@ -211,6 +217,7 @@ impl Client {
 
     /// From now on the thread's claims begin with the cells beside this one, as `claim_from` and `claim_near` of
     /// `brc_thread` have it.
+    #[tactic(auto, using(crate::proofs::Placed::keeps))]
     pub fn claim(&mut self, cell: u32, near: bool)
         ensures near { self.new.frame.near ≡ near }
         ensures keeps { KeepsNumbers self.old self.new }
@@ -231,6 +238,7 @@ impl Client {
     }
 
     /// The thread leaves; or it is as it was, if it has a reference or a dead object.
+    #[tactic(auto, using(crate::proofs::Placed::none_counted))]
     pub(crate) fn leave(self) -> Result<Leaving<Shared, Global>, Client>
         ensures heap { IfOk result (λ leaving. leaving.heap ≡ self.frame.heap) }
         ensures idle { OnOk result (filled self.handles ≡ 0) }

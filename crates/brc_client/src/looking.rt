@@ -16,6 +16,7 @@ use brc_words::Kind;
 
 impl Client {
     /// What kind of object it is. Foreign, Stale; then Busy.
+    #[tactic(auto, using(crate::proofs::Placed::keeps))]
     pub fn kind(&mut self, number: u64) -> Result<Kind, Status>
         ensures looked { Looks (KindOf self.old.frame self.new.frame) self.old self.new number result }
         ensures keeps { KeepsNumbers self.old self.new }
@@ -31,6 +32,7 @@ impl Client {
     }
 
     /// How many entries the container has. Foreign, Stale; then Busy, and WrongKind if it is no container.
+    #[tactic(auto, using(crate::proofs::Placed::keeps))]
     pub fn len(&mut self, number: u64) -> Result<usize, Status>
         ensures looked { Looks (LenOf self.old.frame self.new.frame) self.old self.new number result }
         ensures keeps { KeepsNumbers self.old self.new }
@@ -46,6 +48,7 @@ impl Client {
     }
 
     /// The number that the integer is. Foreign, Stale; then Busy, and WrongKind if it is none.
+    #[tactic(auto, using(crate::proofs::Placed::keeps))]
     #[inline]
     pub fn int(&mut self, number: u64) -> Result<i64, Status>
         ensures looked { Looks (IntOf self.old.frame self.new.frame) self.old self.new number result }
@@ -81,6 +84,7 @@ impl Client {
 
     /// The text is read into the client's own room, from where `shown` shows it. Foreign, Stale; then Busy, WrongKind if
     /// it is no text, and OutOfMemory. A heap's refusal leaves the room empty.
+    #[tactic(auto, using(crate::proofs::Placed::keeps))]
     pub fn read_text(&mut self, number: u64) -> Result<(), Status>
         ensures looked { Looks (Reads self.old.frame self.new.frame self.new.text) self.old self.new number result }
         ensures keeps { KeepsNumbers self.old self.new }

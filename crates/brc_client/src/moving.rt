@@ -16,6 +16,7 @@ use std::alloc::Global;
 impl Client {
     /// A reference to what is made, under a number. It is refused as `make_by` of `brc_places` is: FrameFull,
     /// LedgerFull, OutOfMemory, HeapFull.
+    #[tactic(auto, using(crate::proofs::Placed::vacant, crate::proofs::Placed::apart, crate::proofs::Placed::gained, crate::proofs::Placed::keeps, crate::proofs::Named::names_kept, crate::proofs::Named::names_given))]
     #[inline(always)]
     pub fn make(&mut self, alloc: Global, make: Make<'_>) -> Result<u64, Status>
         ensures made { IfOk result (Adds (MadeBy make.entry self.old.frame) self.old self.new) }
@@ -32,6 +33,7 @@ impl Client {
 
     /// The reference that the container gives by this call, under a number. Foreign, Stale; then as the call is refused
     /// (`try_give_by` of `brc_places`), Busy first.
+    #[tactic(auto, using(crate::proofs::Placed::vacant, crate::proofs::Placed::apart, crate::proofs::Placed::gained, crate::proofs::Placed::keeps, crate::proofs::Named::names_kept, crate::proofs::Named::names_given))]
     #[inline(always)]
     pub fn give(&mut self, container: u64, by: GiveBy<'_>) -> Result<u64, Status>
         ensures gave { IfOk result (λ more. OfNamed self.old container
@@ -56,6 +58,7 @@ impl Client {
     /// The value's reference goes into the container by this call, and its number names nothing any more. The answer is
     /// the number of what came out for it, if anything did. Foreign, Stale for the container, then for the value; Same;
     /// then as the call is refused (`try_take_by` of `brc_places`), Busy first: then the value has its number still.
+    #[tactic(auto, using(crate::proofs::Placed::put_in, crate::proofs::Placed::keeps, crate::proofs::Named::name_spent))]
     #[inline(always)]
     pub fn take(
         &mut self,
@@ -77,7 +80,14 @@ impl Client {
         if into == from {
             return Err(Status::Same);
         }
-        match try_take_at(alloc, self.mutator.frame(), &mut self.handles, into, by, from) {
+        match try_take_at(
+            alloc,
+            self.mutator.frame(),
+            &mut self.handles,
+            into,
+            by,
+            from,
+        ) {
             Err(fault) => Err(Status::Fault(fault)),
             Ok(()) => {
                 self.numbers.spend(from);
@@ -91,6 +101,7 @@ impl Client {
 
     /// A copy of the key at this index of a dictionary, and a reference more to the value beside it, under a number.
     /// Foreign, Stale; then as `try_dict_pair` of `brc_dicts`: Busy, WrongKind, NoSuchPlace, FrameFull, OutOfMemory.
+    #[tactic(auto, using(crate::proofs::Placed::vacant, crate::proofs::Placed::apart, crate::proofs::Placed::gained, crate::proofs::Placed::keeps, crate::proofs::Named::names_kept, crate::proofs::Named::names_given))]
     pub fn pair(
         &mut self,
         alloc: Global,

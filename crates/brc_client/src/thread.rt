@@ -142,10 +142,7 @@ fn leave(client: Client) -> (Stage, Result<(), Status>)
         return (Stage::Works(client), Err(Status::Fault(Fault::Busy)));
     }
     let Ok(desk) = client.home() else {
-        return (
-            Stage::Works(client),
-            Err(Status::Fault(Fault::OutOfMemory)),
-        );
+        return (Stage::Works(client), Err(Status::Fault(Fault::OutOfMemory)));
     };
     match client.leave() {
         Ok(leaving) => LeavingThread { desk, leaving }.finish(),
