@@ -1,7 +1,6 @@
 -- What is found in places of which one was emptied, and filled again.
 use Rattle.std.proofs.Common.{arith, ◌≡◌, ◌≢◌, ℕ, zero, suc, List, [], ◌∷◌, Option, Some, None, slice_set}
 use Rattle.std.proofs.Common.{refl, ap, sym, ◌∙◌, inl, inr}
-use Rattle.std.specs.Option.{IfSome}
 use Rattle.std.proofs.lemmas.Bool.{cases_eq}
 use Rattle.std.proofs.lemmas.Grind.{common_steps}
 use Rattle.brc_count.specs.Frames.{HandleSeen}
@@ -39,28 +38,6 @@ set_else hs i k other = grind (arith, common_steps)
 
 set_here : (hs : List (Option HandleSeen)) (i : ℕ) → slot (slice_set hs i None) i ≡ None
 set_here hs i = grind (arith, common_steps)
-
-set_now : (hs : List (Option HandleSeen)) (i : ℕ) (h was : HandleSeen) → slot hs i ≡ Some was
-    → slot (slice_set hs i (Some h)) i ≡ Some h
-set_now hs i h was is = grind (arith, common_steps)
-
--- what lies in the value's place after a call that took the value: nothing, or the handle that was there, which is of what
--- came out now
-pub came_none : (before mid : List (Option HandleSeen)) (i : ℕ) → mid ≡ slice_set before i None
-    → IfSome (slot mid i) (λ came. slot before i ≡ Some came)
-came_none before mid i emptied =
-    let none : slot mid i ≡ None = ap (λ (l : List (Option HandleSeen)). slot l i) emptied ∙ set_here before i in
-    rw none tt
-
-pub came_back : (before mid after : List (Option HandleSeen)) (i : ℕ) (given old : HandleSeen)
-    → Some given ≡ slot before i → mid ≡ slice_set before i None → after ≡ slice_set mid i (Some old) → old ≡ given
-    → IfSome (slot after i) (λ came. slot before i ≡ Some came)
-came_back before mid after i given old was emptied set same =
-    let there : slot after i ≡ Some old
-    = ap (λ (l : List (Option HandleSeen)). slot l i) (filled_again before mid after i (Some old) emptied set)
-    ∙ set_now before i old given (sym was) in
-    let held : slot before i ≡ Some old = sym was ∙ ap (λ (h : HandleSeen). Some h) (sym same) in
-    rw there held
 
 -- what is found beside a place that was emptied is of another place, and was there before
 pub found_beside : (before mid : List (Option HandleSeen)) (i k : ℕ) (object : HandleSeen) → mid ≡ slice_set before i None
