@@ -1,6 +1,6 @@
 //! Numbers for the places of a frame.
 
-ghost use Rattle.std.specs.Prelude.{◌≡◌, ◌≢◌, ◌<◌, ◌×◌, ℕ, get_or, length, replicate, slice_set, IfOk, IfErr};
+ghost use Rattle.std.specs.Prelude.{◌≡◌, ◌≢◌, ◌<◌, ℕ, get_or, length, replicate, slice_set, IfOk, IfErr};
 ghost use Rattle.brc_client.specs.Numbers.{stamp_of, number_at, place_in, once_more, MisSpelt};
 
 use crate::status::Status;
