@@ -1,13 +1,13 @@
 //! A thread's references by numbers: how they are found, made more and let go.
 
-ghost use Rattle.std.specs.Prelude.{◌≡◌, ◌<◌, ◌≤◌, ℕ, Some, None, [], false, length, slice_set, IfOk, IfErr, IfSome};
+ghost use Rattle.std.specs.Prelude.{◌≡◌, ◌<◌, ◌≤◌, ◌⊎◌, ℕ, Some, None, [], false, length, slice_set, IfOk, IfErr, IfSome};
 ghost use Rattle.std.specs.Prelude.{OnOk, OnErr};
 ghost use Rattle.brc_count.specs.Frames.{HandleSeen, IsUnlocked, KeepsHandles, Owns, first_word, ledger_seen};
 ghost use Rattle.brc_count.specs.Owned.{Keeps};
 ghost use Rattle.brc_handles.specs.Handles.{slot, filled, IsApart, IsBare, ComesIn};
 ghost use Rattle.brc_client.specs.Numbers.{number_at, place_in};
 ghost use Rattle.brc_client.specs.Clients.{IsClient, Names, NamesNone, KeepsNumbers, KeepsNames, SpendsName};
-ghost use Rattle.brc_client.specs.Calls.{RefusedOf, Adds, Retained, Releases};
+ghost use Rattle.brc_client.specs.Calls.{OfNamed, RefusedOf, Adds, Retained, Releases};
 
 use crate::numbers::{Numbers, PLACES};
 use crate::status::Status;
@@ -109,6 +109,7 @@ impl Client {
     }
 
     /// The place of the handle that the number names. Foreign, then Stale, if it names none.
+    #[tactic(auto, using(crate::proofs::Named::named, crate::proofs::Named::stale))]
     #[inline(always)]
     pub(crate) fn place_of(&self, number: u64) -> Result<usize, Status>
         ensures place { IfOk result (λ place. place ≡ place_in number) }
@@ -117,10 +118,10 @@ impl Client {
         ensures refused { IfErr result (NamesNone self.now number) }
     {
         let place = self.numbers.place(number)?;
-        if self.handles.get(place).is_none() {
-            return Err(Status::Stale);
+        match self.handles.get(place) {
+            Some(_handle) => Ok(place),
+            None => Err(Status::Stale),
         }
-        Ok(place)
     }
 
     /// How many references the thread has.
@@ -143,11 +144,10 @@ impl Client {
     #[tactic(auto, using(crate::proofs::Placed::vacant, crate::proofs::Placed::apart, crate::proofs::Placed::gained, crate::proofs::Placed::keeps, crate::proofs::Named::names_kept, crate::proofs::Named::names_given))]
     #[inline]
     pub fn retain(&mut self, number: u64) -> Result<u64, Status>
-        ensures more { IfOk result (λ more. (h : HandleSeen) → slot self.old.handles (place_in number) ≡ Some h
-            → Adds (Retained self.old.frame h.place) self.old self.new more) }
+        ensures more { IfOk result (λ more. OfNamed self.old number
+            (λ object. Adds (Retained self.old.frame object.place) self.old self.new more)) }
         ensures refused { IfErr result (RefusedOf (λ k fault. Retained self.old.frame k self.new.frame (Err fault))
             self.old self.new number) }
-        ensures named { OnOk result (Names self.old number) }
         ensures names { IfOk result (Names self.new) }
         ensures keeps { KeepsNames self.old self.new }
         ensures unchanged { OnErr result (KeepsNumbers self.old self.new) }

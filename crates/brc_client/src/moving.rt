@@ -1,17 +1,33 @@
 //! What is made, what a container gives, and what it takes.
 
-ghost use Rattle.std.specs.Prelude.{◌≡◌, Ok, Err, Some, IfOk, IfErr, IfSome, OnOk, OnErr};
+ghost use Rattle.std.specs.Prelude.{◌≡◌, ◌<◌, Ok, Err, Some, None, IfOk, IfErr, IfSome, OnOk, OnErr, MatchOption};
+ghost use Rattle.brc_handles.specs.Handles.{slot};
 ghost use Rattle.brc_dicts.specs.Calls.{DictPair};
 ghost use Rattle.brc_places.specs.Calls.{MadeBy, GaveBy, TookBy};
+ghost use Rattle.brc_client.specs.Numbers.{number_at};
 ghost use Rattle.brc_client.specs.Clients.{Names, KeepsNumbers, KeepsNames, SpendsName};
 ghost use Rattle.brc_client.specs.Calls.{OfNamed, ByHeap, RefusedOf, Adds, WithKey, PutsIn, PutsNot};
 
 use crate::client::{Client, insert};
+use crate::numbers::Numbers;
 use crate::status::Status;
 use brc_dicts::try_dict_pair;
+use brc_handles::Handles;
 use brc_places::{GiveBy, Make, TakeBy, make_by, try_give_by, try_take_at};
 use brc_words::Key;
 use std::alloc::Global;
+
+/// The number of the handle in the place, if one is there.
+#[inline(always)]
+fn number_there(handles: &Handles<Global>, numbers: &Numbers, place: usize) -> Option<u64>
+    requires inside { place < 65536 }
+    ensures { MatchOption (slot handles.now place) (result ≡ None) (λ h. result ≡ Some (number_at numbers.now place)) }
+{
+    match handles.get(place) {
+        None => None,
+        Some(_handle) => Some(numbers.number(place)),
+    }
+}
 
 impl Client {
     /// A reference to what is made, under a number. It is refused as `make_by` of `brc_places` is: FrameFull,
@@ -91,10 +107,7 @@ impl Client {
             Err(fault) => Err(Status::Fault(fault)),
             Ok(()) => {
                 self.numbers.spend(from);
-                match self.handles.get(from) {
-                    None => Ok(None),
-                    Some(_came) => Ok(Some(self.numbers.number(from))),
-                }
+                Ok(number_there(&self.handles, &self.numbers, from))
             }
         }
     }

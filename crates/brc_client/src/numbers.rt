@@ -1,7 +1,7 @@
 //! Numbers for the places of a frame.
 
-ghost use Rattle.std.specs.Prelude.{◌≡◌, ◌≢◌, ◌<◌, ℕ, get_or, length, replicate, slice_set, IfOk, IfErr};
-ghost use Rattle.brc_client.specs.Numbers.{stamp_of, number_at, place_in, once_more, MisSpelt};
+ghost use Rattle.std.specs.Prelude.{◌≡◌, ◌≢◌, ◌<◌, ℕ, get_or, length, replicate, slice_set, IfOk, IfErr, OnOk};
+ghost use Rattle.brc_client.specs.Numbers.{stamp_of, number_at, place_in, stamp_in, once_more, MisSpelt};
 
 use crate::status::Status;
 use std::alloc::{AllocError, Global};
@@ -67,6 +67,7 @@ impl Numbers {
     pub(crate) fn place(&self, number: u64) -> Result<usize, Status>
         ensures place { IfOk result (λ place. place ≡ place_in number) }
         ensures spelled { IfOk result (λ place. number ≡ number_at self.now place) }
+        ensures stamp { OnOk result (stamp_in number ≡ self.now.stamp) }
         ensures refused { IfErr result (MisSpelt self.now number) }
     {
         if number / 281_474_976_710_656 != self.stamp {

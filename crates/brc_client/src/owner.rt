@@ -1,5 +1,6 @@
 //! A heap from its opening to its report.
 
+ghost use Rattle.std.specs.Option.{ForSome};
 ghost use Rattle.std.specs.Prelude.{◌≡◌, ◌++◌, ◌⊎◌, IfSome, IfOk, IfErr, OnOk, OnErr, length, take, drop};
 ghost use Rattle.brc_words.specs.declared.fault.Fault.TheVariants as faults;
 ghost use Rattle.brc_client.specs.declared.status.Status.TheVariants as statuses;
@@ -23,7 +24,7 @@ use std::mem;
 pub struct Closed {
     report: Report<Global>,
     text: Option<Vec<u8, Global>>,
-    ghost written: { IfSome text (λ bytes. bytes.items ≡ text_in report) },
+    ghost written: { ForSome text (λ bytes. bytes.items ≡ text_in report) },
 }
 
 impl Model for Closed {
@@ -88,23 +89,46 @@ impl Closed {
         }
     }
 
-    /// The report's text is there. OutOfMemory if it isn't to be had.
-    fn write(&mut self, alloc: Global) -> Result<(), Status>
+    /// The report's text from a byte on, as much as there is room for; the answer is how long all of it is. OutOfMemory if
+    /// the text isn't to be had. It is written once, and kept.
+    fn show(&mut self, alloc: Global, from: usize, to: &mut [u8]) -> Result<usize, Status>
         ensures same { self.new ≡ self.old }
+        ensures len { IfOk result (λ len. len ≡ length (text_in self.old)) }
+        ensures shown { OnOk result (to.new ≡ shown_from (text_in self.old) from to.old) }
         ensures refused { IfErr result (λ status. status ≡ statuses.Fault faults.OutOfMemory) }
+        ensures unchanged { OnErr result (to.new ≡ to.old) }
     {
-        if self.text.is_some() {
-            return Ok(());
+        if let Some(text) = &self.text {
+            return Ok(show_from(text.as_slice(), from, to));
         }
-        let mut text = Vec::new(alloc);
-        match write_report(&self.report, &mut text) {
-            Ok(()) => {
-                self.text = Some(text);
-                Ok(())
-            }
-            Err(_fault) => Err(Status::Fault(Fault::OutOfMemory)),
-        }
+        let text = written(alloc, &self.report)?;
+        let len = show_from(text.as_slice(), from, to);
+        self.text = Some(text);
+        Ok(len)
     }
+}
+
+/// The report as a text. OutOfMemory if it isn't to be had.
+fn written(alloc: Global, report: &Report<Global>) -> Result<Vec<u8, Global>, Status>
+    ensures text { IfOk result (λ text. text.items ≡ text_in report.now) }
+    ensures refused { IfErr result (λ status. status ≡ statuses.Fault faults.OutOfMemory) }
+{
+    let mut text = Vec::new(alloc);
+    match write_report(report, &mut text) {
+        Ok(()) => Ok(text),
+        Err(_fault) => Err(Status::Fault(Fault::OutOfMemory)),
+    }
+}
+
+/// As much of a text, from a byte on, as there is room for. The answer is how long all of it is.
+fn show_from(text: &[u8], from: usize, to: &mut [u8]) -> usize
+    ensures len { result ≡ length text.now }
+    ensures shown { to.new ≡ shown_from text.now from to.old }
+{
+    if from < text.len() {
+        copy_front(&text[from..], to);
+    }
+    text.len()
 }
 
 /// The heap is closed, or is open still; or it has ended, and memory for its report was missing.
@@ -216,21 +240,10 @@ impl Owner {
         ensures refused { IfErr result (ReportRefused self.old) }
         ensures unchanged { OnErr result (to.new ≡ to.old) }
     {
-        let closed = match &mut self.stage {
-            OwnerStage::Open(_) => return Err(Status::Fault(Fault::NotIdle)),
-            OwnerStage::Gone => return Err(Status::Gone),
-            OwnerStage::Closed(closed) => closed,
-        };
-        closed.write(alloc)?;
-        match &closed.text {
-            None => Err(Status::Gone),
-            Some(text) => {
-                let all = text.as_slice();
-                if from < all.len() {
-                    copy_front(&all[from..], to);
-                }
-                Ok(all.len())
-            }
+        match &mut self.stage {
+            OwnerStage::Open(_) => Err(Status::Fault(Fault::NotIdle)),
+            OwnerStage::Gone => Err(Status::Gone),
+            OwnerStage::Closed(closed) => closed.show(alloc, from, to),
         }
     }
 }
