@@ -1,12 +1,42 @@
 //! Step 3, a dictionary: a value beside a key that is lent.
 
-ghost use Rattle.brc_heap.specs.Words.{IsUnlocked, Keeps, Owns};
+ghost use Rattle.std.specs.Prelude.{◌≢◌};
+ghost use Rattle.brc_heap.specs.Words.{IsUnlocked, Keeps, Loses, Owns};
 
 use brc_heap::{Frame, Handle, KeyRef, dict_find_by, dict_set, int_of, new_dict, new_int};
 use std::alloc::Global;
 use std::sync::Wait;
 
-/// A new number goes beside the key; what was there is released. None if it isn't put there.
+/// The value goes beside the key, and what was there is released; if the dictionary refuses it, it is released itself.
+fn gives(
+    rt: &impl Wait,
+    alloc: Global,
+    frame: &mut Frame<'_>,
+    dict: &Handle,
+    key: KeyRef<'_>,
+    value: Handle,
+) -> Option<()>
+    requires owned { Owns frame.old dict.now }
+    requires value_owned { Owns frame.old value }
+    requires apart { value.place ≢ dict.now.place }
+    requires unlocked { IsUnlocked frame.old }
+    ensures loses { Loses frame.old frame.new value }
+    ensures unlocked { IsUnlocked frame.new }
+{
+    match dict_set(rt, alloc, frame, dict, key, value) {
+        Ok(None) => Some(()),
+        Ok(Some(old)) => {
+            frame.release(old);
+            Some(())
+        }
+        Err(handed) => {
+            frame.release(handed.back);
+            None
+        }
+    }
+}
+
+/// A new number goes beside the key. None if it isn't put there.
 pub(crate) fn puts(
     rt: &impl Wait,
     alloc: Global,
@@ -20,19 +50,9 @@ pub(crate) fn puts(
     ensures keeps { Keeps frame.old frame.new }
     ensures unlocked { IsUnlocked frame.new }
 {
-    let Ok(number) = new_int(alloc, frame, value) else {
-        return None;
-    };
-    match dict_set(rt, alloc, frame, dict, key, number) {
-        Ok(None) => Some(()),
-        Ok(Some(old)) => {
-            frame.release(old);
-            Some(())
-        }
-        Err(handed) => {
-            frame.release(handed.back);
-            None
-        }
+    match new_int(alloc, frame, value) {
+        Ok(number) => gives(rt, alloc, frame, dict, key, number),
+        Err(_) => None,
     }
 }
 
