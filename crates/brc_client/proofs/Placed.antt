@@ -1,15 +1,14 @@
 -- Each handle in the place that has its number in the frame: what a call does that gives one, takes one or keeps all.
-use Rattle.std.proofs.Common.{arith, ◌≡◌, ◌≢◌, ◌<◌, ◌≤◌, ◌+◌, ℕ, zero, suc, List, [], ◌∷◌, Option, Some, None, length, slice_set}
+use Rattle.std.proofs.Common.{arith, ◌≡◌, ◌≢◌, ◌<◌, ◌≤◌, ℕ, zero, suc, List, [], ◌∷◌, Option, Some, None, length, slice_set}
 use Rattle.std.proofs.Common.{refl, sym, ap, ◌∙◌, ◌⊎◌, inl, inr, subst}
-use Rattle.std.specs.Prelude.{MatchOption, ⊤}
 use Rattle.std.specs.Option.{IfSome}
 use Rattle.std.specs.declared.alloc.Global.{Global}
 use Rattle.std.proofs.lemmas.Bool.{cases_eq, cases_order}
 use Rattle.std.proofs.lemmas.Grind.{common_steps}
 use Rattle.brc_count.specs.Frames.{FrameSeen, HandleSeen, IsUnlocked, Owns}
 use Rattle.brc_count.specs.Owned.{Keeps, Gains, Loses}
-use Rattle.brc_handles.specs.Handles.{slot, filled, IsApart, IsBare, OwnsEach, ComesIn, ComesOut}
-use Rattle.brc_handles.specs.Standing.{Stands, KeepsStanding}
+use Rattle.brc_handles.specs.Handles.{slot, filled, IsApart, IsBare, ComesIn, ComesOut}
+use Rattle.brc_handles.specs.Standing.{KeepsStanding}
 use Rattle.brc_handles.proofs.Places.{bare_of}
 use Rattle.brc_client.specs.Clients.{IsClient}
 

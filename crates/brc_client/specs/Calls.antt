@@ -3,7 +3,6 @@ use Rattle.std.specs.Prelude.{◌≡◌, ◌≢◌, ℕ, List, Option, Some, Non
 use Rattle.std.specs.Prelude.{MatchOption, slice_set, get_or}
 use Rattle.std.specs.declared.alloc.Global.{Global}
 use Rattle.brc_words.specs.declared.fault.Fault.{Fault}
-use Rattle.brc_words.specs.declared.fault.Fault.TheVariants as faults
 use Rattle.brc_words.specs.declared.key.Key.{Key}
 use Rattle.brc_count.specs.law.world.declared.event.Source.TheVariants as sources
 use Rattle.brc_count.specs.law.rule.declared.contents.Contents.TheVariants as contents

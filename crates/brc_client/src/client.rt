@@ -1,9 +1,8 @@
 //! A thread's references by numbers: how they are found, made more and let go.
 
-ghost use Rattle.std.specs.Prelude.{◌≡◌, ◌<◌, ◌≤◌, ◌⊎◌, ℕ, Some, None, [], false, length, slice_set, IfOk, IfErr, IfSome};
+ghost use Rattle.std.specs.Prelude.{◌≡◌, ◌<◌, ◌≤◌, ◌⊎◌, ℕ, Some, None, [], length, slice_set, IfOk, IfErr};
 ghost use Rattle.std.specs.Prelude.{OnOk, OnErr};
-ghost use Rattle.brc_count.specs.Frames.{HandleSeen, IsUnlocked, KeepsHandles, Owns, first_word, ledger_seen};
-ghost use Rattle.brc_count.specs.Owned.{Keeps};
+ghost use Rattle.brc_count.specs.Frames.{IsUnlocked, KeepsHandles, ledger_seen, word_asked};
 ghost use Rattle.brc_handles.specs.Handles.{slot, filled, IsApart, IsBare, ComesIn};
 ghost use Rattle.brc_client.specs.Numbers.{number_at, place_in};
 ghost use Rattle.brc_client.specs.Clients.{IsClient, Names, NamesNone, KeepsNumbers, KeepsNames, SpendsName};
@@ -219,6 +218,7 @@ impl Client {
     /// `brc_thread` have it.
     #[tactic(auto, using(crate::proofs::Placed::keeps))]
     pub fn claim(&mut self, cell: u32, near: bool)
+        ensures from { self.new.frame.from ≡ word_asked self.old.frame.heap.cells cell }
         ensures near { self.new.frame.near ≡ near }
         ensures keeps { KeepsNumbers self.old self.new }
     {

@@ -2,7 +2,7 @@
 
 ghost use Rattle.std.specs.Prelude.{◌≡◌, IfOk, IfErr, OnOk, OnErr};
 ghost use Rattle.brc_client.specs.declared.thread.Stage.TheVariants as stages;
-ghost use Rattle.brc_client.specs.Ends.{heap_of, StaysAt, LeaveRefused, RegistersAt, RegisterRefused, LedgerOf};
+ghost use Rattle.brc_client.specs.Ends.{heap_of, LeaveRefused, RegistersAt, RegisterRefused, LedgerOf};
 
 use crate::client::Client;
 use crate::numbers::{Numbers, PLACES};
