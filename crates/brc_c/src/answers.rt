@@ -1,0 +1,75 @@
+//! What an export returns, and what it writes first. 0 is OK; a status of `brc_client` has its number.
+
+ghost use Rattle.std.specs.Prelude.{◌≡◌, length};
+
+use brc_client::Status;
+
+/// What the call gave is written, or its refusal's number is returned.
+#[inline(always)]
+pub(crate) fn told<T>(result_of: Result<T, Status>, to: &mut T) -> u32
+where
+    T: Drop,
+{
+    match result_of {
+        Ok(value) => {
+            *to = value;
+            0
+        }
+        Err(status) => status.number(),
+    }
+}
+
+/// 1 or 0 is written. C's variable may have had any byte in it, which no `bool` may, so it is a `u32`.
+#[inline(always)]
+pub(crate) fn told_truth(result_of: Result<bool, Status>, to: &mut u32) -> u32 {
+    match result_of {
+        Ok(is_true) => {
+            *to = u32::from(is_true);
+            0
+        }
+        Err(status) => status.number(),
+    }
+}
+
+/// The number of what came out is written, or 0 if nothing came out. No reference has the number 0.
+#[inline(always)]
+pub(crate) fn exchanged(result_of: Result<Option<u64>, Status>, old: &mut u64) -> u32 {
+    match result_of {
+        Ok(Some(number)) => {
+            *old = number;
+            0
+        }
+        Ok(None) => {
+            *old = 0;
+            0
+        }
+        Err(status) => status.number(),
+    }
+}
+
+/// Nothing is written: nothing comes out for what was given.
+#[inline(always)]
+pub(crate) fn given(result_of: Result<Option<u64>, Status>) -> u32 {
+    match result_of {
+        Ok(_) => 0,
+        Err(status) => status.number(),
+    }
+}
+
+/// Nothing is written.
+#[inline(always)]
+pub(crate) fn done(result_of: Result<(), Status>) -> u32 {
+    match result_of {
+        Ok(()) => 0,
+        Err(status) => status.number(),
+    }
+}
+
+/// As many of the bytes as there is room for are written. Returns how many there are.
+pub(crate) fn copy_prefix(bytes: &[u8], to: &mut [u8]) -> usize
+    ensures { result ≡ length bytes.now }
+{
+    let fits = bytes.len().min(to.len());
+    to[..fits].copy_from_slice(&bytes[..fits]);
+    bytes.len()
+}

@@ -1,0 +1,79 @@
+//! Lists and mailboxes: references go in and come out.
+
+use crate::answers::{exchanged, given, told};
+use crate::slots::CThread;
+use brc_client::{GiveBy, TakeBy};
+use std::alloc::Global;
+
+#[unsafe(no_mangle)]
+pub extern "C" fn brc_list_push(alloc: Global, thread: &mut CThread, list: u64, value: u64) -> u32 {
+    match thread.as_mut().client() {
+        Ok(client) => given(client.take(alloc, list, TakeBy::Push, value)),
+        Err(status) => status.number(),
+    }
+}
+
+#[unsafe(no_mangle)]
+pub extern "C" fn brc_list_pop(thread: &mut CThread, list: u64, value: &mut u64) -> u32 {
+    match thread.as_mut().client() {
+        Ok(client) => told(client.give(list, GiveBy::Pop), value),
+        Err(status) => status.number(),
+    }
+}
+
+#[unsafe(no_mangle)]
+pub extern "C" fn brc_list_take(
+    thread: &mut CThread,
+    list: u64,
+    index: u32,
+    value: &mut u64,
+) -> u32 {
+    match thread.as_mut().client() {
+        Ok(client) => told(client.give(list, GiveBy::Take(index)), value),
+        Err(status) => status.number(),
+    }
+}
+
+#[unsafe(no_mangle)]
+pub extern "C" fn brc_list_get(
+    thread: &mut CThread,
+    list: u64,
+    index: u32,
+    value: &mut u64,
+) -> u32 {
+    match thread.as_mut().client() {
+        Ok(client) => told(client.give(list, GiveBy::Get(index)), value),
+        Err(status) => status.number(),
+    }
+}
+
+#[unsafe(no_mangle)]
+pub extern "C" fn brc_list_set(
+    alloc: Global,
+    thread: &mut CThread,
+    list: u64,
+    index: u32,
+    value: u64,
+    old: &mut u64,
+) -> u32 {
+    match thread.as_mut().client() {
+        Ok(client) => exchanged(client.take(alloc, list, TakeBy::Set(index), value), old),
+        Err(status) => status.number(),
+    }
+}
+
+#[unsafe(no_mangle)]
+pub extern "C" fn brc_send(alloc: Global, thread: &mut CThread, mailbox: u64, value: u64) -> u32 {
+    match thread.as_mut().client() {
+        Ok(client) => given(client.take(alloc, mailbox, TakeBy::Send, value)),
+        Err(status) => status.number(),
+    }
+}
+
+#[unsafe(no_mangle)]
+pub extern "C" fn brc_recv(thread: &mut CThread, mailbox: u64, value: &mut u64) -> u32 {
+    match thread.as_mut().client() {
+        Ok(client) => told(client.give(mailbox, GiveBy::Receive), value),
+        Err(status) => status.number(),
+    }
+}
