@@ -121,7 +121,8 @@ enum {
 /* A key of a dictionary: with is_text 0 it is `number`, else a text of `len` bytes. */
 typedef struct brc_key { int64_t number; size_t len; uint32_t is_text; } brc_key;
 
-/* The version of the library: BRC_VERSION of the page that it was built with. */
+/* The version of the library: BRC_VERSION of the page that it was built with. Before 1.0.0 a program
+ * and a library fit if BRC_VERSION / 100 is the same in both, and then if BRC_VERSION / 1000 is. */
 uint32_t brc_version(void);
 
 
