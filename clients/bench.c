@@ -55,7 +55,6 @@ int main(int argc, char **argv) {
     brc_ref own, none, list, dict, globals, foreign, one, old;
     int64_t value;
     size_t cycles;
-    volatile uint32_t seen = 0;
     if (count < 40) count = 40;
     MUST(brc_heap_open(&heap, 4096));
     MUST(brc_thread_open(&heap, &t));
@@ -73,9 +72,9 @@ int main(int argc, char **argv) {
     MUST(brc_find(&other, globals, "object", &foreign));
     MUST(brc_release(&other, globals));
 
-    TIME("brc_version (an empty call)", count, seen = brc_version());
-    TIME("refused as FOREIGN", count, seen = brc_retain(&t, 7, &one));
-    TIME("refused as STALE", count, seen = brc_release(&t, own + 65536));
+    TIME("brc_version (an empty call)", count, (void)brc_version());
+    TIME("refused as FOREIGN", count, brc_retain(&t, 7, &one));
+    TIME("refused as STALE", count, brc_release(&t, own + 65536));
     TIME("retain + release, own object", count, brc_retain(&t, own, &one); brc_release(&t, one));
     TIME("retain + release, immortal", count, brc_retain(&t, none, &one); brc_release(&t, one));
     TIME("retain + release, another thread's object", count, brc_retain(&other, foreign, &one); brc_release(&other, one));
@@ -91,7 +90,8 @@ int main(int argc, char **argv) {
     TIME("dict_find_text + release", count / 4, brc_find(&t, dict, "key", &one); brc_release(&t, one));
     TIME("poll, nothing asked", count, brc_poll(&t));
     TIME("work, nothing dead", count, brc_work(&t, 64));
-    TIME("thread_new + leave + drop", 20, MUST(brc_thread_open(&heap, &third)); brc_thread_leave(&third); brc_thread_drop(third));
+    TIME("thread_new + leave + drop", 20, MUST(brc_thread_open(&heap, &third)); brc_thread_leave(&third);
+         brc_thread_drop(third));
 
     brc_thread_drop(other);
     brc_thread_drop(t);

@@ -263,10 +263,12 @@ static brc_status with_globals(program_t *p, const instruction_t *in) {
     brc_status s = brc_globals(t, &globals);
     if (s != BRC_OK) return s;
     if (in->op == SHARE) {
-        s = out_of(p, in->reg[0], brc_put(t, globals, in->word, p->reg[in->reg[0]], &found), BRC_NONE);
-        brc_clear(t, &found);
+        s = brc_put(t, globals, in->word, p->reg[in->reg[0]], &found);
+        s = out_of(p, in->reg[0], s, BRC_NONE);
+        brc_clear(t, &found);                           /* what was shared by that name before */
     } else {
-        s = into(p, in->reg[0], brc_find(t, globals, in->word, &found), found);
+        s = brc_find(t, globals, in->word, &found);
+        s = into(p, in->reg[0], s, found);
         if (s == BRC_NO_SUCH_KEY) s = BRC_BUSY;         /* nobody has shared it yet */
     }
     brc_release(t, globals);
