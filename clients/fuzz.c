@@ -2,8 +2,8 @@
  *
  *     fuzz SEED [STEPS [LOCAL_LIMIT]]
  *
- * Four threads call everything, in an order drawn at random, with numbers that are right, stale, another thread's, another
- * heap's, flipped in one bit, or noise. After each call a thread checks what it can know:
+ * Four threads call everything, in an order drawn at random. Their numbers are right, stale, another thread's, another heap's,
+ * flipped in one bit, or noise. After each call a thread checks what it can know:
  *
  *   - the status is one of those that brc.h names for the call;
  *   - the numbers were STALE or FOREIGN if and only if the thread doesn't hold them;

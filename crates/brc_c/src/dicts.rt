@@ -1,6 +1,6 @@
 //! Dictionaries: values beside keys, which are integers or texts.
 
-use crate::answers::{copy_prefix, exchanged, told};
+use crate::outs::{copy_prefix, write, write_old};
 use crate::slots::CThread;
 use brc_client::{GiveBy, KeyRef, TakeBy, text_of};
 use brc_words::Key;
@@ -25,7 +25,7 @@ pub extern "C" fn brc_dict_put_int(
     old: &mut u64,
 ) -> u32 {
     match thread.as_mut().client() {
-        Ok(client) => exchanged(client.take(alloc, dict, TakeBy::Put(KeyRef::Int(key)), value), old),
+        Ok(client) => write_old(client.take(alloc, dict, TakeBy::Put(KeyRef::Int(key)), value), old),
         Err(status) => status.number(),
     }
 }
@@ -41,7 +41,7 @@ pub extern "C" fn brc_dict_put_text(
 ) -> u32 {
     match thread.as_mut().client() {
         Ok(client) => match text_of(key) {
-            Ok(key) => exchanged(client.take(alloc, dict, TakeBy::Put(KeyRef::Text(key)), value), old),
+            Ok(key) => write_old(client.take(alloc, dict, TakeBy::Put(KeyRef::Text(key)), value), old),
             Err(status) => status.number(),
         },
         Err(status) => status.number(),
@@ -56,7 +56,7 @@ pub extern "C" fn brc_dict_find_int(
     value: &mut u64,
 ) -> u32 {
     match thread.as_mut().client() {
-        Ok(client) => told(client.give(dict, GiveBy::Find(KeyRef::Int(key))), value),
+        Ok(client) => write(client.give(dict, GiveBy::Find(KeyRef::Int(key))), value),
         Err(status) => status.number(),
     }
 }
@@ -70,7 +70,7 @@ pub extern "C" fn brc_dict_find_text(
 ) -> u32 {
     match thread.as_mut().client() {
         Ok(client) => match text_of(key) {
-            Ok(key) => told(client.give(dict, GiveBy::Find(KeyRef::Text(key))), value),
+            Ok(key) => write(client.give(dict, GiveBy::Find(KeyRef::Text(key))), value),
             Err(status) => status.number(),
         },
         Err(status) => status.number(),
@@ -85,7 +85,7 @@ pub extern "C" fn brc_dict_del_int(
     value: &mut u64,
 ) -> u32 {
     match thread.as_mut().client() {
-        Ok(client) => told(client.give(dict, GiveBy::Delete(KeyRef::Int(key))), value),
+        Ok(client) => write(client.give(dict, GiveBy::Delete(KeyRef::Int(key))), value),
         Err(status) => status.number(),
     }
 }
@@ -99,7 +99,7 @@ pub extern "C" fn brc_dict_del_text(
 ) -> u32 {
     match thread.as_mut().client() {
         Ok(client) => match text_of(key) {
-            Ok(key) => told(client.give(dict, GiveBy::Delete(KeyRef::Text(key))), value),
+            Ok(key) => write(client.give(dict, GiveBy::Delete(KeyRef::Text(key))), value),
             Err(status) => status.number(),
         },
         Err(status) => status.number(),

@@ -1,6 +1,6 @@
 //! Heaps: opened, counted, closed, reported and dropped.
 
-use crate::answers::told;
+use crate::outs::write;
 use crate::parts::Parts;
 use crate::slots::CHeap;
 use brc_client::{Owner, Status};
@@ -80,7 +80,7 @@ pub extern "C" fn brc_heap_report(
     to: &mut [u8],
     len: &mut usize,
 ) -> u32 {
-    told(heap.as_mut().report(alloc, from, to), len)
+    write(heap.as_mut().report(alloc, from, to), len)
 }
 
 #[unsafe(no_mangle)]

@@ -1,6 +1,6 @@
 //! Lists and mailboxes: references go in and come out.
 
-use crate::answers::{exchanged, given, told};
+use crate::outs::{status_of_taking, write, write_old};
 use crate::slots::CThread;
 use brc_client::{GiveBy, TakeBy};
 use std::alloc::Global;
@@ -8,7 +8,7 @@ use std::alloc::Global;
 #[unsafe(no_mangle)]
 pub extern "C" fn brc_list_push(alloc: Global, thread: &mut CThread, list: u64, value: u64) -> u32 {
     match thread.as_mut().client() {
-        Ok(client) => given(client.take(alloc, list, TakeBy::Push, value)),
+        Ok(client) => status_of_taking(client.take(alloc, list, TakeBy::Push, value)),
         Err(status) => status.number(),
     }
 }
@@ -16,7 +16,7 @@ pub extern "C" fn brc_list_push(alloc: Global, thread: &mut CThread, list: u64, 
 #[unsafe(no_mangle)]
 pub extern "C" fn brc_list_pop(thread: &mut CThread, list: u64, value: &mut u64) -> u32 {
     match thread.as_mut().client() {
-        Ok(client) => told(client.give(list, GiveBy::Pop), value),
+        Ok(client) => write(client.give(list, GiveBy::Pop), value),
         Err(status) => status.number(),
     }
 }
@@ -29,7 +29,7 @@ pub extern "C" fn brc_list_take(
     value: &mut u64,
 ) -> u32 {
     match thread.as_mut().client() {
-        Ok(client) => told(client.give(list, GiveBy::Take(index)), value),
+        Ok(client) => write(client.give(list, GiveBy::Take(index)), value),
         Err(status) => status.number(),
     }
 }
@@ -42,7 +42,7 @@ pub extern "C" fn brc_list_get(
     value: &mut u64,
 ) -> u32 {
     match thread.as_mut().client() {
-        Ok(client) => told(client.give(list, GiveBy::Get(index)), value),
+        Ok(client) => write(client.give(list, GiveBy::Get(index)), value),
         Err(status) => status.number(),
     }
 }
@@ -57,7 +57,7 @@ pub extern "C" fn brc_list_set(
     old: &mut u64,
 ) -> u32 {
     match thread.as_mut().client() {
-        Ok(client) => exchanged(client.take(alloc, list, TakeBy::Set(index), value), old),
+        Ok(client) => write_old(client.take(alloc, list, TakeBy::Set(index), value), old),
         Err(status) => status.number(),
     }
 }
@@ -65,7 +65,7 @@ pub extern "C" fn brc_list_set(
 #[unsafe(no_mangle)]
 pub extern "C" fn brc_send(alloc: Global, thread: &mut CThread, mailbox: u64, value: u64) -> u32 {
     match thread.as_mut().client() {
-        Ok(client) => given(client.take(alloc, mailbox, TakeBy::Send, value)),
+        Ok(client) => status_of_taking(client.take(alloc, mailbox, TakeBy::Send, value)),
         Err(status) => status.number(),
     }
 }
@@ -73,7 +73,7 @@ pub extern "C" fn brc_send(alloc: Global, thread: &mut CThread, mailbox: u64, va
 #[unsafe(no_mangle)]
 pub extern "C" fn brc_recv(thread: &mut CThread, mailbox: u64, value: &mut u64) -> u32 {
     match thread.as_mut().client() {
-        Ok(client) => told(client.give(mailbox, GiveBy::Receive), value),
+        Ok(client) => write(client.give(mailbox, GiveBy::Receive), value),
         Err(status) => status.number(),
     }
 }

@@ -1,6 +1,6 @@
 //! What an object is: its kind, how many entries it has, its number, its truth, its text.
 
-use crate::answers::{copy_prefix, told, told_truth};
+use crate::outs::{copy_prefix, write, write_truth};
 use crate::slots::CThread;
 use brc_words::Kind;
 
@@ -35,7 +35,7 @@ pub extern "C" fn brc_kind_of(thread: &mut CThread, held: u64, kind: &mut u32) -
 #[unsafe(no_mangle)]
 pub extern "C" fn brc_len_of(thread: &mut CThread, held: u64, len: &mut usize) -> u32 {
     match thread.as_mut().client() {
-        Ok(client) => told(client.len(held), len),
+        Ok(client) => write(client.len(held), len),
         Err(status) => status.number(),
     }
 }
@@ -43,7 +43,7 @@ pub extern "C" fn brc_len_of(thread: &mut CThread, held: u64, len: &mut usize) -
 #[unsafe(no_mangle)]
 pub extern "C" fn brc_int_of(thread: &mut CThread, held: u64, value: &mut i64) -> u32 {
     match thread.as_mut().client() {
-        Ok(client) => told(client.int(held), value),
+        Ok(client) => write(client.int(held), value),
         Err(status) => status.number(),
     }
 }
@@ -51,7 +51,7 @@ pub extern "C" fn brc_int_of(thread: &mut CThread, held: u64, value: &mut i64) -
 #[unsafe(no_mangle)]
 pub extern "C" fn brc_truth_of(thread: &mut CThread, held: u64, is_true: &mut u32) -> u32 {
     match thread.as_mut().client() {
-        Ok(client) => told_truth(client.truth(held), is_true),
+        Ok(client) => write_truth(client.truth(held), is_true),
         Err(status) => status.number(),
     }
 }

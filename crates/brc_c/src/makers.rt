@@ -1,6 +1,6 @@
 //! Makers: a reference to an immortal, or to a new object.
 
-use crate::answers::told;
+use crate::outs::write;
 use crate::slots::CThread;
 use brc_client::{Make, text_of};
 use std::alloc::Global;
@@ -8,7 +8,7 @@ use std::alloc::Global;
 #[unsafe(no_mangle)]
 pub extern "C" fn brc_none(alloc: Global, thread: &mut CThread, made: &mut u64) -> u32 {
     match thread.as_mut().client() {
-        Ok(client) => told(client.make(alloc, Make::Nothing), made),
+        Ok(client) => write(client.make(alloc, Make::Nothing), made),
         Err(status) => status.number(),
     }
 }
@@ -21,7 +21,7 @@ pub extern "C" fn brc_truth(
     made: &mut u64,
 ) -> u32 {
     match thread.as_mut().client() {
-        Ok(client) => told(client.make(alloc, Make::Truth(is_true != 0)), made),
+        Ok(client) => write(client.make(alloc, Make::Truth(is_true != 0)), made),
         Err(status) => status.number(),
     }
 }
@@ -29,7 +29,7 @@ pub extern "C" fn brc_truth(
 #[unsafe(no_mangle)]
 pub extern "C" fn brc_globals(alloc: Global, thread: &mut CThread, made: &mut u64) -> u32 {
     match thread.as_mut().client() {
-        Ok(client) => told(client.make(alloc, Make::Globals), made),
+        Ok(client) => write(client.make(alloc, Make::Globals), made),
         Err(status) => status.number(),
     }
 }
@@ -42,7 +42,7 @@ pub extern "C" fn brc_new_int(
     made: &mut u64,
 ) -> u32 {
     match thread.as_mut().client() {
-        Ok(client) => told(client.make(alloc, Make::Int(value)), made),
+        Ok(client) => write(client.make(alloc, Make::Int(value)), made),
         Err(status) => status.number(),
     }
 }
@@ -50,7 +50,7 @@ pub extern "C" fn brc_new_int(
 #[unsafe(no_mangle)]
 pub extern "C" fn brc_new_list(alloc: Global, thread: &mut CThread, made: &mut u64) -> u32 {
     match thread.as_mut().client() {
-        Ok(client) => told(client.make(alloc, Make::List), made),
+        Ok(client) => write(client.make(alloc, Make::List), made),
         Err(status) => status.number(),
     }
 }
@@ -58,7 +58,7 @@ pub extern "C" fn brc_new_list(alloc: Global, thread: &mut CThread, made: &mut u
 #[unsafe(no_mangle)]
 pub extern "C" fn brc_new_dict(alloc: Global, thread: &mut CThread, made: &mut u64) -> u32 {
     match thread.as_mut().client() {
-        Ok(client) => told(client.make(alloc, Make::Dict), made),
+        Ok(client) => write(client.make(alloc, Make::Dict), made),
         Err(status) => status.number(),
     }
 }
@@ -66,7 +66,7 @@ pub extern "C" fn brc_new_dict(alloc: Global, thread: &mut CThread, made: &mut u
 #[unsafe(no_mangle)]
 pub extern "C" fn brc_new_mailbox(alloc: Global, thread: &mut CThread, made: &mut u64) -> u32 {
     match thread.as_mut().client() {
-        Ok(client) => told(client.make(alloc, Make::Mailbox), made),
+        Ok(client) => write(client.make(alloc, Make::Mailbox), made),
         Err(status) => status.number(),
     }
 }
@@ -80,7 +80,7 @@ pub extern "C" fn brc_new_text(
 ) -> u32 {
     match thread.as_mut().client() {
         Ok(client) => match text_of(bytes) {
-            Ok(text) => told(client.make(alloc, Make::Text(text)), made),
+            Ok(text) => write(client.make(alloc, Make::Text(text)), made),
             Err(status) => status.number(),
         },
         Err(status) => status.number(),

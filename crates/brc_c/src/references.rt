@@ -1,12 +1,12 @@
 //! References: one more, one fewer, and whether two lead to one object.
 
-use crate::answers::{done, told, told_truth};
+use crate::outs::{status_of, write, write_truth};
 use crate::slots::CThread;
 
 #[unsafe(no_mangle)]
 pub extern "C" fn brc_retain(thread: &mut CThread, held: u64, more: &mut u64) -> u32 {
     match thread.as_mut().client() {
-        Ok(client) => told(client.retain(held), more),
+        Ok(client) => write(client.retain(held), more),
         Err(status) => status.number(),
     }
 }
@@ -14,7 +14,7 @@ pub extern "C" fn brc_retain(thread: &mut CThread, held: u64, more: &mut u64) ->
 #[unsafe(no_mangle)]
 pub extern "C" fn brc_release(thread: &mut CThread, held: u64) -> u32 {
     match thread.as_mut().client() {
-        Ok(client) => done(client.release(held)),
+        Ok(client) => status_of(client.release(held)),
         Err(status) => status.number(),
     }
 }
@@ -22,7 +22,7 @@ pub extern "C" fn brc_release(thread: &mut CThread, held: u64) -> u32 {
 #[unsafe(no_mangle)]
 pub extern "C" fn brc_same(thread: &mut CThread, one: u64, other: u64, same: &mut u32) -> u32 {
     match thread.as_mut().client() {
-        Ok(client) => told_truth(client.is_same(one, other), same),
+        Ok(client) => write_truth(client.is_same(one, other), same),
         Err(status) => status.number(),
     }
 }

@@ -1,6 +1,6 @@
 //! Threads: registered, counted, at work, and on their way out.
 
-use crate::answers::done;
+use crate::outs::status_of;
 use crate::held::Held;
 use crate::parts::Parts;
 use crate::slots::{CHeap, CThread};
@@ -42,7 +42,7 @@ fn hand_out(room: Box<Held, Global>, made: Result<Thread, Status>, at: &mut *mut
 
 #[unsafe(no_mangle)]
 pub extern "C" fn brc_thread_leave(thread: &mut CThread) -> u32 {
-    done(thread.as_mut().leave())
+    status_of(thread.as_mut().leave())
 }
 
 #[unsafe(no_mangle)]

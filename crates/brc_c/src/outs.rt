@@ -6,11 +6,11 @@ use brc_client::Status;
 
 /// What the call gave is written, or its refusal's number is returned.
 #[inline(always)]
-pub(crate) fn told<T>(result_of: Result<T, Status>, to: &mut T) -> u32
+pub(crate) fn write<T>(made: Result<T, Status>, to: &mut T) -> u32
 where
     T: Drop,
 {
-    match result_of {
+    match made {
         Ok(value) => {
             *to = value;
             0
@@ -21,8 +21,8 @@ where
 
 /// 1 or 0 is written. C's variable may have had any byte in it, which no `bool` may, so it is a `u32`.
 #[inline(always)]
-pub(crate) fn told_truth(result_of: Result<bool, Status>, to: &mut u32) -> u32 {
-    match result_of {
+pub(crate) fn write_truth(made: Result<bool, Status>, to: &mut u32) -> u32 {
+    match made {
         Ok(is_true) => {
             *to = u32::from(is_true);
             0
@@ -33,8 +33,8 @@ pub(crate) fn told_truth(result_of: Result<bool, Status>, to: &mut u32) -> u32 {
 
 /// The number of what came out is written, or 0 if nothing came out. No reference has the number 0.
 #[inline(always)]
-pub(crate) fn exchanged(result_of: Result<Option<u64>, Status>, old: &mut u64) -> u32 {
-    match result_of {
+pub(crate) fn write_old(made: Result<Option<u64>, Status>, old: &mut u64) -> u32 {
+    match made {
         Ok(Some(number)) => {
             *old = number;
             0
@@ -49,8 +49,8 @@ pub(crate) fn exchanged(result_of: Result<Option<u64>, Status>, old: &mut u64) -
 
 /// Nothing is written: nothing comes out for what was given.
 #[inline(always)]
-pub(crate) fn given(result_of: Result<Option<u64>, Status>) -> u32 {
-    match result_of {
+pub(crate) fn status_of_taking(made: Result<Option<u64>, Status>) -> u32 {
+    match made {
         Ok(_) => 0,
         Err(status) => status.number(),
     }
@@ -58,8 +58,8 @@ pub(crate) fn given(result_of: Result<Option<u64>, Status>) -> u32 {
 
 /// Nothing is written.
 #[inline(always)]
-pub(crate) fn done(result_of: Result<(), Status>) -> u32 {
-    match result_of {
+pub(crate) fn status_of(made: Result<(), Status>) -> u32 {
+    match made {
         Ok(()) => 0,
         Err(status) => status.number(),
     }
