@@ -30,12 +30,11 @@ TYPES = {**NUMBERS, "brc_heap": Variable, "brc_thread": Variable, "brc_key": Key
 
 def type_of(words):
     """The type of a parameter, as ctypes has it."""
-    words = words.replace("const ", "")
-    name = re.match(r"\w+", words)[0]
+    name = re.match(r"(?:const )?(\w+)", words)[1]
     if "**" in words:
         return ctypes.POINTER(ctypes.c_void_p)
     if name == "uint8_t":
-        return ctypes.c_char_p
+        return ctypes.c_char_p if words.startswith("const ") else ctypes.c_void_p
     return ctypes.POINTER(TYPES[name]) if "*" in words else TYPES[name]
 
 

@@ -128,8 +128,8 @@ uint32_t brc_version(void);
 
 /* ---- Heaps */
 
-/* Opens a heap, and writes it to `at`, the field of a brc_heap. `cells` is 512 to 65,536. A thread
- * counts `local_limit` references to an object of its own before it settles the count: 1 to
+/* Opens a heap, and writes it to `at`, the field of a brc_heap. `cells` is 512 to 65,536. With
+ * `local_limit` references to an object of its own, a thread counts further ones atomically: 1 to
  * 4,294,967,294. `first` begins the numbers of this heap's threads. If the heaps of one program get
  * 0, 1024, 2048 and so on, the references of one are FOREIGN to the others.
  * BAD_OPTIONS, OUT_OF_MEMORY. */
@@ -157,7 +157,8 @@ brc_status brc_heap_report(brc_heap *, size_t from, uint8_t *to, size_t room, si
 void brc_heap_drop(brc_heap);
 
 
-/* ---- Threads. A brc_thread that has left is GONE in every call but _drop. */
+/* ---- Threads. One that has left is GONE in every call. brc_poll, brc_work and brc_count have no
+ * status: of such a thread they return 0, `turns` and 0. */
 
 /* Registers a thread, and writes it to `at`, the field of a brc_thread. The first call is for the
  * thread that has the heap's variable, the second for any registered thread.
@@ -167,7 +168,8 @@ brc_status brc_thread_fork(brc_thread *, void **at);
 
 /* The thread leaves the heap. It hands over what it owns, so it may take several calls. BUSY says
  * that there is more to do, or that another call has the register of threads. A thread that began to
- * leave is GONE in the other calls. After OK it has left. GONE, NOT_IDLE if it has references, BUSY. */
+ * leave is GONE in the other calls. After OK it has left.
+ * GONE, NOT_IDLE if it has references, BUSY. */
 brc_status brc_thread_leave(brc_thread *);
 
 /* Lets go of the thread, at any time. It releases all its references, and leaves if it can at once.
@@ -178,21 +180,21 @@ void brc_thread_drop(brc_thread);
  * GONE. */
 brc_status brc_ledger(brc_thread *, uint64_t *allocs, uint64_t *frees);
 
-/* Does what other threads asked for. Returns 0 if nobody had asked. */
+/* Does what other threads asked for. Returns 0 if nothing was asked. */
 uint64_t brc_poll(brc_thread *);
 
 /* Takes dead objects apart: in each turn one entry is released, or one object's memory is freed.
  * Returns how many turns are left over. More than 0 means that no dead object remains. */
 size_t brc_work(brc_thread *, size_t turns);
 
-/* How many references the thread has; 0 once it has left. */
+/* How many references the thread has. */
 size_t brc_count(brc_thread *);
 
 /* Releases all references of the thread: each of its numbers is STALE then. GONE. */
 brc_status brc_release_all(brc_thread *);
 
-/* A hint: the search for a free cell begins here. If `near` isn't 0, each later search begins where
- * the thread worked last. Of n threads, give thread i the cell cells * i / n. Use `near` in a heap
+/* A hint: the search for a free cell begins here. Of n threads, give thread i the cell cells * i / n.
+ * If `near_last` isn't 0, each later search begins where the thread worked last. Use that in a heap
  * that is nearly full. GONE. */
 brc_status brc_claim(brc_thread *, uint32_t cell, uint32_t near_last);
 
