@@ -1,5 +1,7 @@
 //! Dictionaries: values beside keys, which are integers or texts.
 
+ghost use Rattle.std.specs.Prelude.{◌≡◌, ◌≢◌};
+
 use crate::outs::{copy_prefix, write, write_old};
 use crate::slots::CThread;
 use brc_client::{GiveBy, KeyRef, TakeBy, text_of};
@@ -23,9 +25,14 @@ pub extern "C" fn brc_dict_put_int(
     key: i64,
     value: u64,
     old: &mut u64,
-) -> u32 {
+) -> u32
+    ensures kept { result ≢ 0 → old.new ≡ old.old }
+{
     match thread.as_mut().client() {
-        Ok(client) => write_old(client.take(alloc, dict, TakeBy::Put(KeyRef::Int(key)), value), old),
+        Ok(client) => write_old(
+            client.take(alloc, dict, TakeBy::Put(KeyRef::Int(key)), value),
+            old,
+        ),
         Err(status) => status.number(),
     }
 }
@@ -38,10 +45,15 @@ pub extern "C" fn brc_dict_put_text(
     key: &[u8],
     value: u64,
     old: &mut u64,
-) -> u32 {
+) -> u32
+    ensures kept { result ≢ 0 → old.new ≡ old.old }
+{
     match thread.as_mut().client() {
         Ok(client) => match text_of(key) {
-            Ok(key) => write_old(client.take(alloc, dict, TakeBy::Put(KeyRef::Text(key)), value), old),
+            Ok(key) => write_old(
+                client.take(alloc, dict, TakeBy::Put(KeyRef::Text(key)), value),
+                old,
+            ),
             Err(status) => status.number(),
         },
         Err(status) => status.number(),
@@ -54,7 +66,9 @@ pub extern "C" fn brc_dict_find_int(
     dict: u64,
     key: i64,
     value: &mut u64,
-) -> u32 {
+) -> u32
+    ensures kept { result ≢ 0 → value.new ≡ value.old }
+{
     match thread.as_mut().client() {
         Ok(client) => write(client.give(dict, GiveBy::Find(KeyRef::Int(key))), value),
         Err(status) => status.number(),
@@ -67,7 +81,9 @@ pub extern "C" fn brc_dict_find_text(
     dict: u64,
     key: &[u8],
     value: &mut u64,
-) -> u32 {
+) -> u32
+    ensures kept { result ≢ 0 → value.new ≡ value.old }
+{
     match thread.as_mut().client() {
         Ok(client) => match text_of(key) {
             Ok(key) => write(client.give(dict, GiveBy::Find(KeyRef::Text(key))), value),
@@ -83,7 +99,9 @@ pub extern "C" fn brc_dict_del_int(
     dict: u64,
     key: i64,
     value: &mut u64,
-) -> u32 {
+) -> u32
+    ensures kept { result ≢ 0 → value.new ≡ value.old }
+{
     match thread.as_mut().client() {
         Ok(client) => write(client.give(dict, GiveBy::Delete(KeyRef::Int(key))), value),
         Err(status) => status.number(),
@@ -96,7 +114,9 @@ pub extern "C" fn brc_dict_del_text(
     dict: u64,
     key: &[u8],
     value: &mut u64,
-) -> u32 {
+) -> u32
+    ensures kept { result ≢ 0 → value.new ≡ value.old }
+{
     match thread.as_mut().client() {
         Ok(client) => match text_of(key) {
             Ok(key) => write(client.give(dict, GiveBy::Delete(KeyRef::Text(key))), value),
@@ -115,7 +135,9 @@ pub extern "C" fn brc_dict_pair(
     key: &mut CKey,
     to: &mut [u8],
     value: &mut u64,
-) -> u32 {
+) -> u32
+    ensures kept { result ≢ 0 → (key.new ≡ key.old) × (to.new ≡ to.old) × (value.new ≡ value.old) }
+{
     match thread.as_mut().client() {
         Ok(client) => match client.pair(alloc, dict, index) {
             Ok((found, number)) => {

@@ -1,5 +1,7 @@
 //! Heaps: opened, counted, closed, reported and dropped.
 
+ghost use Rattle.std.specs.Prelude.{◌≡◌, ◌≢◌};
+
 use crate::outs::write;
 use crate::parts::Parts;
 use crate::slots::CHeap;
@@ -22,7 +24,9 @@ pub extern "C" fn brc_heap_new(
     cells: u32,
     local_limit: u32,
     first: u32,
-) -> u32 {
+) -> u32
+    ensures kept { result ≢ 0 → at.new ≡ at.old }
+{
     match Owner::new(alloc, cells, local_limit, first) {
         Ok(owner) => match Box::new(alloc, owner) {
             Ok(owner) => {
@@ -42,7 +46,10 @@ pub extern "C" fn brc_heap_counts(
     left: &mut u32,
     allocs: &mut u64,
     frees: &mut u64,
-) -> u32 {
+) -> u32
+    ensures kept { result ≢ 0 → (registered.new ≡ registered.old) × (left.new ≡ left.old) }
+    ensures kept_ledger { result ≢ 0 → (allocs.new ≡ allocs.old) × (frees.new ≡ frees.old) }
+{
     match heap.as_mut().counts() {
         Ok(counts) => {
             *registered = counts.registered;
@@ -61,7 +68,9 @@ pub extern "C" fn brc_heap_close(
     heap: &mut CHeap,
     live: &mut u64,
     cycles: &mut usize,
-) -> u32 {
+) -> u32
+    ensures kept { result ≢ 0 → (live.new ≡ live.old) × (cycles.new ≡ cycles.old) }
+{
     match heap.as_mut().close(alloc) {
         Ok(left) => {
             *live = left.live;
@@ -79,7 +88,9 @@ pub extern "C" fn brc_heap_report(
     from: usize,
     to: &mut [u8],
     len: &mut usize,
-) -> u32 {
+) -> u32
+    ensures kept { result ≢ 0 → len.new ≡ len.old }
+{
     write(heap.as_mut().report(alloc, from, to), len)
 }
 

@@ -1,12 +1,16 @@
 //! Makers: a reference to an immortal, or to a new object.
 
+ghost use Rattle.std.specs.Prelude.{◌≡◌, ◌≢◌};
+
 use crate::outs::write;
 use crate::slots::CThread;
 use brc_client::{Make, text_of};
 use std::alloc::Global;
 
 #[unsafe(no_mangle)]
-pub extern "C" fn brc_none(alloc: Global, thread: &mut CThread, made: &mut u64) -> u32 {
+pub extern "C" fn brc_none(alloc: Global, thread: &mut CThread, made: &mut u64) -> u32
+    ensures kept { result ≢ 0 → made.new ≡ made.old }
+{
     match thread.as_mut().client() {
         Ok(client) => write(client.make(alloc, Make::Nothing), made),
         Err(status) => status.number(),
@@ -19,7 +23,9 @@ pub extern "C" fn brc_truth(
     thread: &mut CThread,
     is_true: u32,
     made: &mut u64,
-) -> u32 {
+) -> u32
+    ensures kept { result ≢ 0 → made.new ≡ made.old }
+{
     match thread.as_mut().client() {
         Ok(client) => write(client.make(alloc, Make::Truth(is_true != 0)), made),
         Err(status) => status.number(),
@@ -27,7 +33,9 @@ pub extern "C" fn brc_truth(
 }
 
 #[unsafe(no_mangle)]
-pub extern "C" fn brc_globals(alloc: Global, thread: &mut CThread, made: &mut u64) -> u32 {
+pub extern "C" fn brc_globals(alloc: Global, thread: &mut CThread, made: &mut u64) -> u32
+    ensures kept { result ≢ 0 → made.new ≡ made.old }
+{
     match thread.as_mut().client() {
         Ok(client) => write(client.make(alloc, Make::Globals), made),
         Err(status) => status.number(),
@@ -40,7 +48,9 @@ pub extern "C" fn brc_new_int(
     thread: &mut CThread,
     value: i64,
     made: &mut u64,
-) -> u32 {
+) -> u32
+    ensures kept { result ≢ 0 → made.new ≡ made.old }
+{
     match thread.as_mut().client() {
         Ok(client) => write(client.make(alloc, Make::Int(value)), made),
         Err(status) => status.number(),
@@ -48,7 +58,9 @@ pub extern "C" fn brc_new_int(
 }
 
 #[unsafe(no_mangle)]
-pub extern "C" fn brc_new_list(alloc: Global, thread: &mut CThread, made: &mut u64) -> u32 {
+pub extern "C" fn brc_new_list(alloc: Global, thread: &mut CThread, made: &mut u64) -> u32
+    ensures kept { result ≢ 0 → made.new ≡ made.old }
+{
     match thread.as_mut().client() {
         Ok(client) => write(client.make(alloc, Make::List), made),
         Err(status) => status.number(),
@@ -56,7 +68,9 @@ pub extern "C" fn brc_new_list(alloc: Global, thread: &mut CThread, made: &mut u
 }
 
 #[unsafe(no_mangle)]
-pub extern "C" fn brc_new_dict(alloc: Global, thread: &mut CThread, made: &mut u64) -> u32 {
+pub extern "C" fn brc_new_dict(alloc: Global, thread: &mut CThread, made: &mut u64) -> u32
+    ensures kept { result ≢ 0 → made.new ≡ made.old }
+{
     match thread.as_mut().client() {
         Ok(client) => write(client.make(alloc, Make::Dict), made),
         Err(status) => status.number(),
@@ -64,7 +78,9 @@ pub extern "C" fn brc_new_dict(alloc: Global, thread: &mut CThread, made: &mut u
 }
 
 #[unsafe(no_mangle)]
-pub extern "C" fn brc_new_mailbox(alloc: Global, thread: &mut CThread, made: &mut u64) -> u32 {
+pub extern "C" fn brc_new_mailbox(alloc: Global, thread: &mut CThread, made: &mut u64) -> u32
+    ensures kept { result ≢ 0 → made.new ≡ made.old }
+{
     match thread.as_mut().client() {
         Ok(client) => write(client.make(alloc, Make::Mailbox), made),
         Err(status) => status.number(),
@@ -77,7 +93,9 @@ pub extern "C" fn brc_new_text(
     thread: &mut CThread,
     bytes: &[u8],
     made: &mut u64,
-) -> u32 {
+) -> u32
+    ensures kept { result ≢ 0 → made.new ≡ made.old }
+{
     match thread.as_mut().client() {
         Ok(client) => match text_of(bytes) {
             Ok(text) => write(client.make(alloc, Make::Text(text)), made),

@@ -1,6 +1,6 @@
 //! What an export returns, and what it writes first. 0 is OK; a status of `brc_client` has its number.
 
-ghost use Rattle.std.specs.Prelude.{◌≡◌, length};
+ghost use Rattle.std.specs.Prelude.{◌≡◌, ◌≢◌, length};
 
 use brc_client::Status;
 
@@ -9,6 +9,7 @@ use brc_client::Status;
 pub(crate) fn write<T>(made: Result<T, Status>, to: &mut T) -> u32
 where
     T: Drop,
+    ensures kept { result ≢ 0 → to.new ≡ to.old }
 {
     match made {
         Ok(value) => {
@@ -21,7 +22,9 @@ where
 
 /// 1 or 0 is written. C's variable may have had any byte in it, which no `bool` may, so it is a `u32`.
 #[inline(always)]
-pub(crate) fn write_truth(made: Result<bool, Status>, to: &mut u32) -> u32 {
+pub(crate) fn write_truth(made: Result<bool, Status>, to: &mut u32) -> u32
+    ensures kept { result ≢ 0 → to.new ≡ to.old }
+{
     match made {
         Ok(is_true) => {
             *to = u32::from(is_true);
@@ -33,7 +36,9 @@ pub(crate) fn write_truth(made: Result<bool, Status>, to: &mut u32) -> u32 {
 
 /// The number of what came out is written, or 0 if nothing came out. No reference has the number 0.
 #[inline(always)]
-pub(crate) fn write_old(made: Result<Option<u64>, Status>, old: &mut u64) -> u32 {
+pub(crate) fn write_old(made: Result<Option<u64>, Status>, old: &mut u64) -> u32
+    ensures kept { result ≢ 0 → old.new ≡ old.old }
+{
     match made {
         Ok(Some(number)) => {
             *old = number;

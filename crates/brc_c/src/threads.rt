@@ -1,7 +1,9 @@
 //! Threads: registered, counted, at work, and on their way out.
 
-use crate::outs::status_of;
+ghost use Rattle.std.specs.Prelude.{◌≡◌, ◌≢◌};
+
 use crate::held::Held;
+use crate::outs::status_of;
 use crate::parts::Parts;
 use crate::slots::{CHeap, CThread};
 use brc_client::{Status, Thread};
@@ -12,7 +14,9 @@ use std::alloc::Global;
 // then can't be handed out would have to leave, and it couldn't while another call has the heap's root.
 
 #[unsafe(no_mangle)]
-pub extern "C" fn brc_thread_new(alloc: Global, heap: &mut CHeap, at: &mut *mut u8) -> u32 {
+pub extern "C" fn brc_thread_new(alloc: Global, heap: &mut CHeap, at: &mut *mut u8) -> u32
+    ensures kept { result ≢ 0 → at.new ≡ at.old }
+{
     match Box::new(alloc, Held::empty()) {
         Ok(room) => hand_out(room, heap.as_mut().register(alloc), at),
         Err(_) => Status::Fault(Fault::OutOfMemory).number(),
@@ -20,7 +24,9 @@ pub extern "C" fn brc_thread_new(alloc: Global, heap: &mut CHeap, at: &mut *mut 
 }
 
 #[unsafe(no_mangle)]
-pub extern "C" fn brc_thread_fork(alloc: Global, thread: &mut CThread, at: &mut *mut u8) -> u32 {
+pub extern "C" fn brc_thread_fork(alloc: Global, thread: &mut CThread, at: &mut *mut u8) -> u32
+    ensures kept { result ≢ 0 → at.new ≡ at.old }
+{
     match Box::new(alloc, Held::empty()) {
         Ok(room) => hand_out(room, thread.as_mut().fork(alloc), at),
         Err(_) => Status::Fault(Fault::OutOfMemory).number(),
@@ -28,7 +34,9 @@ pub extern "C" fn brc_thread_fork(alloc: Global, thread: &mut CThread, at: &mut 
 }
 
 /// The thread goes into the room, and the room to C.
-fn hand_out(room: Box<Held, Global>, made: Result<Thread, Status>, at: &mut *mut u8) -> u32 {
+fn hand_out(room: Box<Held, Global>, made: Result<Thread, Status>, at: &mut *mut u8) -> u32
+    ensures kept { result ≢ 0 → at.new ≡ at.old }
+{
     match made {
         Ok(thread) => {
             let mut room = room;
@@ -51,7 +59,9 @@ pub extern "C" fn brc_thread_drop(thread: CThread) {
 }
 
 #[unsafe(no_mangle)]
-pub extern "C" fn brc_ledger(thread: &mut CThread, allocs: &mut u64, frees: &mut u64) -> u32 {
+pub extern "C" fn brc_ledger(thread: &mut CThread, allocs: &mut u64, frees: &mut u64) -> u32
+    ensures kept { result ≢ 0 → (allocs.new ≡ allocs.old) × (frees.new ≡ frees.old) }
+{
     match thread.as_mut().ledger() {
         Ok(ledger) => {
             *allocs = ledger.allocs;

@@ -24,17 +24,17 @@ use denote.Ref.{MutRef, mut_vals, mut_Tells}
 use denote.Signature.{plain, mut_ref_to}
 use denote.Steps.{nothing, opens}
 use denote.Triple.Entry.{on_entry}
-use denote.Triple.Spec.{Meets, triple_of}
+use denote.Triple.Spec.{triple_of}
 use denote.Triple.Table.{entered}
 use denote.Triple.Walked.{says, Stays, stay_dropped, walk_of, ends_at, walked, walk_Meets, Goes-spent_ref}
 use Rattle.core.proofs.alloc.Calls.{token}
 use mir.Raw.{raw as bare}
-use contract.Monad.{Fun, fact}
+use contract.Monad.{Fun}
 use contract.Running.{tables, tables_of}
 use denote.Exit.{no}
 use denote.Follow.{follows, Part, lends_Part}
 use Rattle.std_alloc.proofs.VecSteps.Shapes.{after}
-use Rattle.std_alloc.proofs.BoxSteps.Form.{X, R, B, D, τ, word, handle}
+use Rattle.std_alloc.proofs.BoxSteps.Form.{B, D, τ, word, handle}
 use Rattle.std_alloc.proofs.BoxSteps.Steps.{box_out, box_in}
 use Rattle.brc_c.specs.contracts.held.Held as thing
 use Rattle.brc_c.specs.contracts.slots.CThread as slot
