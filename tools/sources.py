@@ -1,4 +1,5 @@
 """What the pages that are made from the code read: files, functions with their clauses, and definitions of specs/."""
+import functools
 import os
 import re
 
@@ -24,14 +25,20 @@ def files_of(crate, folder, ending):
                 yield os.path.relpath(f"{at}/{name}", ROOT)
 
 
+@functools.cache
 def crates():
     """The crates in the order of crates.txt, each with the libraries that it lists."""
+    return [*listed_crates()]
+
+
+def listed_crates():
     for line in text_of(f"{ROOT}/crates.txt").split("\n"):
         head, _, listed = line.split("#")[0].partition(":")
         if head.strip():
             yield head.split()[0], listed.split()
 
 
+@functools.cache
 def passed_on(crate):
     """What a crate passes on whole: the name under which it does so, and the crate (`pub use CRATE as NAME`, `pub use CRATE::{NAME, ..}`)."""
     path = f"{ROOT}/crates/{crate}/src/lib.rt"

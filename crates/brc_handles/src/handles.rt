@@ -129,8 +129,8 @@ impl<A: Allocator> Handles<A> {
         self.slots[index].replace(handle)
     }
 
-    /// The end of places that are all empty.
-    pub(crate) fn spend(self)
+    /// The end of places that are all empty: it wants no frame.
+    pub fn spend(self)
         requires empty { (k : ℕ) → slot self k ≡ None }
         ensures bare { IsBare self }
     {

@@ -4,5 +4,5 @@ use Rattle.brc_places.proofs.giving.give_at.Goals as goal
 pub returns-in-Err-place-clause-refused : goal.returns-in-Err-place-clause-refused
 returns-in-Err-place-clause-refused g c =
     let refused = c.in-Err-place.ensures in
-    rw (← c.in-Some.ensures) (NoRoom refused.refused refused.last c.in-Ok.given c.gave.new.frame c.in-Ok.ensures.did
+    rw (← c.in-Some.ensures) (NoRoom refused.refused refused.last c.in-Ok.given c.give_by.new.frame c.in-Ok.ensures.did
     refused.released)

@@ -1,8 +1,8 @@
 """A reader of DOT, and of the texts that `brc graph` takes, written from docs/HEAP.md alone and from the grammar that graphviz publishes.
 
-python3 benches/dot_rules.py BRC FILE..     draws each file by `BRC graph`, reads the picture as DOT, and compares its nodes, edges and boxes
+python3 oracle/dot_rules.py BRC FILE..      draws each file by `BRC graph`, reads the picture as DOT, and compares its nodes, edges and boxes
                                             with what the file says; a file that is refused must be bad by the rules, at that line
-python3 benches/dot_rules.py BRC -n COUNT SEED FILE..   the same of so many texts, each a file that is broken at random
+python3 oracle/dot_rules.py BRC -n COUNT SEED FILE..   the same of so many texts, each a file that is broken at random
 
 The last line is `N pictures, M refusals, K not as the rules say`."""
 import random
