@@ -54,7 +54,7 @@ int main(int argc, char **argv) {
     brc_thread t, other, third;
     brc_ref own, none, list, dict, globals, foreign, one, old;
     int64_t value;
-    size_t cycles;
+    uint64_t cycles;
     if (count < 40) count = 40;
     MUST(brc_heap_open(&heap, 4096));
     MUST(brc_thread_open(&heap, &t));

@@ -368,7 +368,7 @@ int main(int argc, char **argv) {
     uint64_t seed = argc > 1 ? strtoull(argv[1], NULL, 10) : 1, done = 0, refused[STATUSES] = {0};
     uint64_t allocs = 0, frees = 0, live = 0;
     uint32_t local_limit = argc > 3 ? (uint32_t)strtoul(argv[3], NULL, 10) : 4294967294u, registered = 0, left = 0, dropped = 0;
-    size_t cycles = 0;
+    uint64_t cycles = 0;
     brc_status s;
     if (argc > 2) steps = atoi(argv[2]);
 
@@ -411,7 +411,7 @@ int main(int argc, char **argv) {
     brc_thread_drop(second_thread);
 
     printf("seed %" PRIu64 ": done %" PRIu64 ", threads %" PRIu32 " of %" PRIu32, seed, done, left, registered);
-    printf(", made %" PRIu64 ", freed %" PRIu64 ", live %" PRIu64 ", cycles %zu; refused:", allocs, frees, live, cycles);
+    printf(", made %" PRIu64 ", freed %" PRIu64 ", live %" PRIu64 ", cycles %" PRIu64 "; refused:", allocs, frees, live, cycles);
     for (int k = 0; k < STATUSES; k++)
         if (refused[k] != 0) printf(" %s %" PRIu64, brc_status_name((brc_status)k), refused[k]);
     puts("");

@@ -401,7 +401,7 @@ int main(int argc, char **argv) {
     static pthread_t runs[MOST_PROGRAMS];
     brc_heap heap;
     uint64_t live = 0, allocs = 0, frees = 0;
-    size_t cycles = 0;
+    uint64_t cycles = 0;
     uint32_t registered = 0, left = 0;
     int count = argc - 1, status = 0;
     brc_status s;
@@ -436,8 +436,8 @@ int main(int argc, char **argv) {
     if (!clear_globals(&heap) || fails("counts", brc_heap_counts(&heap, &registered, &left, &allocs, &frees))) return 2;
     BRC_WAIT_HEAP(s, brc_heap_close(&heap, &live, &cycles));
     if (fails("close", s)) return 2;
-    printf("threads %" PRIu32 " of %" PRIu32 ", made less freed %" PRIu64 ", live %" PRIu64 ", cycles %zu\n", left, registered,
-           allocs - frees, live, cycles);
+    printf("threads %" PRIu32 " of %" PRIu32 ", made less freed %" PRIu64 ", live %" PRIu64 ", cycles %" PRIu64 "\n", left,
+           registered, allocs - frees, live, cycles);
     if (live != 0) print_report(&heap);
     brc_heap_drop(heap);
     return live != 0 ? 1 : status;

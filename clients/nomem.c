@@ -101,7 +101,8 @@ static void life(void) {
     brc_thread t, forked;
     brc_ref list, dict, mailbox;
     uint64_t live;
-    size_t cycles, len;
+    uint64_t cycles;
+    size_t len;
     uint8_t text[64];
     brc_status s;
 

@@ -115,7 +115,7 @@ def main():
     call(first, "brc_thread_leave")
     for thread in [*threads, first]:
         brc.brc_thread_drop(thread)
-    live, cycles = ctypes.c_uint64(), ctypes.c_size_t()
+    live, cycles = ctypes.c_uint64(), ctypes.c_uint64()
     status = brc.brc_heap_close(ctypes.byref(heap), ctypes.byref(live), ctypes.byref(cycles))
     brc.brc_heap_drop(heap)
     wanted = sum(1000 * number + i for number in range(THREADS) for i in range(EACH))

@@ -27,7 +27,7 @@ const STALE: u32 = 64;
 #[link(name = "brc", kind = "static")]
 extern "C" {
     fn brc_heap_new(at: *mut *mut c_void, cells: u32, local_limit: u32, first: u32) -> u32;
-    fn brc_heap_close(heap: *mut Heap, live: *mut u64, cycles: *mut usize) -> u32;
+    fn brc_heap_close(heap: *mut Heap, live: *mut u64, cycles: *mut u64) -> u32;
     fn brc_heap_drop(heap: Heap);
     fn brc_thread_new(heap: *mut Heap, at: *mut *mut c_void) -> u32;
     fn brc_thread_leave(thread: *mut Thread) -> u32;

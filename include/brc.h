@@ -6,7 +6,7 @@
  * to lists, dictionaries and mailboxes. All threads share these. brc_globals is the dictionary in
  * which threads find one another's objects.
  *
- *     brc_heap heap;  brc_thread t;  brc_ref list, one;  brc_status s;  uint64_t live;  size_t cycles;
+ *     brc_heap heap;  brc_thread t;  brc_ref list, one;  brc_status s;  uint64_t live, cycles;
  *
  *     brc_heap_open(&heap, 4096);                       // each call returns a status: look at it
  *     brc_thread_open(&heap, &t);
@@ -144,7 +144,7 @@ brc_status brc_heap_counts(brc_heap *, uint32_t *registered, uint32_t *left, uin
  * a report: that is the one refusal that changes something. From then on it is GONE.
  * GONE; BUSY; MISSING while a registered thread hasn't left; BUSY while a thread's last call runs;
  * OUT_OF_MEMORY. */
-brc_status brc_heap_close(brc_heap *, uint64_t *live, size_t *cycles);
+brc_status brc_heap_close(brc_heap *, uint64_t *live, uint64_t *cycles);
 
 /* The report of a closed heap as text: its bytes from `from` on, as many as `room` allows. `len` is
  * the length of the whole text. Its lines are `ledger ALLOCS FREES LIVE`, `remain CELL KIND HOLDER`

@@ -67,7 +67,7 @@ pub extern "C" fn brc_heap_close(
     alloc: Global,
     heap: &mut CHeap,
     live: &mut u64,
-    cycles: &mut usize,
+    cycles: &mut u64,
 ) -> u32
     ensures kept { result ≢ 0 → (live.new ≡ live.old) × (cycles.new ≡ cycles.old) }
 {

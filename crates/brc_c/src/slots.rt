@@ -8,7 +8,7 @@ ghost use Rattle.std.specs.Prelude.{◌≡◌};
 ghost use Rattle.brc_c.specs.OwnerKept.{heap_owns, heap_coded};
 ghost use Rattle.brc_c.specs.HeldKept.{thread_owns, thread_coded};
 ghost use Rattle.brc_c.specs.declared.held.Held.{Held};
-ghost use Rattle.brc_client.specs.declared.owner.Owner.{Owner};
+ghost use Rattle.brc_client.specs.declared.owner.OwnerStage.{OwnerStage};
 
 use crate::held::Held;
 use crate::parts::Parts;
@@ -21,7 +21,7 @@ use std::marker::Model;
 pub struct CHeap {
     at: *mut u8,
     alloc: Global,
-    pub(crate) ghost value: { Owner } by { heap_coded },
+    pub(crate) ghost value: { OwnerStage } by { heap_coded },
 }
 
 impl Model for CHeap {
