@@ -291,7 +291,7 @@ static int turn(worker_t *w) {
     CHECK(s < STATUSES && (ABOUT[call].statuses & S(s)) != 0);
     if (s == BRC_GONE || (call == LEAVE && s != BRC_NOT_IDLE)) {
         CHECK(w->count == 0);
-        return 1;
+        return 1;               /* (`run` goes on with a leaving that was Busy) */
     }
     if (call != LEAVE) check_status(w, call, &in, s);
     if (s != BRC_OK) {
@@ -411,7 +411,8 @@ int main(int argc, char **argv) {
     brc_thread_drop(second_thread);
 
     printf("seed %" PRIu64 ": done %" PRIu64 ", threads %" PRIu32 " of %" PRIu32, seed, done, left, registered);
-    printf(", made %" PRIu64 ", freed %" PRIu64 ", live %" PRIu64 ", cycles %" PRIu64 "; refused:", allocs, frees, live, cycles);
+    printf(", made %" PRIu64 ", freed %" PRIu64 ", live %" PRIu64, allocs, frees, live);
+    printf(", cycles %" PRIu64 "; refused:", cycles);
     for (int k = 0; k < STATUSES; k++)
         if (refused[k] != 0) printf(" %s %" PRIu64, brc_status_name((brc_status)k), refused[k]);
     puts("");

@@ -162,14 +162,15 @@ void brc_heap_drop(brc_heap);
 
 /* Registers a thread, and writes it to `at`, the field of a brc_thread. The first call is for the
  * thread that has the heap's variable, the second for any registered thread.
- * OUT_OF_MEMORY, GONE, BUSY, TOO_MANY_THREADS, OUT_OF_MEMORY for the rest of the thread. */
+ * OUT_OF_MEMORY for what `at` leads to; GONE; OUT_OF_MEMORY for its numbers; BUSY; TOO_MANY_THREADS;
+ * OUT_OF_MEMORY. */
 brc_status brc_thread_new(brc_heap *, void **at);
 brc_status brc_thread_fork(brc_thread *, void **at);
 
 /* The thread leaves the heap. It hands over what it owns, so it may take several calls. BUSY says
- * that there is more to do, or that another call has the register of threads. A thread that began to
- * leave is GONE in the other calls. After OK it has left.
- * GONE, NOT_IDLE if it has references, BUSY. */
+ * that there is more to do, or that another call has the register of threads. A thread that is on its
+ * way out may be GONE in the other calls already. After OK it has left.
+ * GONE, NOT_IDLE if it has references, BUSY, OUT_OF_MEMORY. */
 brc_status brc_thread_leave(brc_thread *);
 
 /* Lets go of the thread, at any time. It releases all its references, and leaves if it can at once.
