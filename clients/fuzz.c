@@ -1,6 +1,6 @@
 /* fuzz: a hostile client of brc.h.
  *
- *     fuzz SEED [STEPS [LOCAL_LIMIT]]
+ *     fuzz SEED [STEPS [LOCAL_LIMIT [CELLS]]]
  *
  * Four threads call everything, in an order drawn at random. Their numbers are right, stale, another thread's, another heap's,
  * flipped in one bit, or noise. After each call a thread checks what it can know:
@@ -32,7 +32,7 @@
         if (s_ != BRC_OK) { fprintf(stderr, "fuzz: line %d: %s: %s\n", __LINE__, #call, brc_status_name(s_)); abort(); }   \
     } while (0)
 
-enum { MOST_HELD = 200, MOST_OLD = 64, WORKERS = 4, STATUSES = 80, CELLS = 2048, UNWRITTEN = 0xa5 };
+enum { MOST_HELD = 200, MOST_OLD = 64, WORKERS = 4, STATUSES = 80, UNWRITTEN = 0xa5 };
 
 /* ---- The calls, and the statuses that brc.h names for each */
 
@@ -367,7 +367,8 @@ int main(int argc, char **argv) {
     pthread_t threads[WORKERS];
     uint64_t seed = argc > 1 ? strtoull(argv[1], NULL, 10) : 1, done = 0, refused[STATUSES] = {0};
     uint64_t allocs = 0, frees = 0, live = 0;
-    uint32_t local_limit = argc > 3 ? (uint32_t)strtoul(argv[3], NULL, 10) : 4294967294u, registered = 0, left = 0, dropped = 0;
+    uint32_t local_limit = argc > 3 ? (uint32_t)strtoul(argv[3], NULL, 10) : 4294967294u;
+    uint32_t cells = argc > 4 ? (uint32_t)strtoul(argv[4], NULL, 10) : 2048, registered = 0, left = 0, dropped = 0;
     uint64_t cycles = 0;
     brc_status s;
     if (argc > 2) steps = atoi(argv[2]);
@@ -377,7 +378,7 @@ int main(int argc, char **argv) {
     MUST(brc_heap_new(&second.at, 512, 1, 1024));
     MUST(brc_thread_open(&second, &second_thread));
     MUST(brc_new_int(&second_thread, 1234, &foreign));
-    MUST(brc_heap_new(&heap.at, CELLS, local_limit, 0));
+    MUST(brc_heap_new(&heap.at, cells, local_limit, 0));
     MUST(brc_thread_open(&heap, &root));
     CHECK(brc_release(&root, foreign) == BRC_FOREIGN && brc_release(&root, BRC_NONE) == BRC_FOREIGN);
     CHECK(brc_heap_close(&heap, &live, &cycles) == BRC_MISSING);
