@@ -1,0 +1,2 @@
+mod OwnerBox
+mod HeldBox

@@ -1,0 +1,4 @@
+pub mod OwnerKept
+pub mod OwnerFollows
+pub mod HeldKept
+pub mod HeldFollows

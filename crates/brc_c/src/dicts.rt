@@ -1,0 +1,168 @@
+//! Dictionaries: values beside keys, which are integers or texts.
+
+ghost use Rattle.std.specs.Prelude.{◌≡◌, ◌≢◌};
+
+use crate::outs::{copy_prefix, write, write_old};
+use crate::slots::CThread;
+use brc_client::{GiveBy, KeyRef, TakeBy, text_of};
+use brc_words::Key;
+use std::alloc::Global;
+
+/// A key as C reads it: an integer, or the length of a text.
+#[repr(C)]
+#[derive(Drop)]
+pub struct CKey {
+    pub number: i64,
+    pub len: usize,
+    pub is_text: u32,
+}
+
+#[unsafe(no_mangle)]
+pub extern "C" fn brc_dict_put_int(
+    alloc: Global,
+    thread: &mut CThread,
+    dict: u64,
+    key: i64,
+    value: u64,
+    old: &mut u64,
+) -> u32
+    ensures kept { result ≢ 0 → old.new ≡ old.old }
+{
+    match thread.as_mut().client() {
+        Ok(client) => write_old(
+            client.take(alloc, dict, TakeBy::Put(KeyRef::Int(key)), value),
+            old,
+        ),
+        Err(status) => status.number(),
+    }
+}
+
+#[unsafe(no_mangle)]
+pub extern "C" fn brc_dict_put_text(
+    alloc: Global,
+    thread: &mut CThread,
+    dict: u64,
+    key: &[u8],
+    value: u64,
+    old: &mut u64,
+) -> u32
+    ensures kept { result ≢ 0 → old.new ≡ old.old }
+{
+    match thread.as_mut().client() {
+        Ok(client) => match text_of(key) {
+            Ok(key) => write_old(
+                client.take(alloc, dict, TakeBy::Put(KeyRef::Text(key)), value),
+                old,
+            ),
+            Err(status) => status.number(),
+        },
+        Err(status) => status.number(),
+    }
+}
+
+#[unsafe(no_mangle)]
+pub extern "C" fn brc_dict_find_int(
+    thread: &mut CThread,
+    dict: u64,
+    key: i64,
+    value: &mut u64,
+) -> u32
+    ensures kept { result ≢ 0 → value.new ≡ value.old }
+{
+    match thread.as_mut().client() {
+        Ok(client) => write(client.give(dict, GiveBy::Find(KeyRef::Int(key))), value),
+        Err(status) => status.number(),
+    }
+}
+
+#[unsafe(no_mangle)]
+pub extern "C" fn brc_dict_find_text(
+    thread: &mut CThread,
+    dict: u64,
+    key: &[u8],
+    value: &mut u64,
+) -> u32
+    ensures kept { result ≢ 0 → value.new ≡ value.old }
+{
+    match thread.as_mut().client() {
+        Ok(client) => match text_of(key) {
+            Ok(key) => write(client.give(dict, GiveBy::Find(KeyRef::Text(key))), value),
+            Err(status) => status.number(),
+        },
+        Err(status) => status.number(),
+    }
+}
+
+#[unsafe(no_mangle)]
+pub extern "C" fn brc_dict_del_int(
+    thread: &mut CThread,
+    dict: u64,
+    key: i64,
+    value: &mut u64,
+) -> u32
+    ensures kept { result ≢ 0 → value.new ≡ value.old }
+{
+    match thread.as_mut().client() {
+        Ok(client) => write(client.give(dict, GiveBy::Delete(KeyRef::Int(key))), value),
+        Err(status) => status.number(),
+    }
+}
+
+#[unsafe(no_mangle)]
+pub extern "C" fn brc_dict_del_text(
+    thread: &mut CThread,
+    dict: u64,
+    key: &[u8],
+    value: &mut u64,
+) -> u32
+    ensures kept { result ≢ 0 → value.new ≡ value.old }
+{
+    match thread.as_mut().client() {
+        Ok(client) => match text_of(key) {
+            Ok(key) => write(client.give(dict, GiveBy::Delete(KeyRef::Text(key))), value),
+            Err(status) => status.number(),
+        },
+        Err(status) => status.number(),
+    }
+}
+
+#[unsafe(no_mangle)]
+pub extern "C" fn brc_dict_pair(
+    alloc: Global,
+    thread: &mut CThread,
+    dict: u64,
+    index: u32,
+    key: &mut CKey,
+    to: &mut [u8],
+    value: &mut u64,
+) -> u32
+    ensures kept { result ≢ 0 → (key.new ≡ key.old) × (to.new ≡ to.old) × (value.new ≡ value.old) }
+{
+    match thread.as_mut().client() {
+        Ok(client) => match client.pair(alloc, dict, index) {
+            Ok((found, number)) => {
+                *value = number;
+                write_key(&found, key, to);
+                0
+            }
+            Err(status) => status.number(),
+        },
+        Err(status) => status.number(),
+    }
+}
+
+/// The key is written; of a text, as many bytes as there is room for.
+fn write_key(found: &Key<Global>, key: &mut CKey, to: &mut [u8]) {
+    match found {
+        Key::Int(number) => {
+            key.number = *number;
+            key.len = 0;
+            key.is_text = 0;
+        }
+        Key::Text(text) => {
+            key.number = 0;
+            key.len = copy_prefix(text.as_str().as_bytes(), to);
+            key.is_text = 1;
+        }
+    }
+}

@@ -1,0 +1,100 @@
+//! Heaps: opened, counted, closed, reported and dropped.
+
+ghost use Rattle.std.specs.Prelude.{◌≡◌, ◌≢◌};
+
+use crate::outs::write;
+use crate::parts::Parts;
+use crate::slots::CHeap;
+use brc_client::{Owner, Status};
+use brc_words::Fault;
+use std::alloc::Global;
+
+/// The version of the interface, 0.1.0: `BRC_VERSION` of `include/brc.h`.
+const VERSION: u32 = 100;
+
+#[unsafe(no_mangle)]
+pub extern "C" fn brc_version() -> u32 {
+    VERSION
+}
+
+#[unsafe(no_mangle)]
+pub extern "C" fn brc_heap_new(
+    alloc: Global,
+    at: &mut *mut u8,
+    cells: u32,
+    local_limit: u32,
+    first: u32,
+) -> u32
+    ensures kept { result ≢ 0 → at.new ≡ at.old }
+{
+    match Owner::new(alloc, cells, local_limit, first) {
+        Ok(owner) => match Box::new(alloc, owner) {
+            Ok(owner) => {
+                *at = CHeap::of_parts(Parts::of(owner)).into_at();
+                0
+            }
+            Err(_) => Status::Fault(Fault::OutOfMemory).number(),
+        },
+        Err(status) => status.number(),
+    }
+}
+
+#[unsafe(no_mangle)]
+pub extern "C" fn brc_heap_counts(
+    heap: &mut CHeap,
+    registered: &mut u32,
+    left: &mut u32,
+    allocs: &mut u64,
+    frees: &mut u64,
+) -> u32
+    ensures kept { result ≢ 0 → (registered.new ≡ registered.old) × (left.new ≡ left.old) }
+    ensures kept_ledger { result ≢ 0 → (allocs.new ≡ allocs.old) × (frees.new ≡ frees.old) }
+{
+    match heap.as_mut().counts() {
+        Ok(counts) => {
+            *registered = counts.registered;
+            *left = counts.gathered;
+            *allocs = counts.ledger.allocs;
+            *frees = counts.ledger.frees;
+            0
+        }
+        Err(status) => status.number(),
+    }
+}
+
+#[unsafe(no_mangle)]
+pub extern "C" fn brc_heap_close(
+    alloc: Global,
+    heap: &mut CHeap,
+    live: &mut u64,
+    cycles: &mut u64,
+) -> u32
+    ensures kept { result ≢ 0 → (live.new ≡ live.old) × (cycles.new ≡ cycles.old) }
+{
+    match heap.as_mut().close(alloc) {
+        Ok(left) => {
+            *live = left.live;
+            *cycles = left.cycles;
+            0
+        }
+        Err(status) => status.number(),
+    }
+}
+
+#[unsafe(no_mangle)]
+pub extern "C" fn brc_heap_report(
+    alloc: Global,
+    heap: &mut CHeap,
+    from: usize,
+    to: &mut [u8],
+    len: &mut usize,
+) -> u32
+    ensures kept { result ≢ 0 → len.new ≡ len.old }
+{
+    write(heap.as_mut().report(alloc, from, to), len)
+}
+
+#[unsafe(no_mangle)]
+pub extern "C" fn brc_heap_drop(heap: CHeap) {
+    drop(heap.into_parts().into_box());
+}

@@ -1,0 +1,88 @@
+//! What an object is: its kind, how many entries it has, its number, its truth, its text.
+
+ghost use Rattle.std.specs.Prelude.{◌≡◌, ◌≢◌};
+
+use crate::outs::{copy_prefix, write, write_truth};
+use crate::slots::CThread;
+use brc_words::Kind;
+
+/// The kind as C has it.
+fn number_of(kind: Kind) -> u32 {
+    match kind {
+        Kind::Int => 1,
+        Kind::Text => 2,
+        Kind::List => 3,
+        Kind::Dict => 4,
+        Kind::Mailbox => 5,
+        Kind::Nothing => 6,
+        Kind::False => 7,
+        Kind::True => 8,
+    }
+}
+
+#[unsafe(no_mangle)]
+pub extern "C" fn brc_kind_of(thread: &mut CThread, held: u64, kind: &mut u32) -> u32
+    ensures kept { result ≢ 0 → kind.new ≡ kind.old }
+{
+    match thread.as_mut().client() {
+        Ok(client) => match client.kind(held) {
+            Ok(found) => {
+                *kind = number_of(found);
+                0
+            }
+            Err(status) => status.number(),
+        },
+        Err(status) => status.number(),
+    }
+}
+
+#[unsafe(no_mangle)]
+pub extern "C" fn brc_len_of(thread: &mut CThread, held: u64, len: &mut usize) -> u32
+    ensures kept { result ≢ 0 → len.new ≡ len.old }
+{
+    match thread.as_mut().client() {
+        Ok(client) => write(client.len(held), len),
+        Err(status) => status.number(),
+    }
+}
+
+#[unsafe(no_mangle)]
+pub extern "C" fn brc_int_of(thread: &mut CThread, held: u64, value: &mut i64) -> u32
+    ensures kept { result ≢ 0 → value.new ≡ value.old }
+{
+    match thread.as_mut().client() {
+        Ok(client) => write(client.int(held), value),
+        Err(status) => status.number(),
+    }
+}
+
+#[unsafe(no_mangle)]
+pub extern "C" fn brc_truth_of(thread: &mut CThread, held: u64, is_true: &mut u32) -> u32
+    ensures kept { result ≢ 0 → is_true.new ≡ is_true.old }
+{
+    match thread.as_mut().client() {
+        Ok(client) => write_truth(client.truth(held), is_true),
+        Err(status) => status.number(),
+    }
+}
+
+#[unsafe(no_mangle)]
+pub extern "C" fn brc_text_of(
+    thread: &mut CThread,
+    held: u64,
+    to: &mut [u8],
+    len: &mut usize,
+) -> u32
+    ensures kept { result ≢ 0 → (to.new ≡ to.old) × (len.new ≡ len.old) }
+{
+    match thread.as_mut().client() {
+        Ok(client) => match client.read_text(held) {
+            Ok(()) => {
+                *len = copy_prefix(client.shown().as_bytes(), to);
+                0
+            }
+            Err(status) => status.number(),
+        },
+        Err(status) => status.number(),
+    }
+}

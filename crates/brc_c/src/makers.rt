@@ -1,0 +1,106 @@
+//! Makers: a reference to an immortal, or to a new object.
+
+ghost use Rattle.std.specs.Prelude.{◌≡◌, ◌≢◌};
+
+use crate::outs::write;
+use crate::slots::CThread;
+use brc_client::{Make, text_of};
+use std::alloc::Global;
+
+#[unsafe(no_mangle)]
+pub extern "C" fn brc_none(alloc: Global, thread: &mut CThread, made: &mut u64) -> u32
+    ensures kept { result ≢ 0 → made.new ≡ made.old }
+{
+    match thread.as_mut().client() {
+        Ok(client) => write(client.make(alloc, Make::Nothing), made),
+        Err(status) => status.number(),
+    }
+}
+
+#[unsafe(no_mangle)]
+pub extern "C" fn brc_truth(
+    alloc: Global,
+    thread: &mut CThread,
+    is_true: u32,
+    made: &mut u64,
+) -> u32
+    ensures kept { result ≢ 0 → made.new ≡ made.old }
+{
+    match thread.as_mut().client() {
+        Ok(client) => write(client.make(alloc, Make::Truth(is_true != 0)), made),
+        Err(status) => status.number(),
+    }
+}
+
+#[unsafe(no_mangle)]
+pub extern "C" fn brc_globals(alloc: Global, thread: &mut CThread, made: &mut u64) -> u32
+    ensures kept { result ≢ 0 → made.new ≡ made.old }
+{
+    match thread.as_mut().client() {
+        Ok(client) => write(client.make(alloc, Make::Globals), made),
+        Err(status) => status.number(),
+    }
+}
+
+#[unsafe(no_mangle)]
+pub extern "C" fn brc_new_int(
+    alloc: Global,
+    thread: &mut CThread,
+    value: i64,
+    made: &mut u64,
+) -> u32
+    ensures kept { result ≢ 0 → made.new ≡ made.old }
+{
+    match thread.as_mut().client() {
+        Ok(client) => write(client.make(alloc, Make::Int(value)), made),
+        Err(status) => status.number(),
+    }
+}
+
+#[unsafe(no_mangle)]
+pub extern "C" fn brc_new_list(alloc: Global, thread: &mut CThread, made: &mut u64) -> u32
+    ensures kept { result ≢ 0 → made.new ≡ made.old }
+{
+    match thread.as_mut().client() {
+        Ok(client) => write(client.make(alloc, Make::List), made),
+        Err(status) => status.number(),
+    }
+}
+
+#[unsafe(no_mangle)]
+pub extern "C" fn brc_new_dict(alloc: Global, thread: &mut CThread, made: &mut u64) -> u32
+    ensures kept { result ≢ 0 → made.new ≡ made.old }
+{
+    match thread.as_mut().client() {
+        Ok(client) => write(client.make(alloc, Make::Dict), made),
+        Err(status) => status.number(),
+    }
+}
+
+#[unsafe(no_mangle)]
+pub extern "C" fn brc_new_mailbox(alloc: Global, thread: &mut CThread, made: &mut u64) -> u32
+    ensures kept { result ≢ 0 → made.new ≡ made.old }
+{
+    match thread.as_mut().client() {
+        Ok(client) => write(client.make(alloc, Make::Mailbox), made),
+        Err(status) => status.number(),
+    }
+}
+
+#[unsafe(no_mangle)]
+pub extern "C" fn brc_new_text(
+    alloc: Global,
+    thread: &mut CThread,
+    bytes: &[u8],
+    made: &mut u64,
+) -> u32
+    ensures kept { result ≢ 0 → made.new ≡ made.old }
+{
+    match thread.as_mut().client() {
+        Ok(client) => match text_of(bytes) {
+            Ok(text) => write(client.make(alloc, Make::Text(text)), made),
+            Err(status) => status.number(),
+        },
+        Err(status) => status.number(),
+    }
+}

@@ -1,0 +1,81 @@
+//! What an export returns, and what it writes first. 0 is OK; a status of `brc_client` has its number.
+
+ghost use Rattle.std.specs.Prelude.{◌≡◌, ◌≢◌, ◌++◌, length, take, drop};
+
+use brc_client::Status;
+
+/// What the call gave is written, or its refusal's number is returned.
+#[inline(always)]
+pub(crate) fn write<T>(made: Result<T, Status>, to: &mut T) -> u32
+where
+    T: Drop,
+    ensures kept { result ≢ 0 → to.new ≡ to.old }
+{
+    match made {
+        Ok(value) => {
+            *to = value;
+            0
+        }
+        Err(status) => status.number(),
+    }
+}
+
+/// 1 or 0 is written. C's variable may have had any byte in it, which no `bool` may, so it is a `u32`.
+#[inline(always)]
+pub(crate) fn write_truth(made: Result<bool, Status>, to: &mut u32) -> u32
+    ensures kept { result ≢ 0 → to.new ≡ to.old }
+{
+    match made {
+        Ok(is_true) => {
+            *to = u32::from(is_true);
+            0
+        }
+        Err(status) => status.number(),
+    }
+}
+
+/// The number of what came out is written, or 0 if nothing came out. No reference has the number 0.
+#[inline(always)]
+pub(crate) fn write_old(made: Result<Option<u64>, Status>, old: &mut u64) -> u32
+    ensures kept { result ≢ 0 → old.new ≡ old.old }
+{
+    match made {
+        Ok(Some(number)) => {
+            *old = number;
+            0
+        }
+        Ok(None) => {
+            *old = 0;
+            0
+        }
+        Err(status) => status.number(),
+    }
+}
+
+/// Nothing is written: nothing comes out for what was given.
+#[inline(always)]
+pub(crate) fn status_of_taking(made: Result<Option<u64>, Status>) -> u32 {
+    match made {
+        Ok(_) => 0,
+        Err(status) => status.number(),
+    }
+}
+
+/// Nothing is written.
+#[inline(always)]
+pub(crate) fn status_of(made: Result<(), Status>) -> u32 {
+    match made {
+        Ok(()) => 0,
+        Err(status) => status.number(),
+    }
+}
+
+/// As many of the bytes as there is room for are written. Returns how many there are.
+pub(crate) fn copy_prefix(bytes: &[u8], to: &mut [u8]) -> usize
+    ensures len { result ≡ length bytes.now }
+    ensures copied { to.new ≡ take (length to.old) bytes.now ++ drop (length bytes.now) to.old }
+{
+    let fits = bytes.len().min(to.len());
+    to[..fits].copy_from_slice(&bytes[..fits]);
+    bytes.len()
+}

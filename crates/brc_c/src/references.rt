@@ -1,0 +1,34 @@
+//! References: one more, one fewer, and whether two lead to one object.
+
+ghost use Rattle.std.specs.Prelude.{◌≡◌, ◌≢◌};
+
+use crate::outs::{status_of, write, write_truth};
+use crate::slots::CThread;
+
+#[unsafe(no_mangle)]
+pub extern "C" fn brc_retain(thread: &mut CThread, held: u64, more: &mut u64) -> u32
+    ensures kept { result ≢ 0 → more.new ≡ more.old }
+{
+    match thread.as_mut().client() {
+        Ok(client) => write(client.retain(held), more),
+        Err(status) => status.number(),
+    }
+}
+
+#[unsafe(no_mangle)]
+pub extern "C" fn brc_release(thread: &mut CThread, held: u64) -> u32 {
+    match thread.as_mut().client() {
+        Ok(client) => status_of(client.release(held)),
+        Err(status) => status.number(),
+    }
+}
+
+#[unsafe(no_mangle)]
+pub extern "C" fn brc_same(thread: &mut CThread, one: u64, other: u64, same: &mut u32) -> u32
+    ensures kept { result ≢ 0 → same.new ≡ same.old }
+{
+    match thread.as_mut().client() {
+        Ok(client) => write_truth(client.is_same(one, other), same),
+        Err(status) => status.number(),
+    }
+}

@@ -1,0 +1,119 @@
+//! Threads: registered, counted, at work, and on their way out.
+
+ghost use Rattle.std.specs.Prelude.{◌≡◌, ◌≢◌};
+
+use crate::held::Held;
+use crate::outs::status_of;
+use crate::parts::Parts;
+use crate::slots::{CHeap, CThread};
+use brc_client::{Status, Thread};
+use brc_words::Fault;
+use std::alloc::Global;
+
+// In both calls that register a thread, the room that C's variable leads to is had first. A thread that is registered and
+// then can't be handed out would have to leave, and it couldn't while another call has the heap's root.
+
+#[unsafe(no_mangle)]
+pub extern "C" fn brc_thread_new(alloc: Global, heap: &mut CHeap, at: &mut *mut u8) -> u32
+    ensures kept { result ≢ 0 → at.new ≡ at.old }
+{
+    match Box::new(alloc, Held::empty()) {
+        Ok(room) => hand_out(room, heap.as_mut().register(alloc), at),
+        Err(_) => Status::Fault(Fault::OutOfMemory).number(),
+    }
+}
+
+#[unsafe(no_mangle)]
+pub extern "C" fn brc_thread_fork(alloc: Global, thread: &mut CThread, at: &mut *mut u8) -> u32
+    ensures kept { result ≢ 0 → at.new ≡ at.old }
+{
+    match Box::new(alloc, Held::empty()) {
+        Ok(room) => hand_out(room, thread.as_mut().fork(alloc), at),
+        Err(_) => Status::Fault(Fault::OutOfMemory).number(),
+    }
+}
+
+/// The thread goes into the room, and the room to C.
+fn hand_out(room: Box<Held, Global>, made: Result<Thread, Status>, at: &mut *mut u8) -> u32
+    ensures kept { result ≢ 0 → at.new ≡ at.old }
+{
+    match made {
+        Ok(thread) => {
+            let mut room = room;
+            room.fill(thread);
+            *at = CThread::of_parts(Parts::of(room)).into_at();
+            0
+        }
+        Err(status) => status.number(),
+    }
+}
+
+#[unsafe(no_mangle)]
+pub extern "C" fn brc_thread_leave(thread: &mut CThread) -> u32 {
+    status_of(thread.as_mut().leave())
+}
+
+#[unsafe(no_mangle)]
+pub extern "C" fn brc_thread_drop(thread: CThread) {
+    drop(thread.into_parts().into_box());
+}
+
+#[unsafe(no_mangle)]
+pub extern "C" fn brc_ledger(thread: &mut CThread, allocs: &mut u64, frees: &mut u64) -> u32
+    ensures kept { result ≢ 0 → (allocs.new ≡ allocs.old) × (frees.new ≡ frees.old) }
+{
+    match thread.as_mut().ledger() {
+        Ok(ledger) => {
+            *allocs = ledger.allocs;
+            *frees = ledger.frees;
+            0
+        }
+        Err(status) => status.number(),
+    }
+}
+
+#[unsafe(no_mangle)]
+pub extern "C" fn brc_poll(thread: &mut CThread) -> u64 {
+    match thread.as_mut().client() {
+        Ok(client) => client.poll(),
+        Err(_) => 0,
+    }
+}
+
+#[unsafe(no_mangle)]
+pub extern "C" fn brc_work(thread: &mut CThread, turns: usize) -> usize {
+    match thread.as_mut().client() {
+        Ok(client) => client.work(turns),
+        Err(_) => turns,
+    }
+}
+
+#[unsafe(no_mangle)]
+pub extern "C" fn brc_count(thread: &mut CThread) -> usize {
+    match thread.as_mut().client() {
+        Ok(client) => client.count(),
+        Err(_) => 0,
+    }
+}
+
+#[unsafe(no_mangle)]
+pub extern "C" fn brc_release_all(thread: &mut CThread) -> u32 {
+    match thread.as_mut().client() {
+        Ok(client) => {
+            client.release_all();
+            0
+        }
+        Err(status) => status.number(),
+    }
+}
+
+#[unsafe(no_mangle)]
+pub extern "C" fn brc_claim(thread: &mut CThread, cell: u32, near_last: u32) -> u32 {
+    match thread.as_mut().client() {
+        Ok(client) => {
+            client.claim(cell, near_last != 0);
+            0
+        }
+        Err(status) => status.number(),
+    }
+}
