@@ -37,13 +37,7 @@ fn main(rt: HostRuntime) -> io::Result<()> {
         let _ledger = mutator.end(&rt, &mut root, &heap);
     }
     match close_or_end(rt.alloc(), heap, root) {
-        Ok(report) => {
-            let ledger = report.ledger;
-            println!(rt;
-                "made {}, freed {}, left {}",
-                ledger.allocs, ledger.frees, report.live
-            )
-        }
+        Ok(report) => println!(rt; "made {}, left {}", report.ledger.allocs, report.live),
         Err(reason) => println!(rt; "no report: {reason:?}"),
     }
 }
