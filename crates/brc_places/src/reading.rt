@@ -1,9 +1,9 @@
 //! What the object in a place is and holds.
 
-ghost use Rattle.std.specs.Prelude.{◌≡◌, Err, Ok, Some, MatchOption, IsTrue};
+ghost use Rattle.std.specs.Prelude.{Err, Ok, Some};
 ghost use Rattle.brc_words.specs.declared.fault.Fault.TheVariants as faults;
 ghost use Rattle.brc_count.specs.Frames.{IsUnlocked};
-ghost use Rattle.brc_handles.specs.Handles.{slot, OwnsEach};
+ghost use Rattle.brc_handles.specs.Handles.{OwnsEach};
 ghost use Rattle.brc_handles.specs.Standing.{KeepsStanding};
 ghost use Rattle.brc_containers.specs.Called.{Late};
 ghost use Rattle.brc_containers.specs.Looking.{KindOf, LenOf, IntOf, TextOf};

@@ -1,6 +1,6 @@
 //! A stack of handles, whose last place is its top.
 
-ghost use Rattle.std.specs.Prelude.{◌≡◌, ◌≢◌, ◌+◌, ◌-◌, ◌<◌, ◌⊎◌, ℕ, [], ◌∷◌, ◌++◌, Some, None, Err, IfOk, IfErr, IfSome, IfNone};
+ghost use Rattle.std.specs.Prelude.{◌≡◌, ◌≢◌, ◌+◌, ◌-◌, ◌<◌, ◌⊎◌, [], ◌∷◌, ◌++◌, Some, None, Err, IfErr, IfSome, IfNone};
 ghost use Rattle.std.specs.Prelude.{OnOk, OnErr, MatchOption, length};
 ghost use Rattle.std.specs.Option.{option_copied};
 ghost use Rattle.brc_words.specs.declared.fault.Fault.TheVariants as faults;
@@ -8,7 +8,7 @@ ghost use Rattle.brc_count.specs.Frames.{HandleSeen, IsUnlocked, Owns, Refused};
 ghost use Rattle.brc_count.specs.Owned.{Loses};
 ghost use Rattle.brc_containers.specs.Called.{Late};
 ghost use Rattle.brc_containers.specs.Looking.{IntOf};
-ghost use Rattle.brc_handles.specs.Handles.{slot, filled, IsApart, OwnsEach, ComesIn, Retains, Swapped};
+ghost use Rattle.brc_handles.specs.Handles.{slot, filled, IsApart, OwnsEach, Retains, Swapped};
 ghost use Rattle.brc_handles.specs.Standing.{KeepsStanding};
 ghost use Rattle.brc_places.specs.declared.placing.To.TheVariants as tos;
 ghost use Rattle.brc_places.specs.declared.making.Make.TheVariants as makes;

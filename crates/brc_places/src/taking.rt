@@ -1,6 +1,6 @@
 //! What a container takes: the reference of a value, out of its place.
 
-ghost use Rattle.std.specs.Prelude.{◌≡◌, ◌≢◌, ◌<◌, Some, None, IfOk, IfErr, OnOk, OnErr, MatchOption, length};
+ghost use Rattle.std.specs.Prelude.{◌≡◌, ◌≢◌, ◌<◌, Some, None, IfOk, IfErr, IfSome, OnOk, OnErr, MatchOption, length};
 ghost use Rattle.std.specs.Prelude.{slice_set};
 ghost use Rattle.brc_words.specs.declared.fault.Fault.TheVariants as faults;
 ghost use Rattle.brc_count.specs.Frames.{IsUnlocked, Owns};
@@ -134,7 +134,7 @@ fn put_back<A: Allocator>(handles: &mut Handles<A>, index: usize, handle: Handle
 }
 
 /// The handle in the value's place goes into the container in another place, once no other thread has that locked. The
-/// value's place has what came out for it then, or is empty. NoSuchPlace where no handle is in one of them, or they are
+/// value's place has what came out for it then, which lies in the same place of the frame, or is empty. NoSuchPlace where no handle is in one of them, or they are
 /// one place; then what the call answers (`brc_lists`, `brc_dicts`): the value stays in its place.
 pub fn take_at<H: Home<A>, A: Allocator + Copy>(
     rt: &impl Wait,
@@ -153,6 +153,7 @@ pub fn take_at<H: Home<A>, A: Allocator + Copy>(
         (Takes (TookLate by.entry frame.old) frame.new handles.old handles.new container value) }
     ensures refused { IfErr result
         (TakesNot (TookLate by.entry frame.old) frame.old frame.new handles.old container value) }
+    ensures came { OnOk result (IfSome (slot handles.new value) (λ came. slot handles.old value ≡ Some came)) }
     ensures unchanged { OnErr result (handles.new ≡ handles.old) }
     ensures waited { IfErr result (λ fault. fault ≢ faults.Busy) }
 {
@@ -194,6 +195,7 @@ pub fn try_take_at<H: Home<A>, A: Allocator + Copy>(
         (Takes (TookBy by.entry frame.old) frame.new handles.old handles.new container value) }
     ensures refused { IfErr result
         (TakesNot (TookBy by.entry frame.old) frame.old frame.new handles.old container value) }
+    ensures came { OnOk result (IfSome (slot handles.new value) (λ came. slot handles.old value ≡ Some came)) }
     ensures unchanged { OnErr result (handles.new ≡ handles.old) }
 {
     let Some(given) = handles.take_out(frame, value) else {

@@ -1,0 +1,37 @@
+use Rattle.std.proofs.Common.{refl}
+use Rattle.brc_client.proofs.Placed.{keeps, vacant}
+use Rattle.brc_client.proofs.Named.{names_given, names_kept, names_this}
+use Rattle.brc_client.proofs.client.Client.give.Goals as goal
+
+pub invariant_of-self-in-Err : goal.invariant_of-self-in-Err
+invariant_of-self-in-Err c = keeps _ _ c.self.inside.handles c.self.invariant
+    (rw c.frame.ensures.frame at c.in-Err.ensures.keeps) c.in-Err.ensures.unlocked
+
+pub returns-in-Ok-clause-gave : goal.returns-in-Ok-clause-gave
+returns-in-Ok-clause-gave c =
+    let gains = rw c.frame.ensures.frame at c.in-Ok.ensures.gains in
+    let did = rw c.frame.ensures.frame at c.in-Ok.ensures.did in
+    let named = rw (← c.self.view_is) at c.in_ok-place.ensures.named in
+    rw (← c.self.view_is) (record {
+      handle = c.in-Some.object.now;
+      names = names_this _ c.args.container c.in_ok-place.place c.in-Some.object.now c.in_ok-place.ensures.place named
+          c.in-Some.ensures;
+      so = record {
+        given = c.in-Ok.given;
+        did = did;
+        empty = vacant _ _ c.self.inside.handles c.in-Ok.given c.self.invariant gains;
+        set = c.insert.ensures.set;
+        numbers = refl;
+        is = c.insert.ensures.number;
+      };
+    })
+
+pub returns-in-Ok-clause-names : goal.returns-in-Ok-clause-names
+returns-in-Ok-clause-names c = names_given c.self.inside.handles _ c.in-Ok.given c.insert.result
+    c.in-Ok.ensures.gains.room c.self.invariant.places c.insert.ensures.set c.insert.ensures.number
+
+pub returns-in-Ok-clause-keeps : goal.returns-in-Ok-clause-keeps
+returns-in-Ok-clause-keeps c =
+    let gains = rw c.frame.ensures.frame at c.in-Ok.ensures.gains in
+    let empty = vacant _ _ c.self.inside.handles c.in-Ok.given c.self.invariant gains in
+    rw (← c.self.view_is) (names_kept _ _ c.in-Ok.given empty c.insert.ensures.set refl)

@@ -1,0 +1,58 @@
+-- What is seen of a client that has numbers and no handles, and what a number names.
+use Rattle.std.specs.Prelude.{◌≡◌, ◌≢◌, ℕ, List, Option, Some, length}
+use Rattle.std.specs.declared.alloc.Global.{Global}
+use Rattle.brc_count.specs.Frames.{FrameSeen, HandleSeen}
+use Rattle.brc_count.specs.Owned.{Keeps}
+use Rattle.brc_handles.specs.Handles.{slot}
+use Rattle.brc_handles.specs.Standing.{Stands}
+use Rattle.brc_client.specs.declared.status.Status.{Status}
+use Rattle.brc_client.specs.declared.status.Status.TheVariants as statuses
+use Rattle.brc_client.specs.Numbers.{NumbersSeen, number_at, place_in, stamp_in}
+
+-- The thread's frame; the handle in each place, if one is there; the numbers of the places; and the text that was read
+-- last.
+pub record ClientSeen : Type 0 where
+  pub frame : FrameSeen Global
+  pub handles : List (Option HandleSeen)
+  pub numbers : NumbersSeen
+  pub text : List ℕ
+
+-- What a client keeps from call to call: its frame has the handles that are there and no others, nothing is locked, and
+-- each handle lies in the place that has its own number in the frame.
+pub record IsClient (frame : FrameSeen Global) (handles : List (Option HandleSeen)) : Type 0 where
+  pub stands : Stands 0 frame handles
+  pub lies : (k : ℕ) (h : HandleSeen) → slot handles k ≡ Some h → h.place ≡ k
+  pub places : length handles ≡ 65536
+
+-- the number names this handle
+pub record NamesAs (client : ClientSeen) (number : ℕ) (handle : HandleSeen) : Type 0 where
+  pub there : slot client.handles (place_in number) ≡ Some handle
+  pub spelled : number ≡ number_at client.numbers (place_in number)
+
+-- the number names a handle
+abbrev pub Names : ClientSeen → ℕ → Type 0
+Names client number = (handle : HandleSeen) × NamesAs client number handle
+
+-- Why it names none. Foreign: it is of another registration, or none. Stale: what it named is there no more, or never
+-- was.
+abbrev pub NamesNone : ClientSeen → ℕ → Status → Type 0
+NamesNone client number statuses.Foreign = stamp_in number ≢ client.numbers.stamp
+NamesNone client number statuses.Stale = (stamp_in number ≡ client.numbers.stamp) × (Names client number → ⊥)
+NamesNone client number _ = ⊥
+
+-- ---- from before a call to behind it
+
+-- Each number names what it named, or nothing, as before; and what the frame owned it owns still.
+pub record KeepsNumbers (old new : ClientSeen) : Type 0 where
+  pub handles : new.handles ≡ old.handles
+  pub numbers : new.numbers ≡ old.numbers
+  pub frame : Keeps old.frame new.frame
+
+-- each number that named a handle names it still
+abbrev pub KeepsNames : ClientSeen → ClientSeen → Type 0
+KeepsNames old new = (n : ℕ) (h : HandleSeen) → NamesAs old n h → NamesAs new n h
+
+-- each but one does, and that one names none
+pub record SpendsName (old new : ClientSeen) (spent : ℕ) : Type 0 where
+  pub none : Names new spent → ⊥
+  pub others : (n : ℕ) (h : HandleSeen) → n ≢ spent → NamesAs old n h → NamesAs new n h

@@ -1,0 +1,4 @@
+pub mod Numbers
+pub mod Clients
+pub mod Calls
+pub mod Ends

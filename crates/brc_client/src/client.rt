@@ -1,0 +1,282 @@
+//! A thread's references by numbers: how they are found, made more and let go.
+
+ghost use Rattle.std.specs.Prelude.{◌≡◌, ◌<◌, ◌≤◌, ◌⊎◌, ℕ, Some, None, [], length, slice_set, IfOk, IfErr};
+ghost use Rattle.std.specs.Prelude.{OnOk, OnErr};
+ghost use Rattle.brc_count.specs.Frames.{IsUnlocked, KeepsHandles, ledger_seen, word_asked};
+ghost use Rattle.brc_handles.specs.Handles.{slot, filled, IsApart, IsBare, ComesIn};
+ghost use Rattle.brc_client.specs.Numbers.{number_at, place_in};
+ghost use Rattle.brc_client.specs.Clients.{IsClient, Names, NamesNone, KeepsNumbers, KeepsNames, SpendsName};
+ghost use Rattle.brc_client.specs.Calls.{OfNamed, RefusedOf, Adds, Retained, Releases};
+
+use crate::numbers::{Numbers, PLACES};
+use crate::status::Status;
+use brc_count::{Frame, Handle, Ledger};
+use brc_handles::Handles;
+use brc_shared::Shared;
+use brc_thread::{Leaving, Mutator};
+use std::alloc::{AllocError, Global};
+use std::marker::Model;
+
+/// A thread with nothing locked, and a place for each reference that it can have.
+pub struct Client {
+    pub(crate) mutator: Mutator<Shared, Global>,
+    /// Each handle lies in the place that has its own number in the frame.
+    pub(crate) handles: Handles<Global>,
+    pub(crate) numbers: Numbers,
+    /// The last text that was read.
+    pub(crate) text: String<Global>,
+}
+
+impl Model for Client {
+    ghost use Rattle.std.specs.String.{string_bytes};
+    ghost use Rattle.brc_client.specs.Clients.{ClientSeen, IsClient};
+
+    ghost Value = { ClientSeen };
+
+    ghost view = { λ c. record {
+      frame = c.mutator;
+      handles = c.handles;
+      numbers = c.numbers;
+      text = string_bytes c.text;
+    } };
+
+    ghost invariant = { λ c. IsClient c.mutator c.handles };
+}
+
+/// The handle into its own place, which is empty, and its number.
+#[inline(always)]
+pub(crate) fn insert(handles: &mut Handles<Global>, numbers: &Numbers, given: Handle<Global>) -> u64
+    requires inside { given.place < 65536 }
+    requires places { length handles.old ≡ 65536 }
+    requires empty { slot handles.old given.place ≡ None }
+    requires apart { IsApart given handles.old }
+    ensures set { handles.new ≡ slice_set handles.old given.place (Some given) }
+    ensures comes { ComesIn handles.old handles.new given }
+    ensures number { result ≡ number_at numbers.now given.place }
+{
+    let place = given.place() as usize;
+    match handles.put(place, given) {
+        None => numbers.number(place),
+        Some(_gone) => unreachable!(),
+    }
+}
+
+/// All handles go, by rising place, and their numbers with them.
+fn release_each(
+    frame: &mut Frame<Shared, Global>,
+    handles: &mut Handles<Global>,
+    numbers: &mut Numbers,
+)
+    requires client { IsClient frame.old handles.old }
+    ensures client { IsClient frame.new handles.new }
+    ensures none { IsBare handles.new }
+    ensures heap { frame.new.heap ≡ frame.old.heap }
+{
+    for place in 0..PLACES {
+        if frame.len() == 0 {
+            break;
+        }
+        if let Some(handle) = handles.take(place) {
+            numbers.spend(place);
+            frame.release(handle);
+        }
+    }
+}
+
+impl Client {
+    /// A thread that has no reference yet.
+    #[tactic(auto, using(crate::proofs::Placed::opens))]
+    pub(crate) fn new(
+        alloc: Global,
+        mutator: Mutator<Shared, Global>,
+        handles: Handles<Global>,
+        numbers: Numbers,
+    ) -> Client
+        requires idle { mutator.len ≡ 0 }
+        requires unlocked { IsUnlocked mutator }
+        requires bare { IsBare handles }
+        requires places { length handles ≡ 65536 }
+        ensures frame { result.frame ≡ mutator }
+        ensures none { IsBare result.handles }
+    {
+        Client {
+            mutator,
+            handles,
+            numbers,
+            text: String::new(alloc),
+        }
+    }
+
+    /// The place of the handle that the number names. Foreign, then Stale, if it names none.
+    #[tactic(auto, using(crate::proofs::Named::named, crate::proofs::Named::stale))]
+    #[inline(always)]
+    pub(crate) fn place_of(&self, number: u64) -> Result<usize, Status>
+        ensures place { IfOk result (λ place. place ≡ place_in number) }
+        ensures inside { IfOk result (λ place. place < 65536) }
+        ensures named { OnOk result (Names self.now number) }
+        ensures refused { IfErr result (NamesNone self.now number) }
+    {
+        let place = self.numbers.place(number)?;
+        match self.handles.get(place) {
+            Some(_handle) => Ok(place),
+            None => Err(Status::Stale),
+        }
+    }
+
+    /// How many references the thread has.
+    pub fn count(&mut self) -> usize
+        ensures count { result ≡ filled self.old.handles }
+        ensures same { self.new ≡ self.old }
+    {
+        self.mutator.frame().len()
+    }
+
+    /// What the thread has made and given back since it was registered.
+    pub fn ledger(&self) -> Ledger
+        ensures { result ≡ ledger_seen self.now.frame }
+    {
+        self.mutator.ledger()
+    }
+
+    /// One reference more to the object, under a number of its own. Foreign, Stale; then FrameFull, if the thread has
+    /// 65,536 references, and OutOfMemory.
+    #[tactic(auto, using(crate::proofs::Placed::vacant, crate::proofs::Placed::apart, crate::proofs::Placed::gained, crate::proofs::Placed::keeps, crate::proofs::Named::names_kept, crate::proofs::Named::names_given))]
+    #[inline]
+    pub fn retain(&mut self, number: u64) -> Result<u64, Status>
+        ensures more { IfOk result (λ more. OfNamed self.old number
+            (λ object. Adds (Retained self.old.frame object.place) self.old self.new more)) }
+        ensures refused { IfErr result (RefusedOf (λ k fault. Retained self.old.frame k self.new.frame (Err fault))
+            self.old self.new number) }
+        ensures names { IfOk result (Names self.new) }
+        ensures keeps { KeepsNames self.old self.new }
+        ensures unchanged { OnErr result (KeepsNumbers self.old self.new) }
+    {
+        let place = self.place_of(number)?;
+        let Some(handle) = self.handles.get(place) else {
+            unreachable!()
+        };
+        match self.mutator.frame().retain(handle) {
+            Ok(given) => Ok(insert(&mut self.handles, &self.numbers, given)),
+            Err(fault) => Err(Status::Fault(fault)),
+        }
+    }
+
+    /// The reference goes, and its number names nothing any more. Foreign, Stale. It takes no memory, and waits for
+    /// nobody.
+    #[tactic(auto, using(crate::proofs::Placed::lost, crate::proofs::Named::name_spent))]
+    #[inline]
+    pub fn release(&mut self, number: u64) -> Result<(), Status>
+        ensures released { OnOk result (Releases self.old self.new number) }
+        ensures spent { OnOk result (SpendsName self.old self.new number) }
+        ensures refused { IfErr result (NamesNone self.old number) }
+        ensures unchanged { OnErr result (self.new ≡ self.old) }
+    {
+        let place = self.place_of(number)?;
+        let Some(handle) = self.handles.take(place) else {
+            unreachable!()
+        };
+        self.numbers.spend(place);
+        self.mutator.frame().release(handle);
+        Ok(())
+    }
+
+    /// All references of the thread go, and no number names anything any more. It takes no memory, and waits for nobody.
+    #[tactic(auto, using(crate::proofs::Named::nameless))]
+    pub fn release_all(&mut self)
+        ensures none { IsBare self.new.handles }
+        ensures nameless { (n : ℕ) → Names self.new n → ⊥ }
+        ensures heap { self.new.frame.heap ≡ self.old.frame.heap }
+    {
+        release_each(self.mutator.frame(), &mut self.handles, &mut self.numbers);
+    }
+
+    /// What others asked for is dealt with: the answer is 0 if nobody did since the last poll. It takes no memory.
+    #[tactic(auto, using(crate::proofs::Placed::keeps))]
+    #[inline]
+    pub fn poll(&mut self) -> u64
+        ensures handles { KeepsHandles self.old.frame self.new.frame }
+        ensures quiet { result ≡ 0 → self.new.frame.works ≡ self.old.frame.works }
+        ensures keeps { KeepsNumbers self.old self.new }
+    {
+        self.mutator.poll()
+    }
+
+    /// Dead objects are taken apart, at most so many turns. The answer is the number of turns that weren't needed: above
+    /// 0 only if no dead object is left. It takes no memory.
+    #[tactic(auto, using(crate::proofs::Placed::keeps))]
+    #[inline]
+    pub fn work(&mut self, turns: usize) -> usize
+        ensures handles { KeepsHandles self.old.frame self.new.frame }
+        ensures few { result ≤ turns }
+        ensures done { 0 < result → self.new.frame.works ≡ [] }
+        ensures keeps { KeepsNumbers self.old self.new }
+    {
+        self.mutator.work(turns)
+    }
+
+    /// From now on the thread's claims begin with the cells beside this one, as `claim_from` and `claim_near` of
+    /// `brc_thread` have it.
+    #[tactic(auto, using(crate::proofs::Placed::keeps))]
+    pub fn claim(&mut self, cell: u32, near: bool)
+        ensures from { self.new.frame.from ≡ word_asked self.old.frame.heap.cells cell }
+        ensures near { self.new.frame.near ≡ near }
+        ensures keeps { KeepsNumbers self.old self.new }
+    {
+        if near {
+            self.mutator.claim_near(cell);
+        } else {
+            self.mutator.claim_from(cell);
+        }
+    }
+
+    /// Its heap, once more. It is refused once some 2^63 lead to it.
+    pub(crate) fn home(&mut self) -> Result<Shared, AllocError>
+        ensures heap { IfOk result (λ shared. shared ≡ self.old.frame.heap) }
+        ensures same { self.new ≡ self.old }
+    {
+        self.mutator.frame().home().again()
+    }
+
+    /// The thread leaves; or it is as it was, if it has a reference or a dead object.
+    #[tactic(auto, using(crate::proofs::Placed::none_counted))]
+    pub(crate) fn leave(self) -> Result<Leaving<Shared, Global>, Client>
+        ensures heap { IfOk result (λ leaving. leaving.heap ≡ self.frame.heap) }
+        ensures idle { OnOk result (filled self.handles ≡ 0) }
+        ensures refused { OnErr result ((0 < filled self.handles) ⊎ (0 < length self.frame.works)) }
+        ensures unchanged { IfErr result (λ same. same ≡ self) }
+    {
+        let Client {
+            mutator,
+            handles,
+            numbers,
+            text,
+        } = self;
+        match mutator.leave() {
+            Ok(leaving) => {
+                handles.spend();
+                Ok(leaving)
+            }
+            Err(mutator) => Err(Client {
+                mutator,
+                handles,
+                numbers,
+                text,
+            }),
+        }
+    }
+}
+
+/// The thread is given up: its references are released first. So its heap can't be closed any more, only dropped.
+impl Drop for Client {
+    fn drop(self) {
+        let Client {
+            mutator,
+            handles,
+            numbers: _numbers,
+            text: _text,
+        } = self;
+        let mut mutator = mutator;
+        handles.release_all(mutator.frame());
+        mutator.abandon();
+    }
+}

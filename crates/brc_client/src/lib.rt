@@ -1,0 +1,26 @@
+//! A heap and its threads for whoever keeps numbers and no handles, as a program in C does.
+//!
+//! Each call is total: it asks nothing of its caller, and looks at each number before it uses it. A number says from which
+//! registration it is, which place of the thread's frame has the reference, and how often that place was vacated before
+//! (`specs/Numbers.antt`). So a number that was released, or is of another thread, or is noise, is refused by name, and
+//! nothing is done. No call waits: an object that another thread has locked is Busy.
+//!
+//! `Client` has the calls of a thread. What it has is seen as one value (`specs/Clients.antt`): the frame, the handle of
+//! each place, and the numbers. `Thread` is a thread from its registration to its end, and `Owner` a heap from its opening
+//! to its report: both can be dropped at any moment.
+#![tactic(auto)]
+
+mod client;
+mod looking;
+mod moving;
+mod numbers;
+mod owner;
+mod status;
+mod thread;
+
+pub use brc_heap::{Key, KeyRef, Kind, Ledger, RootCounts};
+pub use brc_places::{GiveBy, Make, TakeBy};
+pub use client::Client;
+pub use owner::{Left, Owner};
+pub use status::{Status, text_of};
+pub use thread::Thread;
