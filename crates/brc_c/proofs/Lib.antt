@@ -1,2 +1,3 @@
 mod OwnerBox
 mod HeldBox
+mod Sent

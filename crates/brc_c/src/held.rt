@@ -1,6 +1,6 @@
 //! What the variable of a thread leads to.
 
-use brc_client::{Client, Ledger, Status, Thread};
+use brc_client::{Client, Ledger, Owner, Status, Thread};
 use std::alloc::Global;
 
 /// Room for a thread. It is filled before C gets it, and stays so until it is dropped.
@@ -53,3 +53,11 @@ impl Held {
         }
     }
 }
+
+/// C may move its variables between threads of the machine, one call after the other: what they lead to is `Send`.
+fn may_be_moved() {
+    is_send::<Owner>();
+    is_send::<Held>();
+}
+
+fn is_send<T: Send>() {}
