@@ -412,8 +412,10 @@ int main(int argc, char **argv) {
     brc_thread_drop(second_thread);
 
     printf("seed %" PRIu64 ": done %" PRIu64 ", threads %" PRIu32 " of %" PRIu32, seed, done, left, registered);
-    printf(", made %" PRIu64 ", freed %" PRIu64 ", live %" PRIu64, allocs, frees, live);
-    printf(", cycles %" PRIu64 "; refused:", cycles);
+    printf(", made %" PRIu64 ", freed %" PRIu64, allocs, frees);
+    if (s == BRC_OK) printf(", live %" PRIu64 ", cycles %" PRIu64, live, cycles);
+    else printf(", not closed: %" PRIu32 " dropped threads are missing", registered - left);
+    printf("; refused:");
     for (int k = 0; k < STATUSES; k++)
         if (refused[k] != 0) printf(" %s %" PRIu64, brc_status_name((brc_status)k), refused[k]);
     puts("");
