@@ -6,7 +6,7 @@ ghost use Rattle.brc_count.specs.Owned.{Loses};
 
 use crate::dicts::key_of;
 use crate::operations::{Operation, TURNS};
-use brc_count::biased::Home;
+use brc_count::biased::HasTable;
 use brc_count::{Frame, Handle};
 use brc_dicts::dict_put;
 use brc_lists::list_push;
@@ -56,7 +56,7 @@ pub struct Objects<A> {
     pub kind: Kind,
 }
 
-impl<H: Home<A>, A: Allocator + Copy> Source<H, A> for Objects<A> {
+impl<H: HasTable<A>, A: Allocator + Copy> Source<H, A> for Objects<A> {
     fn next(&self, frame: &mut Frame<H, A>, _before: u64) -> Option<Handle<A>> {
         match self.kind {
             Kind::Int => new_int(self.alloc, frame, 1_000).ok(),
@@ -71,7 +71,7 @@ impl<H: Home<A>, A: Allocator + Copy> Source<H, A> for Objects<A> {
 /// The value's reference goes beside the key, which is new; where that fails, no reference is left, and the answer is None.
 /// It is a function of its own, so that pushes to lists stay small.
 #[inline(never)]
-fn put_beside<R: Wait, H: Home<A>, A: Allocator + Copy>(
+fn put_beside<R: Wait, H: HasTable<A>, A: Allocator + Copy>(
     rt: &R,
     frame: &mut Frame<H, A>,
     dict: &Handle<A>,
@@ -87,7 +87,7 @@ fn put_beside<R: Wait, H: Home<A>, A: Allocator + Copy>(
 {
     match dict_put(rt, frame, dict, key, value) {
         Err(handed) => {
-            frame.release(handed.back.1);
+            frame.release(handed.value.1);
             None
         }
         Ok(Some(other)) => {
@@ -100,7 +100,7 @@ fn put_beside<R: Wait, H: Home<A>, A: Allocator + Copy>(
 
 /// The value's reference goes into the container; where that fails, no reference is left, and the answer is None.
 #[inline(always)]
-pub fn put_in<R: Wait, H: Home<A>, A: Allocator + Copy>(
+pub fn put_in<R: Wait, H: HasTable<A>, A: Allocator + Copy>(
     rt: &R,
     frame: &mut Frame<H, A>,
     container: &Handle<A>,
@@ -117,7 +117,7 @@ pub fn put_in<R: Wait, H: Home<A>, A: Allocator + Copy>(
     match spot {
         Spot::End => match list_push(rt, frame, container, value) {
             Err(handed) => {
-                frame.release(handed.back);
+                frame.release(handed.value);
                 None
             }
             Ok(()) => Some(()),
@@ -135,7 +135,7 @@ pub struct Adding<'h, R, A: Allocator> {
     pub value: &'h Handle<A>,
 }
 
-impl<'h, R: Wait, H: Home<A>, A: Allocator + Copy> Task<H, A> for Adding<'h, R, A> {
+impl<'h, R: Wait, H: HasTable<A>, A: Allocator + Copy> Task<H, A> for Adding<'h, R, A> {
     ghost ready = { λ adding frame. Owns frame adding.container.now × Owns frame adding.value.now };
 
     ghost stays = { λ adding old new keeps owned.
@@ -169,7 +169,7 @@ impl<'r, R, A> Full<'r, R, A> {
     }
 }
 
-impl<'r, R: Wait, H: Home<A>, A: Allocator + Copy> Source<H, A> for Full<'r, R, A> {
+impl<'r, R: Wait, H: HasTable<A>, A: Allocator + Copy> Source<H, A> for Full<'r, R, A> {
     fn next(&self, frame: &mut Frame<H, A>, before: u64) -> Option<Handle<A>> {
         let alloc = self.alloc;
         let kind = self.kind;
@@ -201,7 +201,7 @@ pub struct NewList10<'r, R, A> {
     pub alloc: A,
 }
 
-impl<'r, R: Wait, H: Home<A>, A: Allocator + Copy> Operation<H, A> for NewList10<'r, R, A> {
+impl<'r, R: Wait, H: HasTable<A>, A: Allocator + Copy> Operation<H, A> for NewList10<'r, R, A> {
     #[inline(always)]
     fn run_on(&self, frame: &mut Frame<H, A>, value: &Handle<A>, _before: u64) -> Option<()> {
         let list = new_list(self.alloc, frame).ok()?;

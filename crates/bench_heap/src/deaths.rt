@@ -7,7 +7,7 @@ ghost use Rattle.brc_count.specs.Owned.{Keeps};
 
 use crate::containers::{Spot, put_in};
 use crate::timing::{Moment, Span, refused, this_moment};
-use brc_count::biased::Home;
+use brc_count::biased::HasTable;
 use brc_count::{Frame, Handle};
 use brc_loops::{Passing, Source, pass_on};
 use brc_things::new_list;
@@ -25,7 +25,7 @@ struct Linking<'r, R, A: Allocator> {
     chain: Handle<A>,
 }
 
-impl<'r, R: Wait, H: Home<A>, A: Allocator + Copy> Passing<H, A> for Linking<'r, R, A> {
+impl<'r, R: Wait, H: HasTable<A>, A: Allocator + Copy> Passing<H, A> for Linking<'r, R, A> {
     ghost held = { λ it. it.chain };
 
     ghost ready = { λ _ _. ⊤ };
@@ -57,7 +57,7 @@ pub struct Chains<'r, R, A> {
     pub count: u64,
 }
 
-impl<'r, R: Wait, H: Home<A>, A: Allocator + Copy> Source<H, A> for Chains<'r, R, A> {
+impl<'r, R: Wait, H: HasTable<A>, A: Allocator + Copy> Source<H, A> for Chains<'r, R, A> {
     #[tactic(auto, using(crate::proofs::Chained::chained_gains, crate::proofs::Chained::chained_keeps))]
     fn next(&self, frame: &mut Frame<H, A>, _before: u64) -> Option<Handle<A>> {
         let rt = self.rt;
@@ -105,7 +105,7 @@ impl Life {
 }
 
 /// The life of the source's next object; or why it can't be had.
-pub fn life_of<S: Source<H, A>, R: Clock + CpuClock, H: Home<A>, A: Allocator>(
+pub fn life_of<S: Source<H, A>, R: Clock + CpuClock, H: HasTable<A>, A: Allocator>(
     rt: &R,
     source: &S,
     frame: &mut Frame<H, A>,

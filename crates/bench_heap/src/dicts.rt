@@ -5,7 +5,7 @@ ghost use Rattle.brc_count.specs.Frames.{IsUnlocked, Owns};
 ghost use Rattle.brc_count.specs.Owned.{Keeps};
 
 use crate::operations::{Operation, strewn};
-use brc_count::biased::Home;
+use brc_count::biased::HasTable;
 use brc_count::{Frame, Handle};
 use brc_dicts::{dict_find, dict_put};
 use brc_loops::{Passing, pass_on};
@@ -53,7 +53,7 @@ impl Keys {
 
 /// What is beside the key is found, and released; None where it can't be had.
 #[inline(always)]
-fn find<R: Wait, H: Home<A>, A: Allocator>(
+fn find<R: Wait, H: HasTable<A>, A: Allocator>(
     rt: &R,
     frame: &mut Frame<H, A>,
     dict: &Handle<A>,
@@ -78,7 +78,8 @@ struct PuttingAndFinding<'h, R, A: Allocator> {
     keys: Keys,
 }
 
-impl<'h, R: Wait, H: Home<A>, A: Allocator + Copy> Passing<H, A> for PuttingAndFinding<'h, R, A> {
+impl<'h, R: Wait, H: HasTable<A>, A: Allocator + Copy> Passing<H, A>
+    for PuttingAndFinding<'h, R, A> {
     ghost held = { λ it. it.value };
 
     ghost ready = { λ it frame. Owns frame it.dict.now × (it.value.place ≢ it.dict.now.place) };
@@ -107,7 +108,7 @@ impl<'h, R: Wait, H: Home<A>, A: Allocator + Copy> Passing<H, A> for PuttingAndF
                 })
             }
             Err(handed) => {
-                frame.release(handed.back.1);
+                frame.release(handed.value.1);
                 None
             }
         }
@@ -123,7 +124,7 @@ pub struct PutsAndFinds<'r, R, A> {
     pub n: u64,
 }
 
-impl<'r, R: Wait, H: Home<A>, A: Allocator + Copy> Operation<H, A> for PutsAndFinds<'r, R, A> {
+impl<'r, R: Wait, H: HasTable<A>, A: Allocator + Copy> Operation<H, A> for PutsAndFinds<'r, R, A> {
     fn run_on(&self, frame: &mut Frame<H, A>, dict: &Handle<A>, _before: u64) -> Option<()> {
         let value = new_int(self.alloc, frame, 1_000).ok()?;
         let turning = PuttingAndFinding {

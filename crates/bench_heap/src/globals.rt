@@ -8,7 +8,7 @@ use crate::containers::{Adding, Kind, Objects, Spot, put_in};
 use crate::lives::{Asked, FOREIGN};
 use crate::operations::{Integers, On, Operation};
 use crate::request::Case;
-use brc_count::biased::Home;
+use brc_count::biased::HasTable;
 use brc_count::{Frame, Handle};
 use brc_dicts::dict_del;
 use brc_loops::{Source, Task, repeat};
@@ -55,7 +55,7 @@ struct GiveInteger<'r, R, A> {
     first: u32,
 }
 
-impl<'r, R: Wait, H: Home<A>, A: Allocator + Copy> Operation<H, A> for GiveInteger<'r, R, A> {
+impl<'r, R: Wait, H: HasTable<A>, A: Allocator + Copy> Operation<H, A> for GiveInteger<'r, R, A> {
     fn run_on(&self, frame: &mut Frame<H, A>, globals: &Handle<A>, before: u64) -> Option<()> {
         let integer = Integers { alloc: self.alloc }.next(frame, before)?;
         let key = Key::Int(self.first as i64 + (before % 65_536) as i64);
@@ -71,7 +71,7 @@ struct Give<'r, R, A> {
     gift: Gift,
 }
 
-impl<'r, R: Wait, H: Home<A>, A: Allocator + Copy> Operation<H, A> for Give<'r, R, A> {
+impl<'r, R: Wait, H: HasTable<A>, A: Allocator + Copy> Operation<H, A> for Give<'r, R, A> {
     fn run_on(&self, frame: &mut Frame<H, A>, globals: &Handle<A>, before: u64) -> Option<()> {
         let rt = self.rt;
         let alloc = self.alloc;
@@ -106,7 +106,7 @@ pub struct Giving<'r, R, A> {
     pub asked: Asked,
 }
 
-impl<'r, R: Wait, H: Home<A>, A: Allocator + Copy> Task<H, A> for Giving<'r, R, A> {
+impl<'r, R: Wait, H: HasTable<A>, A: Allocator + Copy> Task<H, A> for Giving<'r, R, A> {
     ghost ready = { λ _ _. ⊤ };
 
     ghost stays = { λ _ _ _ _ ready. ready };
@@ -125,7 +125,7 @@ impl<'r, R: Wait, H: Home<A>, A: Allocator + Copy> Task<H, A> for Giving<'r, R, 
 }
 
 /// The reference that is in the globals under this key, taken out of them; None where it can't be had.
-pub fn take_from_globals<R: Wait, H: Home<A>, A: Allocator>(
+pub fn take_from_globals<R: Wait, H: HasTable<A>, A: Allocator>(
     rt: &R,
     frame: &mut Frame<H, A>,
     key: i64,

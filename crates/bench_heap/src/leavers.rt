@@ -7,7 +7,7 @@ ghost use Rattle.brc_count.specs.Owned.{Keeps};
 
 use crate::operations::{Integers, On, Operation};
 use crate::timing::{Span, Times, refused, this_moment};
-use brc_count::biased::Home;
+use brc_count::biased::HasTable;
 use brc_count::{Frame, Handle};
 use brc_dicts::dict_put;
 use brc_loops::{Source, repeat};
@@ -27,7 +27,7 @@ struct Replace<'r, R, A> {
     alloc: A,
 }
 
-impl<'r, R: Wait, H: Home<A>, A: Allocator + Copy> Operation<H, A> for Replace<'r, R, A> {
+impl<'r, R: Wait, H: HasTable<A>, A: Allocator + Copy> Operation<H, A> for Replace<'r, R, A> {
     fn run_on(&self, frame: &mut Frame<H, A>, globals: &Handle<A>, before: u64) -> Option<()> {
         let integer = Integers { alloc: self.alloc }.next(frame, before)?;
         let key = Key::Int((before % 65_536) as i64);
@@ -39,7 +39,7 @@ impl<'r, R: Wait, H: Home<A>, A: Allocator + Copy> Operation<H, A> for Replace<'
                 Some(())
             }
             Err(handed) => {
-                frame.release(handed.back.1);
+                frame.release(handed.value.1);
                 None
             }
         }
@@ -47,7 +47,7 @@ impl<'r, R: Wait, H: Home<A>, A: Allocator + Copy> Operation<H, A> for Replace<'
 }
 
 /// So many integers of the thread's own go into the globals; None where one can't be had or is refused.
-fn shares<R: Wait, H: Home<A>, A: Allocator + Copy>(
+fn shares<R: Wait, H: HasTable<A>, A: Allocator + Copy>(
     rt: &R,
     alloc: A,
     frame: &mut Frame<H, A>,
@@ -77,7 +77,7 @@ fn lives<R: Wait>(
 {
     let mut mutator = root.register(alloc, heap).ok()?;
     let shared = shares(rt, alloc, mutator.frame(), objects);
-    let _ledger = mutator.end(rt, root, heap);
+    let _ledger = mutator.settle_and_join(rt, root, heap);
     shared
 }
 
@@ -198,6 +198,6 @@ pub fn clears<R: Wait>(
 {
     let mut mutator = root.register(alloc, heap).ok()?;
     let cleared = mutator.clear_globals();
-    let _ledger = mutator.end(rt, root, heap);
+    let _ledger = mutator.settle_and_join(rt, root, heap);
     cleared.ok()
 }

@@ -4,7 +4,7 @@ ghost use Rattle.std.specs.Prelude.{⊤};
 ghost use Rattle.brc_count.specs.Frames.{Owns};
 
 use crate::operations::{Integers, Operation};
-use brc_count::biased::Home;
+use brc_count::biased::HasTable;
 use brc_count::{Frame, Handle};
 use brc_lists::{recv, send};
 use brc_loops::{Awaited, Look, Source, wait_for};
@@ -67,7 +67,7 @@ struct Received<'p> {
     count: u64,
 }
 
-impl<'p, H: Home<A>, A: Allocator> Awaited<H, A> for Received<'p> {
+impl<'p, H: HasTable<A>, A: Allocator> Awaited<H, A> for Received<'p> {
     ghost ready = { λ _ _. ⊤ };
 
     ghost stays = { λ _ _ _ _ ready. ready };
@@ -94,7 +94,7 @@ pub struct SendOne<'r, R, A> {
     pub post: &'r Post,
 }
 
-impl<'r, R: Wait, H: Home<A>, A: Allocator + Copy> Operation<H, A> for SendOne<'r, R, A> {
+impl<'r, R: Wait, H: HasTable<A>, A: Allocator + Copy> Operation<H, A> for SendOne<'r, R, A> {
     #[inline(always)]
     fn run_on(&self, frame: &mut Frame<H, A>, mailbox: &Handle<A>, before: u64) -> Option<()> {
         let sent = before.saturating_mul(SENDERS as u64);
@@ -105,7 +105,7 @@ impl<'r, R: Wait, H: Home<A>, A: Allocator + Copy> Operation<H, A> for SendOne<'
         wait_for(self.rt, &received, frame)?;
         let letter = Integers { alloc: self.alloc }.next(frame, before)?;
         if let Err(handed) = send(self.rt, frame, mailbox, letter) {
-            frame.release(handed.back);
+            frame.release(handed.value);
             return None;
         }
         frame.poll();
@@ -122,7 +122,7 @@ struct Letter<'h, R, A: Allocator> {
     post: &'h Post,
 }
 
-impl<'h, R: Wait, H: Home<A>, A: Allocator> Awaited<H, A> for Letter<'h, R, A> {
+impl<'h, R: Wait, H: HasTable<A>, A: Allocator> Awaited<H, A> for Letter<'h, R, A> {
     ghost ready = { λ letter frame. Owns frame letter.mailbox.now };
 
     ghost stays = { λ letter old new keeps owned. keeps.owns letter.mailbox.now owned };
@@ -153,7 +153,7 @@ pub struct ReceiveOne<'r, R> {
     pub post: &'r Post,
 }
 
-impl<'r, R: Wait, H: Home<A>, A: Allocator> Operation<H, A> for ReceiveOne<'r, R> {
+impl<'r, R: Wait, H: HasTable<A>, A: Allocator> Operation<H, A> for ReceiveOne<'r, R> {
     #[inline(always)]
     fn run_on(&self, frame: &mut Frame<H, A>, mailbox: &Handle<A>, before: u64) -> Option<()> {
         if before % 64 == 0 {

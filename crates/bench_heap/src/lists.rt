@@ -4,7 +4,7 @@ ghost use Rattle.std.specs.Prelude.{◌≡◌, ◌≢◌};
 ghost use Rattle.brc_count.specs.Frames.{Owns};
 
 use crate::operations::Operation;
-use brc_count::biased::Home;
+use brc_count::biased::HasTable;
 use brc_count::{Frame, Handle};
 use brc_lists::{list_pop, list_push};
 use brc_loops::{Passing, pass_on};
@@ -19,7 +19,7 @@ struct PushingAndPopping<'h, R, A: Allocator> {
     value: Handle<A>,
 }
 
-impl<'h, R: Wait, H: Home<A>, A: Allocator> Passing<H, A> for PushingAndPopping<'h, R, A> {
+impl<'h, R: Wait, H: HasTable<A>, A: Allocator> Passing<H, A> for PushingAndPopping<'h, R, A> {
     ghost held = { λ it. it.value };
 
     ghost ready = { λ it frame. Owns frame it.list.now × (it.value.place ≢ it.list.now.place) };
@@ -28,7 +28,7 @@ impl<'h, R: Wait, H: Home<A>, A: Allocator> Passing<H, A> for PushingAndPopping<
     fn pass(self, frame: &mut Frame<H, A>, _before: u64) -> Option<Self> {
         let PushingAndPopping { rt, list, value } = self;
         if let Err(handed) = list_push(rt, frame, list, value) {
-            frame.release(handed.back);
+            frame.release(handed.value);
             return None;
         }
         let value = list_pop(rt, frame, list).ok()?;
@@ -44,7 +44,7 @@ pub struct PushesAndPops<'r, R, A> {
     pub n: u64,
 }
 
-impl<'r, R: Wait, H: Home<A>, A: Allocator + Copy> Operation<H, A> for PushesAndPops<'r, R, A> {
+impl<'r, R: Wait, H: HasTable<A>, A: Allocator + Copy> Operation<H, A> for PushesAndPops<'r, R, A> {
     #[inline(never)]
     fn run_on(&self, frame: &mut Frame<H, A>, list: &Handle<A>, _before: u64) -> Option<()> {
         let rt = self.rt;

@@ -17,7 +17,7 @@ use crate::operations::{
 };
 use crate::request::Case;
 use crate::timing::{Span, refused, this_moment};
-use brc_count::biased::Home;
+use brc_count::biased::HasTable;
 use brc_count::{Frame, Handle};
 use brc_handles::Handles;
 use brc_loops::{Life, Source, fill, repeat};
@@ -71,7 +71,7 @@ fn first_cell(thread: u32, threads: u32) -> u32 {
 }
 
 /// The thread's claims begin where the case has it.
-fn begins_claims<H: Home<A>, A: Allocator>(frame: &mut Frame<H, A>, asked: Asked)
+fn begins_claims<H: HasTable<A>, A: Allocator>(frame: &mut Frame<H, A>, asked: Asked)
     requires unlocked { IsUnlocked frame.old }
     ensures keeps { Keeps frame.old frame.new }
     ensures unlocked { IsUnlocked frame.new }
@@ -111,7 +111,7 @@ struct Worker<'r, R, A> {
 }
 
 /// The objects that it needs: handles for its operations, or what lives while it is timed.
-impl<'r, R: Wait, H: Home<A>, A: Allocator + Copy> Source<H, A> for Worker<'r, R, A> {
+impl<'r, R: Wait, H: HasTable<A>, A: Allocator + Copy> Source<H, A> for Worker<'r, R, A> {
     fn next(&self, frame: &mut Frame<H, A>, before: u64) -> Option<Handle<A>> {
         let rt = self.rt;
         let alloc = self.alloc;
@@ -146,7 +146,7 @@ impl<'r, R: Wait, H: Home<A>, A: Allocator + Copy> Source<H, A> for Worker<'r, R
 
 impl<'r, R: Wait + Clock + CpuClock, A: Allocator + Copy> Worker<'r, R, A> {
     /// The operations of the case; None where one failed, or where there is no handle that it needs.
-    fn operates<H: Home<A>>(&self, frame: &mut Frame<H, A>, handles: &Handles<A>) -> Option<()>
+    fn operates<H: HasTable<A>>(&self, frame: &mut Frame<H, A>, handles: &Handles<A>) -> Option<()>
         requires each { OwnsEach frame.old handles.now }
         requires unlocked { IsUnlocked frame.old }
         ensures keeps { Keeps frame.old frame.new }
@@ -200,7 +200,7 @@ impl<'r, R: Wait + Clock + CpuClock, A: Allocator + Copy> Worker<'r, R, A> {
     }
 
     /// When the thread began and ended what the case times of one object; or why it couldn't.
-    fn measures_one<H: Home<A>>(&self, frame: &mut Frame<H, A>) -> io::Result<Span>
+    fn measures_one<H: HasTable<A>>(&self, frame: &mut Frame<H, A>) -> io::Result<Span>
         requires unlocked { IsUnlocked frame.old }
         ensures keeps { Keeps frame.old frame.new }
         ensures unlocked { IsUnlocked frame.new }
@@ -214,7 +214,7 @@ impl<'r, R: Wait + Clock + CpuClock, A: Allocator + Copy> Worker<'r, R, A> {
 
     /// When the thread began and ended its operations; or why it couldn't do them all. It has no handle before and
     /// afterwards.
-    fn measures<H: Home<A>>(&self, frame: &mut Frame<H, A>) -> io::Result<Span>
+    fn measures<H: HasTable<A>>(&self, frame: &mut Frame<H, A>) -> io::Result<Span>
         requires bare { frame.old.len ≡ 0 }
         requires unlocked { IsUnlocked frame.old }
         ensures heap { frame.new.heap ≡ frame.old.heap }

@@ -6,7 +6,7 @@ ghost use Rattle.brc_count.specs.Owned.{Keeps};
 ghost use Rattle.brc_handles.specs.Handles.{OwnsEach};
 ghost use Rattle.brc_loops.specs.Held.{each_still};
 
-use brc_count::biased::Home;
+use brc_count::biased::HasTable;
 use brc_count::{Frame, Handle};
 use brc_handles::Handles;
 use brc_loops::{Source, Task, repeat};
@@ -15,7 +15,7 @@ use brc_words::Text;
 use std::alloc::Allocator;
 
 /// What is done with one object, of which the thread has a handle.
-pub trait Operation<H: Home<A>, A: Allocator> {
+pub trait Operation<H: HasTable<A>, A: Allocator> {
     /// It is done once, after so many times before; None where it fails.
     fn run_on(&self, frame: &mut Frame<H, A>, handle: &Handle<A>, before: u64) -> Option<()>
         requires owned { Owns frame.old handle.now }
@@ -28,7 +28,7 @@ pub trait Operation<H: Home<A>, A: Allocator> {
 #[derive(Drop)]
 pub struct On<'h, O, A: Allocator>(pub &'h Handle<A>, pub O);
 
-impl<'h, O: Operation<H, A>, H: Home<A>, A: Allocator> Task<H, A> for On<'h, O, A> {
+impl<'h, O: Operation<H, A>, H: HasTable<A>, A: Allocator> Task<H, A> for On<'h, O, A> {
     ghost ready = { λ on frame. Owns frame on.0.now };
 
     ghost stays = { λ on old new keeps owned. keeps.owns on.0.now owned };
@@ -43,7 +43,7 @@ impl<'h, O: Operation<H, A>, H: Home<A>, A: Allocator> Task<H, A> for On<'h, O, 
 #[derive(Clone, Copy, Debug, PartialEq, Eq)]
 pub struct Pair;
 
-impl<H: Home<A>, A: Allocator> Operation<H, A> for Pair {
+impl<H: HasTable<A>, A: Allocator> Operation<H, A> for Pair {
     #[inline(always)]
     fn run_on(&self, frame: &mut Frame<H, A>, handle: &Handle<A>, _before: u64) -> Option<()> {
         let more = frame.retain(handle).ok()?;
@@ -58,7 +58,7 @@ pub struct Polled<O> {
     pub operation: O,
 }
 
-impl<O: Operation<H, A>, H: Home<A>, A: Allocator> Operation<H, A> for Polled<O> {
+impl<O: Operation<H, A>, H: HasTable<A>, A: Allocator> Operation<H, A> for Polled<O> {
     #[inline(always)]
     fn run_on(&self, frame: &mut Frame<H, A>, handle: &Handle<A>, before: u64) -> Option<()> {
         self.operation.run_on(frame, handle, before)?;
@@ -93,7 +93,7 @@ pub struct PairOf<'h, A: Allocator> {
     pub order: Order,
 }
 
-impl<'h, H: Home<A>, A: Allocator> Task<H, A> for PairOf<'h, A> {
+impl<'h, H: HasTable<A>, A: Allocator> Task<H, A> for PairOf<'h, A> {
     ghost ready = { λ pair frame. OwnsEach frame pair.handles.now };
 
     ghost stays = { λ pair. each_still pair.handles.now };
@@ -116,7 +116,7 @@ struct Times<T> {
     count: u64,
 }
 
-impl<T: Task<H, A>, H: Home<A>, A: Allocator> Task<H, A> for Times<T> {
+impl<T: Task<H, A>, H: HasTable<A>, A: Allocator> Task<H, A> for Times<T> {
     ghost ready = { λ times frame. T.ready times.task frame };
 
     ghost stays = { λ times. T.stays times.task };
@@ -128,7 +128,7 @@ impl<T: Task<H, A>, H: Home<A>, A: Allocator> Task<H, A> for Times<T> {
 }
 
 /// So many pairs on these objects in turn; None where there is no object.
-pub fn pairs_in_turn<H: Home<A>, A: Allocator>(
+pub fn pairs_in_turn<H: HasTable<A>, A: Allocator>(
     frame: &mut Frame<H, A>,
     handles: &Handles<A>,
     n: u64,
@@ -157,7 +157,7 @@ pub struct Ending<S> {
     pub source: S,
 }
 
-impl<S: Source<H, A>, H: Home<A>, A: Allocator> Task<H, A> for Ending<S> {
+impl<S: Source<H, A>, H: HasTable<A>, A: Allocator> Task<H, A> for Ending<S> {
     ghost ready = { λ _ _. ⊤ };
 
     ghost stays = { λ _ _ _ _ ready. ready };
@@ -177,7 +177,7 @@ pub struct Integers<A> {
     pub alloc: A,
 }
 
-impl<H: Home<A>, A: Allocator + Copy> Source<H, A> for Integers<A> {
+impl<H: HasTable<A>, A: Allocator + Copy> Source<H, A> for Integers<A> {
     #[inline(always)]
     fn next(&self, frame: &mut Frame<H, A>, before: u64) -> Option<Handle<A>> {
         new_int(self.alloc, frame, 1_000 + (before % 65_536) as i64).ok()
@@ -186,7 +186,7 @@ impl<H: Home<A>, A: Allocator + Copy> Source<H, A> for Integers<A> {
 
 /// So many integers, each made, released, and taken apart; None where one can't be had. The loop has a function of its
 /// own: beside others, or with texts, LLVM makes a call of taking the block off the worklist.
-pub fn new_integers<H: Home<A>, A: Allocator + Copy>(
+pub fn new_integers<H: HasTable<A>, A: Allocator + Copy>(
     alloc: A,
     frame: &mut Frame<H, A>,
     n: u64,
@@ -205,7 +205,7 @@ pub struct Texts16<A> {
     pub alloc: A,
 }
 
-impl<H: Home<A>, A: Allocator + Copy> Source<H, A> for Texts16<A> {
+impl<H: HasTable<A>, A: Allocator + Copy> Source<H, A> for Texts16<A> {
     #[inline(always)]
     fn next(&self, frame: &mut Frame<H, A>, _before: u64) -> Option<Handle<A>> {
         let bytes = String::from_str(self.alloc, "sixteen bytes ..").ok()?;

@@ -1,7 +1,7 @@
 //! Whether a run came to what it should.
 
 use crate::plan::Plan;
-use brc_run_text::Ended;
+use brc_run_text::RunEnded;
 use std::alloc::{AllocError, Global};
 
 /// What the sections print, and the ledger of the report.
@@ -43,7 +43,7 @@ fn are_left(lines: &str, remains: u64) -> bool {
 pub fn is_as_planned(
     alloc: Global,
     plan: &Plan,
-    ended: Ended,
+    ended: RunEnded,
     output: &[u8],
 ) -> Result<bool, AllocError> {
     let told = told(alloc, plan)?;

@@ -31,7 +31,7 @@ fn a_list(rt: &impl Wait, alloc: Global, frame: &mut Frame) -> Option<Handle>
     match list_push(rt, frame, &list, number) {
         Ok(()) => Some(list),
         Err(handed) => {
-            frame.release(handed.back);
+            frame.release(handed.value);
             frame.release(list);
             None
         }
@@ -56,7 +56,7 @@ pub fn puts(rt: &impl Wait, alloc: Global, frame: &mut Frame, globals: &Handle, 
             true
         }
         Err(handed) => {
-            frame.release(handed.back.1);
+            frame.release(handed.value.1);
             false
         }
     }
@@ -97,6 +97,6 @@ pub fn clears(rt: &impl Wait, alloc: Global, heap: &Heap, root: &mut Root) -> bo
         return false;
     };
     let cleared = last.clear_globals().is_ok();
-    let _ledger = last.end(rt, root, heap);
+    let _ledger = last.settle_and_join(rt, root, heap);
     cleared
 }

@@ -40,7 +40,7 @@ fn stays(rt: &impl Wait, heap: &Heap, resting: Resting, keys: u32, over: &Mutex<
         takes_on(rt, mutator.frame(), &globals, keys, over);
         mutator.frame().release(globals);
     }
-    mutator.retire(rt)
+    mutator.settle_and_leave(rt)
 }
 
 /// So many lists are shared, under the first keys: whether they all are.
@@ -81,10 +81,10 @@ fn bears(rt: &impl Wait, alloc: Global, heap: &Heap, root: &mut Root, coming: &C
         }
         Err(_) => false,
     };
-    match mutator.depart(1 << 20) {
+    match mutator.leave_without_waiting(1 << 20) {
         Ok(leaving) => root.gather(heap, leaving.finish_all(rt)),
         Err(mutator) => {
-            let _ledger = mutator.end(rt, root, heap);
+            let _ledger = mutator.settle_and_join(rt, root, heap);
         }
     }
     whole && is_one
@@ -119,7 +119,7 @@ fn second(rt: &impl Wait, alloc: Global, heap: &Heap, root: &mut Root) -> Option
 {
     let first = root.register(alloc, heap).ok()?;
     let second = root.register(alloc, heap);
-    let _ledger = first.end(rt, root, heap);
+    let _ledger = first.settle_and_join(rt, root, heap);
     Some(second.ok()?.rest())
 }
 

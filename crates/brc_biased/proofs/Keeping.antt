@@ -11,10 +11,10 @@ use Rattle.brc_table.specs.law.world.Steps.{frame_without}
 use Rattle.brc_table.proofs.law.world.Framing.{place_at-vacated_else}
 use Rattle.brc_table.specs.law.known.Items.{Part}
 use Rattle.brc_table.specs.law.known.Taken.{Blocks, listed_at, cut, cut_by}
-use Rattle.brc_table.specs.law.rule.declared.told.Told.{Told}
+use Rattle.brc_table.specs.law.rule.declared.told.LogItem.{LogItem}
 use Rattle.brc_table.specs.law.rule.Seen.{part_seen, taken_seen}
-use Rattle.brc_table.specs.Knowing.{known_seen, Knows, Keeps}
-use Rattle.brc_biased.specs.Standing.{KeepsPlaces}
+use Rattle.brc_table.specs.Knowing.{known_seen, Knows, KeepsNotes}
+use Rattle.brc_biased.specs.Standing.{FillsNoPlace}
 
 some_none : {X : Type 0} {x : X} → Some x ≡ None → ⊥
 some_none is = cc
@@ -37,7 +37,7 @@ unlisted_before (Some (drops.Frame k)) blocks c is = is
 unlisted_before (Some (drops.Work d)) blocks c is = unlisted_cut d blocks c is
 
 -- a block that is answered after a reference went was none of those that the thread had before
-pub fresh_before : {A : Type 0} (o : Option Dropped) (n : ℕ) (before log : List Told) (c : ℕ)
+pub fresh_before : {A : Type 0} (o : Option Dropped) (n : ℕ) (before log : List LogItem) (c : ℕ)
     (block : Option (ℕ × Payload A))
     → taken_seen n log ≡ cut_by o (taken_seen n before) → IfSome block (λ there. listed_at (taken_seen n log) c ≡ None)
     → IfSome block (λ there. listed_at (taken_seen n before) c ≡ None)
@@ -60,10 +60,10 @@ place_before (drops.Frame j) frame k c there = elim (cases_eq k j) [
   | inr other ↦ sym (place_at-vacated_else frame j k other) ∙ there
 ]
 
-module _ {n : ℕ} {before log : List Told} where
+module _ {n : ℕ} {before log : List LogItem} where
   -- after a step by which a reference goes
   pub drop_keeps : (drop : Dropped) → (part_seen n log).frame ≡ frame_without (Some drop) (part_seen n before).frame
-      → Keeps n before log → KeepsPlaces n before log
+      → KeepsNotes n before log → FillsNoPlace n before log
   drop_keeps drop gone keeps = record {
     places = λ k c there. place_before drop (part_seen n before).frame k c
         (ap (λ frame. place_at frame k) (sym gone) ∙ there);
@@ -71,13 +71,14 @@ module _ {n : ℕ} {before log : List Told} where
   }
 
   -- after a look, and after an exchange that was lost
-  pub look_keeps : Knows n log (known_seen n before) → Keeps n before log → KeepsPlaces n before log
+  pub look_keeps : Knows n log (known_seen n before) → KeepsNotes n before log → FillsNoPlace n before log
   look_keeps knows keeps = record {
     places = λ k c there. ap (λ (p : Part). place_at p.frame k) (sym knows.part) ∙ there;
     risen = λ k c there seen. keeps.risen (drops.Frame k) c seen ∙ ap (names c) there ∙ eq-eqb c c refl;
   }
 
-  pub keeps_on : {later : List Told} → KeepsPlaces n before log → KeepsPlaces n log later → KeepsPlaces n before later
+  pub keeps_on : {later : List LogItem} → FillsNoPlace n before log → FillsNoPlace n log later
+      → FillsNoPlace n before later
   keeps_on first second = record {
     places = λ k c there. first.places k c (second.places k c there);
     risen = λ k c there seen. second.risen k c there (first.risen k c (second.places k c there) seen);

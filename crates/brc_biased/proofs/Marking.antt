@@ -13,7 +13,7 @@ use Rattle.brc_table.proofs.law.world.Changes.{read_here, read_there}
 use Rattle.brc_table.specs.law.known.Items.{Item, Did, Saw, Lost, Part, part_of, part_by, part_after, meant, cell_told, has_found}
 use Rattle.brc_table.specs.law.known.Items.{has_without}
 use Rattle.brc_table.specs.law.known.Going_On.{handing, settling, taking}
-use Rattle.brc_table.specs.law.rule.declared.told.Told.{Told}
+use Rattle.brc_table.specs.law.rule.declared.told.LogItem.{LogItem}
 use Rattle.brc_table.specs.law.rule.Logs.{log_items, entries_in}
 use Rattle.brc_table.specs.law.rule.Seen.{part_seen}
 use Rattle.brc_table.specs.Knowing.{known_seen, entries_of}
@@ -39,11 +39,11 @@ items_wide : (n : ℕ) (items : List Item) → length (part_of n items).worklist
 items_wide n [] = length-replicate n false
 items_wide n (x ∷ items) = after_wide n (part_of n items) x ∙ items_wide n items
 
-pub marks_wide : (n : ℕ) (log : List Told) → length (part_seen n log).worklist ≡ n
+pub marks_wide : (n : ℕ) (log : List LogItem) → length (part_seen n log).worklist ≡ n
 marks_wide n log = items_wide n (log_items log)
 
 -- the mark of a cell is set, and it has the entries
-dead_now : (n : ℕ) (before log : List Told) (c : ℕ) (entries : List ℕ) (has : ℕ → List ℕ)
+dead_now : (n : ℕ) (before log : List LogItem) (c : ℕ) (entries : List ℕ) (has : ℕ → List ℕ)
     → (part_seen n log).worklist ≡ set (part_seen n before).worklist c true
     → (part_seen n log).has ≡ (λ d. if d == c then entries else has d) → c < n → HasDead n log c entries
 dead_now n before log c entries has marks is low = record {
@@ -52,7 +52,7 @@ dead_now n before log c entries has marks is low = record {
   has = ap (λ (f : ℕ → List ℕ). f c) is ∙ ap (λ (t : Bool). if t then entries else has c) (eq-eqb c c refl);
 }
 
-module _ {A : Type 0} (n : ℕ) (before log : List Told) (c : ℕ) where
+module _ {A : Type 0} (n : ℕ) (before log : List LogItem) (c : ℕ) where
   pub dead_released : (drop : Dropped) (block : Option (ℕ × Payload A))
       → part_seen n log ≡ (released (is_there block) drop c (entries_of block) (known_seen n before)).part
       → c < n → IfSome block (λ there. HasDead n log c (entries_in (contents_of there.1)))
@@ -78,7 +78,7 @@ module _ {A : Type 0} (n : ℕ) (before log : List Told) (c : ℕ) where
       (ap (λ (p : Part). p.worklist) known) (ap (λ (p : Part). p.has) known) low
 
 -- a dead block that the thread had before a release is one still, and is another than the one that the release answers
-pub dead_stays : (n : ℕ) (before log : List Told) (c : ℕ) (drop : Dropped) (takes : Bool) (entries : List ℕ)
+pub dead_stays : (n : ℕ) (before log : List LogItem) (c : ℕ) (drop : Dropped) (takes : Bool) (entries : List ℕ)
     → part_seen n log ≡ (released takes drop c entries (known_seen n before)).part
     → (q : ℕ) (left : List ℕ) → q ≢ c → HasDead n before q left → HasDead n log q (entries_left drop q left)
 dead_stays n before log c drop takes entries known q left other dead = record {

@@ -12,7 +12,7 @@ use Rattle.brc_table.specs.law.world.Heap.{words_for}
 use Rattle.brc_table.specs.law.world.Lists.{bit_of, word_at, with_bit}
 use Rattle.brc_table.proofs.law.world.Bitwise.{with_bit_here, with_bit_else}
 use Rattle.brc_table.proofs.law.world.Bitwise.{length-with_bit}
-use Rattle.brc_table.specs.law.rule.declared.told.Told.{Told}
+use Rattle.brc_table.specs.law.rule.declared.told.LogItem.{LogItem}
 use Rattle.brc_table.specs.law.world.Steps.{is_active}
 use Rattle.brc_table.specs.law.rule.Seen.{part_seen, counts_seen}
 use Rattle.brc_biased.specs.Counter.{CountsFit, AreOwned, first_count}
@@ -30,7 +30,7 @@ other_bits words cell word inside rest c other = elim (cases_eq (c / 32) (cell /
 ]
 
 -- a cell's count is gone, of a mortal one or of one that was never counted
-module _ (n : ℕ) (before log : List Told) (counts : List ℕ) (cell : ℕ) (fit : CountsFit n before counts)
+module _ (n : ℕ) (before log : List LogItem) (counts : List ℕ) (cell : ℕ) (fit : CountsFit n before counts)
     (gone : (c : ℕ) → counts_seen n log c ≡ (if c == cell then 0 else counts_seen n before c))
     (active : is_active (part_seen n log).row.stage ≡ true) where
   counts_else : (c : ℕ) → c ≢ cell → counts_seen n log c ≡ counts_seen n before c
@@ -60,7 +60,7 @@ module _ (n : ℕ) (before log : List Told) (counts : List ℕ) (cell : ℕ) (fi
   }
 
 -- a thread that counts nothing is counted so
-pub counts_none : (n : ℕ) (log : List Told) (counts : List ℕ) → length counts ≡ n
+pub counts_none : (n : ℕ) (log : List LogItem) (counts : List ℕ) → length counts ≡ n
     → ((c : ℕ) → c < n → slice_index counts c ≡ first_count c)
     → ((c : ℕ) → FIRST_MORTAL ≤ c → c < n → counts_seen n log c ≡ 0) → CountsFit n log counts
 counts_none n log counts wide first none = record {

@@ -13,20 +13,20 @@ use Rattle.brc_table.specs.law.known.Items.{Part}
 use Rattle.brc_table.specs.law.known.Going_On.{Known}
 use Rattle.brc_table.specs.law.known.Risen.{drop_in}
 use Rattle.brc_table.proofs.law.known.Risen_Law.{risen_named}
-use Rattle.brc_table.specs.law.rule.declared.told.Told.{Told}
-use Rattle.brc_table.specs.law.rule.declared.told.Told.TheVariants.{Saw, Lost}
+use Rattle.brc_table.specs.law.rule.declared.told.LogItem.{LogItem}
+use Rattle.brc_table.specs.law.rule.declared.told.LogItem.TheVariants.{Loaded, Lost}
 use Rattle.brc_table.specs.law.rule.Logs.{log_items}
 use Rattle.brc_table.specs.law.rule.Seen.{part_seen}
-use Rattle.brc_table.specs.Knowing.{known_seen, Keeps}
+use Rattle.brc_table.specs.Knowing.{known_seen, KeepsNotes}
 use Rattle.brc_table.specs.Seated.{Continues}
 use Rattle.brc_biased.specs.Counter.{CounterSeen}
 use Rattle.brc_biased.specs.Seeking.{lacks_cell, tells_taken, are_free_looks, have_told_taken, PassesFrom, ClaimsFrom}
-use Rattle.brc_biased.specs.Seeking.{ClaimsFirst, ClaimsAround, Takes, Misses}
-use Rattle.brc_biased.specs.Up.{IsKnown}
+use Rattle.brc_biased.specs.Seeking.{ClaimsFirst, ClaimsAround, ClaimsCell, Misses}
+use Rattle.brc_biased.specs.Up.{KnowsPart}
 
 -- ---- notes
 
-all_looks : (more looks : List Told) → are_free_looks more ≡ true → are_free_looks looks ≡ true
+all_looks : (more looks : List LogItem) → are_free_looks more ≡ true → are_free_looks looks ≡ true
     → are_free_looks (more ++ looks) ≡ true
 all_looks [] looks first second = second
 all_looks (x ∷ more) looks first second = let parts = and_parts _ _ first in
@@ -40,7 +40,7 @@ other_true : (a b : Bool) → b ≡ true → (a || b) ≡ true
 other_true true b is = refl
 other_true false b is = is
 
-told_before : (d : ℕ) (more looks : List Told) → have_told_taken d looks ≡ true
+told_before : (d : ℕ) (more looks : List LogItem) → have_told_taken d looks ≡ true
     → have_told_taken d (more ++ looks) ≡ true
 told_before d [] looks told = told
 told_before d (x ∷ more) looks told = other_true (tells_taken d x) _ (told_before d more looks told)
@@ -49,7 +49,8 @@ one_more : (a b b' : Bool) → (b ≡ true → b' ≡ true) → (a || b) ≡ tru
 one_more true b b' more told = refl
 one_more false b b' more told = more told
 
-told_since : (d : ℕ) (more looks : List Told) → have_told_taken d more ≡ true → have_told_taken d (more ++ looks) ≡ true
+told_since : (d : ℕ) (more looks : List LogItem) → have_told_taken d more ≡ true
+    → have_told_taken d (more ++ looks) ≡ true
 told_since d [] looks told = absurd (true≢false (sym told))
 told_since d (x ∷ more) looks told = one_more (tells_taken d x) _ _ (told_since d more looks) told
 
@@ -58,7 +59,7 @@ lacks : (d word number : ℕ) → d / 64 ≡ word → bit_at number (d % 64) ≡
 lacks d word number there none = both_true (eq-eqb word (d / 64) (sym there)) (eq-eqb (bit_at number (d % 64)) 0 none)
 
 -- what two searches passed over, the second beginning where the first had come to
-passes_on : {first c from to : ℕ} {before mid log : List Told} → ((d : ℕ) → d < to → c ≤ d → from ≤ d)
+passes_on : {first c from to : ℕ} {before mid log : List LogItem} → ((d : ℕ) → d < to → c ≤ d → from ≤ d)
     → PassesFrom first before c mid → PassesFrom from mid to log → PassesFrom first before to log
 passes_on {first} {c} {from} {to} {before} {mid} {log} meets old new = record {
   looks = new.looks ++ old.looks;
@@ -78,26 +79,28 @@ pub record IsSeeking {A : Type 0} (start : CounterSeen A) (first cell : ℕ) (no
   pub seat : Continues start.seat now.seat
   pub passed : PassesFrom first start.seat.log cell now.seat.log
   pub slots : now.seat.slots ≡ start.seat.slots
-  pub knows : IsKnown start.heap.cells now.seat.log (known_seen start.heap.cells start.seat.log)
-  pub keeps : Keeps start.heap.cells start.seat.log now.seat.log
+  pub knows : KnowsPart start.heap.cells now.seat.log (known_seen start.heap.cells start.seat.log)
+  pub keeps : KeepsNotes start.heap.cells start.seat.log now.seat.log
 
-keeps_same : (n : ℕ) (log : List Told) → Keeps n log log
+keeps_same : (n : ℕ) (log : List LogItem) → KeepsNotes n log log
 keeps_same n log = record {
   risen = λ drop c seen. seen ∙ sym (risen_named n (log_items log) drop c seen);
   owners = λ q seen. seen;
 }
 
 -- what was seen risen in a place that still has the cell is seen so by both logs
-pub keeps_through : {n : ℕ} {before log later : List Told} → part_seen n log ≡ part_seen n before → Keeps n before log
-    → Keeps n log later → Keeps n before later
+pub keeps_through : {n : ℕ} {before log later : List LogItem} → part_seen n log ≡ part_seen n before
+    → KeepsNotes n before log
+    → KeepsNotes n log later → KeepsNotes n before later
 keeps_through {n} {before} {log} {later} same first second = record {
   risen = λ drop c seen. second.risen drop c (first.risen drop c seen ∙ ap (λ (p : Part). names c (drop_in p drop)) same
       ∙ risen_named n (log_items before) drop c seen);
   owners = λ q seen. second.owners q (first.owners q seen);
 }
 
-known_through : {n : ℕ} {log later : List Told} {old : Known} → IsKnown n log old → IsKnown n later (known_seen n log)
-    → IsKnown n later old
+known_through : {n : ℕ} {log later : List LogItem} {old : Known} → KnowsPart n log old
+    → KnowsPart n later (known_seen n log)
+    → KnowsPart n later old
 known_through {n} {log} {later} {old} first second = record {
   part = second.part ∙ first.part;
   blocks = second.blocks
@@ -127,8 +130,9 @@ begins start first cells = record {
 -- one more step of a search
 abbrev goes_on : {A : Type 0} {start now new : CounterSeen A} {first cell next : ℕ} → IsSeeking start first cell now
     → new.heap ≡ now.heap → Continues now.seat new.seat → PassesFrom first start.seat.log next new.seat.log
-    → new.seat.slots ≡ now.seat.slots → IsKnown start.heap.cells new.seat.log (known_seen start.heap.cells now.seat.log)
-    → Keeps start.heap.cells now.seat.log new.seat.log
+    → new.seat.slots ≡ now.seat.slots
+    → KnowsPart start.heap.cells new.seat.log (known_seen start.heap.cells now.seat.log)
+    → KeepsNotes start.heap.cells now.seat.log new.seat.log
     → IsSeeking start first next new
 goes_on seeks heap seat passed slots knows keeps = record {
   heap = heap ∙ seeks.heap;
@@ -143,8 +147,9 @@ goes_on seeks heap seat passed slots knows keeps = record {
 pub next_word : {A : Type 0} {start now new : CounterSeen A} {first : ℕ} (cells word : ℕ)
     → IsSeeking start first (min (word * 64) cells) now → new.heap ≡ now.heap → Continues now.seat new.seat
     → PassesFrom (word * 64) now.seat.log (min (word * 64 + 64) cells) new.seat.log
-    → new.seat.slots ≡ now.seat.slots → IsKnown start.heap.cells new.seat.log (known_seen start.heap.cells now.seat.log)
-    → Keeps start.heap.cells now.seat.log new.seat.log
+    → new.seat.slots ≡ now.seat.slots
+    → KnowsPart start.heap.cells new.seat.log (known_seen start.heap.cells now.seat.log)
+    → KeepsNotes start.heap.cells now.seat.log new.seat.log
     → IsSeeking start first (min ((word + 1) * 64) cells) new
 next_word {A} {start} {now} {new} {first} cells word seeks heap seat passed slots knows keeps =
     let next : min (word * 64 + 64) cells ≡ min ((word + 1) * 64) cells = omega arith in
@@ -153,7 +158,7 @@ next_word {A} {start} {now} {new} {first} cells word seeks heap seat passed slot
     (passes_on (λ d low past. omega (arith, low, past)) seeks.passed passed)) slots knows keeps
 
 -- a cell of the next word is claimed
-pub claims_later : {A : Type 0} {start now : CounterSeen A} {log : List Told} {first : ℕ} (cells word cell : ℕ)
+pub claims_later : {A : Type 0} {start now : CounterSeen A} {log : List LogItem} {first : ℕ} (cells word cell : ℕ)
     → IsSeeking start first (min (word * 64) cells) now → cell < cells → ClaimsFrom (word * 64) cell now.seat.log log
     → ClaimsFrom first cell start.seat.log log
 claims_later cells word cell seeks inside claims = record {
@@ -165,7 +170,7 @@ claims_later cells word cell seeks inside claims = record {
 }
 
 -- who passed over some cells passed over fewer
-pub passes_fewer : {first c fewer : ℕ} {before log : List Told} → fewer ≤ c → PassesFrom first before c log
+pub passes_fewer : {first c fewer : ℕ} {before log : List LogItem} → fewer ≤ c → PassesFrom first before c log
     → PassesFrom first before fewer log
 passes_fewer few passed = record {
   looks = passed.looks;
@@ -177,7 +182,7 @@ passes_fewer few passed = record {
 -- ---- words from one on, to the last and then from the first
 
 -- a cell from the first word on is claimed
-pub claims_ahead : {n start c : ℕ} {before log : List Told} → start * 64 ≤ c → ClaimsFrom (start * 64) c before log
+pub claims_ahead : {n start c : ℕ} {before log : List LogItem} → start * 64 ≤ c → ClaimsFrom (start * 64) c before log
     → ClaimsAround n start c before log
 claims_ahead {n} {start} {c} ahead claims = record {
   mid = claims.mid;
@@ -196,12 +201,12 @@ claims_ahead {n} {start} {c} ahead claims = record {
 }
 
 -- all from the first word on were passed over
-pub passes_end : {first n : ℕ} {before log : List Told} (words : ℕ) → n ≤ words * 64
+pub passes_end : {first n : ℕ} {before log : List LogItem} (words : ℕ) → n ≤ words * 64
     → PassesFrom first before (min (words * 64) n) log → PassesFrom first before n log
 passes_end words enough passed = passes_fewer (omega (arith, enough)) passed
 
 -- and then a cell from the lowest on is claimed
-pub claims_behind : {n first : ℕ} {before mid : List Told} (start : ℕ) (log : List Told) (o : Option ℕ)
+pub claims_behind : {n first : ℕ} {before mid : List LogItem} (start : ℕ) (log : List LogItem) (o : Option ℕ)
     → first ≤ FIRST_MORTAL → PassesFrom (start * 64) before n mid → IfSome o (λ c. c < n)
     → IfSome o (λ c. ClaimsFrom first c mid log)
     → IfSome o (λ c. ClaimsAround n start c before log)
@@ -229,7 +234,7 @@ claims_behind start log (Some c) low passed inside claims = record {
 }
 
 -- or all below the first word were passed over too
-pub passes_behind : {n first to : ℕ} {before mid : List Told} (start : ℕ) (log : List Told) (o : Option ℕ)
+pub passes_behind : {n first to : ℕ} {before mid : List LogItem} (start : ℕ) (log : List LogItem) (o : Option ℕ)
     → first ≤ FIRST_MORTAL → ((d : ℕ) → d < n → d < start * 64 → d < to) → PassesFrom (start * 64) before n mid
     → IfNone o (PassesFrom first mid to log) → IfNone o (PassesFrom FIRST_MORTAL before n log)
 passes_behind start log (Some c) low meets old new = tt
@@ -245,7 +250,7 @@ passes_behind start log None low meets old new = record {
 }
 
 -- from the first free word on that is the first cell to be had
-pub claims_first : {n c : ℕ} {before log : List Told} → ClaimsAround n (FIRST_MORTAL / 64) c before log
+pub claims_first : {n c : ℕ} {before log : List LogItem} → ClaimsAround n (FIRST_MORTAL / 64) c before log
     → ClaimsFirst c before log
 claims_first claims = record {
   mid = claims.mid;
@@ -269,10 +274,10 @@ pub record IsInWord {A : Type 0} (start : CounterSeen A) (word found cell : ℕ)
 
 -- the cells below the lowest bit that was found
 pub begins_word : {A : Type 0} {start now : CounterSeen A} (word found zeros first : ℕ) → now.heap ≡ start.heap
-    → Continues start.seat now.seat → now.seat.log ≡ Saw (FreeWord word) found ∷ start.seat.log
+    → Continues start.seat now.seat → now.seat.log ≡ Loaded (FreeWord word) found ∷ start.seat.log
     → now.seat.slots ≡ start.seat.slots
-    → IsKnown start.heap.cells now.seat.log (known_seen start.heap.cells start.seat.log)
-    → Keeps start.heap.cells start.seat.log now.seat.log
+    → KnowsPart start.heap.cells now.seat.log (known_seen start.heap.cells start.seat.log)
+    → KeepsNotes start.heap.cells start.seat.log now.seat.log
     → zeros ≤ 64 → ((i : ℕ) → i < zeros → bit_at found i ≡ 0) → first ≤ max (word * 64 + zeros) FIRST_MORTAL
     → IsInWord start word found first now
 begins_word {A} {start} {now} word found zeros first heap seat told slots knows keeps few none lowest = record {
@@ -280,7 +285,7 @@ begins_word {A} {start} {now} word found zeros first heap seat told slots knows 
     heap = heap;
     seat = seat;
     passed = record {
-      looks = Saw (FreeWord word) found ∷ [];
+      looks = Loaded (FreeWord word) found ∷ [];
       above = told;
       only = refl;
       taken = λ d mortal low high. one_true (lacks_cell d (FreeWord word) found) false
@@ -295,10 +300,10 @@ begins_word {A} {start} {now} word found zeros first heap seat told slots knows 
 }
 
 -- a word without a bit is passed over by one look
-pub passes_blank : {before log : List Told} (word found cells : ℕ) → found ≡ 0
-    → log ≡ Saw (FreeWord word) found ∷ before → PassesFrom (word * 64) before (min (word * 64 + 64) cells) log
+pub passes_blank : {before log : List LogItem} (word found cells : ℕ) → found ≡ 0
+    → log ≡ Loaded (FreeWord word) found ∷ before → PassesFrom (word * 64) before (min (word * 64 + 64) cells) log
 passes_blank word found cells blank told = record {
-  looks = Saw (FreeWord word) found ∷ [];
+  looks = Loaded (FreeWord word) found ∷ [];
   above = told;
   only = refl;
   taken = λ d mortal low high. one_true (lacks_cell d (FreeWord word) found) false
@@ -333,8 +338,9 @@ skips {A} {start} {now} {word} {found} {cell} at there missing = record {
 -- the cell was tried, and another had it
 pub misses : {A : Type 0} {start now new : CounterSeen A} {word found cell : ℕ} → IsInWord start word found cell now
     → new.heap ≡ now.heap → Continues now.seat new.seat → Misses cell now.seat.log new.seat.log
-    → new.seat.slots ≡ now.seat.slots → IsKnown start.heap.cells new.seat.log (known_seen start.heap.cells now.seat.log)
-    → Keeps start.heap.cells now.seat.log new.seat.log
+    → new.seat.slots ≡ now.seat.slots
+    → KnowsPart start.heap.cells new.seat.log (known_seen start.heap.cells now.seat.log)
+    → KeepsNotes start.heap.cells now.seat.log new.seat.log
     → IsInWord start word found (cell + 1) new
 misses {A} {start} {now} {new} {word} {found} {cell} at heap seat missed slots knows keeps = record {
   seeks = goes_on at.seeks heap seat (record {
@@ -353,8 +359,9 @@ misses {A} {start} {now} {new} {word} {found} {cell} at heap seat missed slots k
 }
 
 -- or it is claimed
-pub claims : {A : Type 0} {start now : CounterSeen A} {log : List Told} {word found cell : ℕ}
-    → IsInWord start word found cell now → Takes cell now.seat.log log → ClaimsFrom (word * 64) cell start.seat.log log
+pub claims : {A : Type 0} {start now : CounterSeen A} {log : List LogItem} {word found cell : ℕ}
+    → IsInWord start word found cell now → ClaimsCell cell now.seat.log log
+    → ClaimsFrom (word * 64) cell start.seat.log log
 claims {A} {start} {now} at takes = record {
   mid = now.seat.log;
   number = takes.number;

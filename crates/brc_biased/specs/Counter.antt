@@ -4,7 +4,7 @@ use Rattle.brc_words.specs.declared.limits.TheConstants.{FIRST_MORTAL, IMMORTAL_
 use Rattle.brc_table.specs.law.world.Heap.{words_for}
 use Rattle.brc_table.specs.law.world.Lists.{bit_of}
 use Rattle.brc_table.specs.law.world.Steps.{is_active}
-use Rattle.brc_table.specs.law.rule.declared.told.Told.{Told}
+use Rattle.brc_table.specs.law.rule.declared.told.LogItem.{LogItem}
 use Rattle.brc_table.specs.law.rule.Seen.{part_seen, counts_seen}
 use Rattle.brc_table.specs.Seated.{TableSeen, SeatSeen}
 
@@ -19,7 +19,7 @@ heap_of seat cells limit = record { table = seat.table; cells = cells; local_lim
 
 -- The number kept for a mortal cell is the thread's local count of it, as its log tells it: 0 where it doesn't count
 -- there on the local word. The number kept for an immortal is above each limit, as its local word is.
-pub record CountsFit (n : ℕ) (log : List Told) (counts : List ℕ) : Type 0 where
+pub record CountsFit (n : ℕ) (log : List LogItem) (counts : List ℕ) : Type 0 where
   pub wide : length counts ≡ n
   pub immortal : (c : ℕ) → c < FIRST_MORTAL → c < n → slice_index counts c ≡ IMMORTAL_LOCAL
   pub mortal : (c : ℕ) → FIRST_MORTAL ≤ c → c < n → slice_index counts c ≡ counts_seen n log c

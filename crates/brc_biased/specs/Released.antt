@@ -14,8 +14,8 @@ use Rattle.brc_table.specs.law.known.declared.word.Word.TheVariants.{Of}
 use Rattle.brc_table.specs.law.known.Items.{cell_told, is_shut_word}
 use Rattle.brc_table.specs.law.known.Taken.{listed_at}
 use Rattle.brc_table.specs.law.rule.declared.told.Moved.TheVariants.{Nothing}
-use Rattle.brc_table.specs.law.rule.declared.told.Told.{Told}
-use Rattle.brc_table.specs.law.rule.declared.told.Told.TheVariants.{Did, Saw, Lost}
+use Rattle.brc_table.specs.law.rule.declared.told.LogItem.{LogItem}
+use Rattle.brc_table.specs.law.rule.declared.told.LogItem.TheVariants.{Stepped, Loaded, Lost}
 use Rattle.brc_table.specs.law.rule.Seen.{counts_seen, taken_seen}
 use Rattle.brc_table.specs.law.steps.Taking.{AreCells}
 use Rattle.brc_table.specs.Knowing.{entries_of}
@@ -29,104 +29,110 @@ NO_COUNT = 2 ^ 42
 module _ {A : Type 0} where
   -- the step is the newest, and took the object's block exactly where the number that it found says that the object is
   -- dead
-  pub record Ends (s : Step) (c : ℕ) (block : Option (ℕ × Payload A)) (before log : List Told) : Type 0 where
+  pub record EndsByStep (s : Step) (c : ℕ) (block : Option (ℕ × Payload A)) (before log : List LogItem) : Type 0 where
     pub number : ℕ
-    pub told : log ≡ Did s number (found_in c block) ∷ before
+    pub told : log ≡ Stepped s number (found_in c block) ∷ before
     pub dead : is_there block ≡ takes_block s (cell_told s number)
 
   -- What a block that is answered is: of the cell, none of the dead blocks that the thread had, with cells of the heap
   -- as entries; its slot is out with the seat.
-  pub record Answers (n c : ℕ) (block : Option (ℕ × Payload A)) (old new : SeatSeen A) : Type 0 where
+  pub record IsTakenBlock (n c : ℕ) (block : Option (ℕ × Payload A)) (old new : SeatSeen A) : Type 0 where
     pub of_cell : IfSome block (λ there. there.0 ≡ c)
     pub fresh : IfSome block (λ there. listed_at (taken_seen n old.log) c ≡ None)
     pub entries : AreCells n (entries_of block)
     pub out : new.slots ≡ out_with c block old.slots
 
   -- an own object whose count came to 0: nobody else has counted or asked, or the counts are merged
-  pub data EndedOwn (c : ℕ) (block : Option (ℕ × Payload A)) (before log : List Told) : Type 0 where
-    SeenZero : is_there block ≡ true → Ends (SeeZero c) c block before log → EndedOwn c block before log
+  pub data EndedOwn (c : ℕ) (block : Option (ℕ × Payload A)) (before log : List LogItem) : Type 0 where
+    SeenZero : is_there block ≡ true → EndsByStep (SeeZero c) c block before log → EndedOwn c block before log
     MergedAtZero : (seen : ℕ)
-        → Ends (MergeZero c) c block (Did (Untie c) 0 Nothing ∷ Did (SeeZero c) seen Nothing ∷ before) log
+        → EndsByStep (MergeZero c) c block (Stepped (Untie c) 0 Nothing ∷ Stepped (SeeZero c) seen Nothing ∷ before) log
         → EndedOwn c block before log
 
   -- a reference that was asked for, and is in the hand
-  pub data Asked (c : ℕ) (block : Option (ℕ × Payload A)) (before log : List Told) : Type 0 where
-    AskedNobodys : Ends (LastDown lasts.Hand) c block (Saw (Of Owner c) 0 ∷ before) log → Asked c block before log
+  pub data Asked (c : ℕ) (block : Option (ℕ × Payload A)) (before log : List LogItem) : Type 0 where
+    AskedNobodys : EndsByStep (LastDown lasts.Hand) c block (Loaded (Of Owner c) 0 ∷ before) log
+        → Asked c block before log
     AskedQueued : (owner queue notify : ℕ) → 0 < owner → is_shut_word queue ≡ false → block ≡ None
-        → log ≡ Did (Nudge owner (c / 32)) notify Nothing ∷ Did (Enqueue c) queue Nothing ∷ Saw
+        → log ≡ Stepped (Nudge owner (c / 32)) notify Nothing ∷ Stepped (Enqueue c) queue Nothing ∷ Loaded
         (Of Owner c) owner ∷ before
         → Asked c block before log
     AskedShut : (owner queue : ℕ) → 0 < owner → is_shut_word queue ≡ true
-        → Ends (LastDown lasts.Hand) c block (Did (Enqueue c) queue Nothing ∷ Saw (Of Owner c) owner ∷ before) log
+        → EndsByStep (LastDown lasts.Hand) c block
+        (Stepped (Enqueue c) queue Nothing ∷ Loaded (Of Owner c) owner ∷ before) log
         → Asked c block before log
 
   -- a reference that is asked for, or turns out to be late
-  pub data Asks (drop : Dropped) (c : ℕ) (block : Option (ℕ × Payload A)) (before log : List Told) : Type 0 where
-    AskedLate : (found : ℕ) → found % 4 ≢ 0 → Ends (LastDown (lasts.Dropped drop)) c block
-        (Did (Ask drop) found Nothing ∷ before) log
+  pub data Asks (drop : Dropped) (c : ℕ) (block : Option (ℕ × Payload A)) (before log : List LogItem) : Type 0 where
+    AskedLate : (found : ℕ) → found % 4 ≢ 0 → EndsByStep (LastDown (lasts.Dropped drop)) c block
+        (Stepped (Ask drop) found Nothing ∷ before) log
         → Asks drop c block before log
-    AskTurned : (found : ℕ) → found % 4 ≡ 0 → Asked c block (Did (Ask drop) found Nothing ∷ before) log
+    AskTurned : (found : ℕ) → found % 4 ≡ 0 → Asked c block (Stepped (Ask drop) found Nothing ∷ before) log
         → Asks drop c block before log
 
   -- A reference to an object on whose local word the thread doesn't count. Its shared word was found queued or merged;
   -- or it is in default and has a count, which goes down; or the thread asks, for one of two reasons: the count was 0
   -- or below, or the word moved between the look and the exchange.
-  pub data GoesShared (drop : Dropped) (c : ℕ) (block : Option (ℕ × Payload A)) (before log : List Told) : Type 0 where
-    SharedRisen : (word : ℕ) → word % 4 ≢ 0 → Ends (LastDown (lasts.Dropped drop)) c block
-        (Saw (Of Shared c) word ∷ before) log
+  pub data GoesShared (drop : Dropped) (c : ℕ) (block : Option (ℕ × Payload A))
+      (before log : List LogItem) : Type 0 where
+    SharedRisen : (word : ℕ) → word % 4 ≢ 0 → EndsByStep (LastDown (lasts.Dropped drop)) c block
+        (Loaded (Of Shared c) word ∷ before) log
         → GoesShared drop c block before log
     SharedCounted : (word : ℕ) → word % 4 ≡ 0 → block ≡ None
-        → log ≡ Did (SharedDown drop) word Nothing ∷ Saw (Of Shared c) word ∷ before
+        → log ≡ Stepped (SharedDown drop) word Nothing ∷ Loaded (Of Shared c) word ∷ before
         → GoesShared drop c block before log
     SharedNoCount : (word : ℕ) → word % 4 ≡ 0 → word < NO_COUNT + 4
-        → Asks drop c block (Saw (Of Shared c) word ∷ before) log
+        → Asks drop c block (Loaded (Of Shared c) word ∷ before) log
         → GoesShared drop c block before log
     SharedMoved : (word found : ℕ) → word % 4 ≡ 0 → NO_COUNT + 4 ≤ word → found ≢ word
-        → Asks drop c block (Lost (Of Shared c) found ∷ Saw (Of Shared c) word ∷ before) log
+        → Asks drop c block (Lost (Of Shared c) found ∷ Loaded (Of Shared c) word ∷ before) log
         → GoesShared drop c block before log
 
   -- a reference to an own object: its count goes down, and at 0 the object may end
   pub data GoesOwn (n : ℕ) (drop : Dropped) (c : ℕ) (block : Option (ℕ × Payload A))
-      (before log : List Told) : Type 0 where
+      (before log : List LogItem) : Type 0 where
     OwnCounted : 1 < counts_seen n before c → block ≡ None
-        → log ≡ Did (LocalDown drop) (counts_seen n before c - 1) Nothing ∷ before
+        → log ≡ Stepped (LocalDown drop) (counts_seen n before c - 1) Nothing ∷ before
         → GoesOwn n drop c block before log
-    OwnEnded : counts_seen n before c ≡ 1 → EndedOwn c block (Did (LocalDown drop) 0 Nothing ∷ before) log
+    OwnEnded : counts_seen n before c ≡ 1 → EndedOwn c block (Stepped (LocalDown drop) 0 Nothing ∷ before) log
         → GoesOwn n drop c block before log
 
   -- All lists of a release: of an immortal; of an own object; and, where the thread doesn't count the object on its
   -- local word, of one that was seen queued or merged, or by a look at its shared word.
   pub data Released (n : ℕ) (drop : Dropped) (c : ℕ) (seen : Bool) (block : Option (ℕ × Payload A))
-      (before log : List Told) : Type 0 where
-    ReleaseImmortal : (found : ℕ) → c < FIRST_MORTAL → block ≡ None → log ≡ Did (LocalDown drop) found Nothing ∷ before
+      (before log : List LogItem) : Type 0 where
+    ReleaseImmortal : (found : ℕ) → c < FIRST_MORTAL → block ≡ None
+        → log ≡ Stepped (LocalDown drop) found Nothing ∷ before
         → Released n drop c seen block before log
     ReleaseOwn : FIRST_MORTAL ≤ c → 0 < counts_seen n before c → GoesOwn n drop c block before log
         → Released n drop c seen block before log
     ReleaseSeen : FIRST_MORTAL ≤ c → counts_seen n before c ≡ 0 → seen ≡ true
-        → Ends (LastDown (lasts.Dropped drop)) c block before log
+        → EndsByStep (LastDown (lasts.Dropped drop)) c block before log
         → Released n drop c seen block before log
     ReleaseShared : FIRST_MORTAL ≤ c → counts_seen n before c ≡ 0 → seen ≡ false → GoesShared drop c block before log
         → Released n drop c seen block before log
 
   -- a popped entry of an object that isn't merged: the thread merges, and counts the entry's reference down
-  pub record Merges (c : ℕ) (block : Option (ℕ × Payload A)) (before log : List Told) : Type 0 where
+  pub record MergesPopped (c : ℕ) (block : Option (ℕ × Payload A)) (before log : List LogItem) : Type 0 where
     pub local : ℕ
     pub shared : ℕ
-    pub ends : Ends (LastDown (lasts.Popped c)) c block (Did (MergeAdd c) shared Nothing ∷ Saw (Of Local c) local ∷ Did
+    pub ends : EndsByStep (LastDown (lasts.Popped c)) c block
+        (Stepped (MergeAdd c) shared Nothing ∷ Loaded (Of Local c) local ∷ Stepped
         (Untie c) 0 Nothing ∷ before) log
 
   -- An own object is handed over: it is offered, made nobody's, and its local count joins the shared one, by which it
   -- may end.
-  pub record HandsOver (c : ℕ) (block : Option (ℕ × Payload A)) (before log : List Told) : Type 0 where
+  pub record HandsOver (c : ℕ) (block : Option (ℕ × Payload A)) (before log : List LogItem) : Type 0 where
     pub offered : ℕ
     pub local : ℕ
-    pub ends : Ends (MergeAdd c) c block (Saw (Of Local c) local ∷ Did (Untie c) 0 Nothing ∷ Did (Offer c) offered
+    pub ends : EndsByStep (MergeAdd c) c block
+        (Loaded (Of Local c) local ∷ Stepped (Untie c) 0 Nothing ∷ Stepped (Offer c) offered
         Nothing ∷ before) log
 
   -- a popped entry is counted down, after its object was found merged or is merged by the thread
-  pub data Settled (c : ℕ) (block : Option (ℕ × Payload A)) (before log : List Told) : Type 0 where
+  pub data Settled (c : ℕ) (block : Option (ℕ × Payload A)) (before log : List LogItem) : Type 0 where
     SettledMerged : (word : ℕ) → word % 4 ≡ 3
-        → Ends (LastDown (lasts.Popped c)) c block (Saw (Of Shared c) word ∷ before) log
+        → EndsByStep (LastDown (lasts.Popped c)) c block (Loaded (Of Shared c) word ∷ before) log
         → Settled c block before log
-    SettledMerging : (word : ℕ) → word % 4 ≢ 3 → Merges c block (Saw (Of Shared c) word ∷ before) log
+    SettledMerging : (word : ℕ) → word % 4 ≢ 3 → MergesPopped c block (Loaded (Of Shared c) word ∷ before) log
         → Settled c block before log

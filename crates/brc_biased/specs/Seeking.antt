@@ -10,8 +10,8 @@ use Rattle.brc_table.specs.law.world.declared.event.Step.TheVariants.{Claim}
 use Rattle.brc_table.specs.law.known.declared.word.Word.{Word}
 use Rattle.brc_table.specs.law.known.declared.word.Word.TheVariants.{FreeWord}
 use Rattle.brc_table.specs.law.rule.declared.told.Moved.TheVariants.{Nothing}
-use Rattle.brc_table.specs.law.rule.declared.told.Told.{Told}
-use Rattle.brc_table.specs.law.rule.declared.told.Told.TheVariants.{Did, Saw, Lost}
+use Rattle.brc_table.specs.law.rule.declared.told.LogItem.{LogItem}
+use Rattle.brc_table.specs.law.rule.declared.told.LogItem.TheVariants.{Stepped, Loaded, Lost}
 
 -- the cell's free word, with the cell's bit 0
 abbrev pub lacks_cell : ℕ → Word → ℕ → Bool
@@ -19,52 +19,52 @@ lacks_cell c (FreeWord k) number = (k == c / 64) && (bit_at number (c % 64) == 0
 lacks_cell c _ number = false
 
 -- a note that the cell wasn't free: its free word was looked at, or it was tried, and its bit was 0
-abbrev pub tells_taken : ℕ → Told → Bool
-tells_taken c (Saw word number) = lacks_cell c word number
+abbrev pub tells_taken : ℕ → LogItem → Bool
+tells_taken c (Loaded word number) = lacks_cell c word number
 tells_taken c (Lost word number) = lacks_cell c word number
-tells_taken c (Did s number moved) = false
+tells_taken c (Stepped s number moved) = false
 
 abbrev pub is_free_word : Word → Bool
 is_free_word (FreeWord k) = true
 is_free_word _ = false
 
 -- a note of a free word
-abbrev pub is_free_look : Told → Bool
-is_free_look (Saw word number) = is_free_word word
+abbrev pub is_free_look : LogItem → Bool
+is_free_look (Loaded word number) = is_free_word word
 is_free_look (Lost word number) = is_free_word word
-is_free_look (Did s number moved) = false
+is_free_look (Stepped s number moved) = false
 
-abbrev pub are_free_looks : List Told → Bool
+abbrev pub are_free_looks : List LogItem → Bool
 are_free_looks [] = true
 are_free_looks (x ∷ looks) = is_free_look x && are_free_looks looks
 
 -- one of the notes tells that the cell wasn't free
-abbrev pub have_told_taken : ℕ → List Told → Bool
+abbrev pub have_told_taken : ℕ → List LogItem → Bool
 have_told_taken c [] = false
 have_told_taken c (x ∷ looks) = tells_taken c x || have_told_taken c looks
 
 -- The thread has only looked at free words since, and of each mortal cell from the first on, up to but not with this
 -- one, it has a note that it wasn't free.
-pub record PassesFrom (first : ℕ) (before : List Told) (c : ℕ) (log : List Told) : Type 0 where
-  pub looks : List Told
+pub record PassesFrom (first : ℕ) (before : List LogItem) (c : ℕ) (log : List LogItem) : Type 0 where
+  pub looks : List LogItem
   pub above : log ≡ looks ++ before
   pub only : are_free_looks looks ≡ true
   pub taken : (d : ℕ) → FIRST_MORTAL ≤ d → first ≤ d → d < c → have_told_taken d looks ≡ true
 
 -- of each mortal cell below this one
-abbrev pub PassesOver : List Told → ℕ → List Told → Type 0
+abbrev pub PassesOver : List LogItem → ℕ → List LogItem → Type 0
 PassesOver = PassesFrom FIRST_MORTAL
 
 -- the cell's bit was there, and so the cell is claimed; those from the first on were passed over
-pub record ClaimsFrom (first c : ℕ) (before log : List Told) : Type 0 where
-  pub mid : List Told
+pub record ClaimsFrom (first c : ℕ) (before log : List LogItem) : Type 0 where
+  pub mid : List LogItem
   pub number : ℕ
   pub passed : PassesFrom first before c mid
-  pub told : log ≡ Did (Claim c) number Nothing ∷ mid
+  pub told : log ≡ Stepped (Claim c) number Nothing ∷ mid
   pub was_free : bit_at number (c % 64) ≡ 1
 
 -- the cell is the first that was to be had
-abbrev pub ClaimsFirst : ℕ → List Told → List Told → Type 0
+abbrev pub ClaimsFirst : ℕ → List LogItem → List LogItem → Type 0
 ClaimsFirst = ClaimsFrom FIRST_MORTAL
 
 -- Cell d is one to which a search from cell s on comes before cell c, in a heap of n cells: where c stands at s or past
@@ -74,28 +74,28 @@ IsBetween n s d c = ((s ≤ d) × (d < c)) ⊎ ((c < s) × (((s ≤ d) × (d < n
 
 -- The thread has only looked at free words since, and of each mortal cell to which a search from this word on comes
 -- before cell c it has a note that it wasn't free.
-pub record PassesAround (n start c : ℕ) (before log : List Told) : Type 0 where
-  pub looks : List Told
+pub record PassesAround (n start c : ℕ) (before log : List LogItem) : Type 0 where
+  pub looks : List LogItem
   pub above : log ≡ looks ++ before
   pub only : are_free_looks looks ≡ true
   pub taken : (d : ℕ) → FIRST_MORTAL ≤ d → IsBetween n (start * 64) d c → have_told_taken d looks ≡ true
 
 -- the cell's bit was there, and so the cell is claimed; those before it, from this word on, were passed over
-pub record ClaimsAround (n start c : ℕ) (before log : List Told) : Type 0 where
-  pub mid : List Told
+pub record ClaimsAround (n start c : ℕ) (before log : List LogItem) : Type 0 where
+  pub mid : List LogItem
   pub number : ℕ
   pub passed : PassesAround n start c before mid
-  pub told : log ≡ Did (Claim c) number Nothing ∷ mid
+  pub told : log ≡ Stepped (Claim c) number Nothing ∷ mid
   pub was_free : bit_at number (c % 64) ≡ 1
 
 -- one try: the cell is claimed
-pub record Takes (c : ℕ) (before log : List Told) : Type 0 where
+pub record ClaimsCell (c : ℕ) (before log : List LogItem) : Type 0 where
   pub number : ℕ
-  pub told : log ≡ Did (Claim c) number Nothing ∷ before
+  pub told : log ≡ Stepped (Claim c) number Nothing ∷ before
   pub was_free : bit_at number (c % 64) ≡ 1
 
 -- or its bit was taken before
-pub record Misses (c : ℕ) (before log : List Told) : Type 0 where
+pub record Misses (c : ℕ) (before log : List LogItem) : Type 0 where
   pub number : ℕ
   pub told : log ≡ Lost (FreeWord (c / 64)) number ∷ before
   pub taken : bit_at number (c % 64) ≡ 0

@@ -10,7 +10,7 @@ use Rattle.brc_table.specs.law.world.Lists.{place_at, is_marked, front_of}
 use Rattle.brc_table.specs.law.known.Going_On.{Known, handing, giving_up, taking}
 use Rattle.brc_table.specs.law.known.Risen.{drop_in}
 use Rattle.brc_table.specs.law.known.Taken.{Blocks, listed_at}
-use Rattle.brc_table.specs.law.rule.declared.told.Told.{Told}
+use Rattle.brc_table.specs.law.rule.declared.told.LogItem.{LogItem}
 use Rattle.brc_table.specs.law.rule.Seen.{part_seen, counts_seen, risen_seen, taken_seen}
 
 -- a thread that is closing only closes; before that and after it references may go
@@ -21,7 +21,7 @@ may_give_up stages.Left = true
 may_give_up (stages.Opening words) = false
 
 -- references may go: the thread isn't closing, and has nothing locked; and this is in its hand
-pub record Stands (n : ℕ) (log : List Told) (hand : Hand) : Type 0 where
+pub record MayCountDown (n : ℕ) (log : List LogItem) (hand : Hand) : Type 0 where
   pub stage : may_give_up (part_seen n log).row.stage ≡ true
   pub lock : (part_seen n log).row.locked ≡ None
   pub hand_is : (part_seen n log).row.hand ≡ hand
@@ -32,17 +32,17 @@ is_listed (drops.Frame k) blocks = true
 is_listed (drops.Work d) blocks = is_some (listed_at blocks d)
 
 -- the thread may give up this reference to the cell
-pub record Holds (n : ℕ) (log : List Told) (drop : Dropped) (c : ℕ) : Type 0 where
-  pub stands : Stands n log hands.Free
+pub record MayDrop (n : ℕ) (log : List LogItem) (drop : Dropped) (c : ℕ) : Type 0 where
+  pub stands : MayCountDown n log hands.Free
   pub cell : drop_in (part_seen n log) drop ≡ Some c
   pub listed : is_listed drop (taken_seen n log) ≡ true
 
 -- what the thread counts on its own stays as it was
-abbrev pub SameCounts : ℕ → List Told → List Told → Type 0
+abbrev pub SameCounts : ℕ → List LogItem → List LogItem → Type 0
 SameCounts n before log = (c : ℕ) → counts_seen n log c ≡ counts_seen n before c
 
 -- no place of the frame is filled, and what was seen risen in a place is seen so while the place has it
-pub record KeepsPlaces (n : ℕ) (before log : List Told) : Type 0 where
+pub record FillsNoPlace (n : ℕ) (before log : List LogItem) : Type 0 where
   pub places : (k c : ℕ) → place_at (part_seen n log).frame k ≡ Some c → place_at (part_seen n before).frame k ≡ Some c
   pub risen : (k c : ℕ) → place_at (part_seen n log).frame k ≡ Some c → risen_seen n before (drops.Frame k) c ≡ true
       → risen_seen n log (drops.Frame k) c ≡ true
@@ -56,7 +56,7 @@ abbrev pub released : Bool → Dropped → ℕ → List ℕ → Known → Known
 released takes drop c entries old = taking takes c entries (giving_up (Some drop) old)
 
 -- the cell's block is one of the thread's, to be taken apart, and has these entries
-pub record HasDead (n : ℕ) (log : List Told) (c : ℕ) (entries : List ℕ) : Type 0 where
+pub record HasDead (n : ℕ) (log : List LogItem) (c : ℕ) (entries : List ℕ) : Type 0 where
   pub marked : is_marked (part_seen n log).worklist c ≡ true
   pub has : (part_seen n log).has c ≡ entries
 

@@ -6,35 +6,35 @@ use Rattle.brc_table.specs.law.known.Items.{meant}
 use Rattle.brc_table.specs.law.known.Going_On.{Known}
 use Rattle.brc_table.specs.law.known.Locked.{locked_of}
 use Rattle.brc_table.specs.law.rule.declared.told.Moved.TheVariants.{Nothing}
-use Rattle.brc_table.specs.law.rule.declared.told.Told.{Told}
-use Rattle.brc_table.specs.law.rule.declared.told.Told.TheVariants.{Did}
+use Rattle.brc_table.specs.law.rule.declared.told.LogItem.{LogItem}
+use Rattle.brc_table.specs.law.rule.declared.told.LogItem.TheVariants.{Stepped}
 use Rattle.brc_table.specs.law.rule.Logs.{log_items}
 use Rattle.brc_table.specs.law.rule.Seen.{part_seen, counts_seen, taken_seen, own_may}
 
 -- the thread's own part allows that the place gets a reference to the source's cell
-pub record Raising (n : ℕ) (log : List Told) (source : Source) (k c : ℕ) : Type 0 where
+pub record Raising (n : ℕ) (log : List LogItem) (source : Source) (k c : ℕ) : Type 0 where
   pub own : own_may n (part_seen n log) (LocalUp source k) ≡ true
   pub cell : meant (part_seen n log) (LocalUp source k) ≡ Some c
 
 -- the thread counts the cell on its local word, and may go on
-pub record CountsHere (n limit : ℕ) (log : List Told) (c : ℕ) : Type 0 where
+pub record CountsHere (n limit : ℕ) (log : List LogItem) (c : ℕ) : Type 0 where
   pub some_count : 0 < counts_seen n log c
   pub below : counts_seen n log c < limit
 
 -- the log has one step more, on a local word, which was told some number
-pub record RaisedImmortal (source : Source) (k : ℕ) (before log : List Told) : Type 0 where
+pub record RaisedImmortal (source : Source) (k : ℕ) (before log : List LogItem) : Type 0 where
   pub found : ℕ
-  pub told : log ≡ Did (LocalUp source k) found Nothing ∷ before
+  pub told : log ≡ Stepped (LocalUp source k) found Nothing ∷ before
 
 -- the log has one step more, on a shared word; risen says that it found another state than default
-pub record RaisedShared (source : Source) (k : ℕ) (before log : List Told) (risen : Bool) : Type 0 where
+pub record RaisedShared (source : Source) (k : ℕ) (before log : List LogItem) (risen : Bool) : Type 0 where
   pub found : ℕ
-  pub told : log ≡ Did (SharedUp source k) found Nothing ∷ before
+  pub told : log ≡ Stepped (SharedUp source k) found Nothing ∷ before
   pub says : risen ≡ not (found % 4 == 0)
 
 -- what a log tells its thread besides the counts, which are the counter's own matter: its part of the world, the dead
 -- blocks that it has, and what it has locked
-pub record IsKnown (n : ℕ) (log : List Told) (now : Known) : Type 0 where
+pub record KnowsPart (n : ℕ) (log : List LogItem) (now : Known) : Type 0 where
   pub part : part_seen n log ≡ now.part
   pub blocks : taken_seen n log ≡ now.blocks
   pub lock : locked_of (log_items log) ≡ now.lock

@@ -8,9 +8,9 @@ ghost use Rattle.brc_table.specs.law.rule.Seen.{counts_seen};
 ghost use Rattle.brc_table.specs.Knowing.{known_seen, entries_of};
 ghost use Rattle.brc_table.specs.Moving.{is_there};
 ghost use Rattle.brc_table.specs.Seated.{Continues};
-ghost use Rattle.brc_biased.specs.Released.{Answers, Asked};
-ghost use Rattle.brc_biased.specs.Standing.{Stands, SameCounts, KeepsPlaces, ending};
-ghost use Rattle.brc_biased.specs.Up.{IsKnown};
+ghost use Rattle.brc_biased.specs.Released.{IsTakenBlock, Asked};
+ghost use Rattle.brc_biased.specs.Standing.{MayCountDown, SameCounts, FillsNoPlace, ending};
+ghost use Rattle.brc_biased.specs.Up.{KnowsPart};
 
 use brc_table::block::Block;
 use brc_table::{Found, HeapTable, ThreadSeat};
@@ -25,15 +25,15 @@ pub(crate) fn hand_over<A: Allocator>(
 ) -> Option<Block<A>>
     requires table { seat.old.table ≡ table.now.table }
     requires inside { cell < table.now.cells }
-    requires stands { Stands table.now.cells seat.old.log (hands.Busy phases.Asked cell) }
+    requires stands { MayCountDown table.now.cells seat.old.log (hands.Busy phases.Asked cell) }
     requires counted { counts_seen table.now.cells seat.old.log cell ≡ 0 }
     ensures told { Asked cell result seat.old.log seat.new.log }
-    ensures block { Answers table.now.cells cell result seat.old seat.new }
+    ensures block { IsTakenBlock table.now.cells cell result seat.old seat.new }
     ensures seat { Continues seat.old seat.new }
-    ensures knows { IsKnown table.now.cells seat.new.log
+    ensures knows { KnowsPart table.now.cells seat.new.log
         (ending (is_there result) cell (entries_of result) (known_seen table.now.cells seat.old.log)) }
     ensures counts { SameCounts table.now.cells seat.old.log seat.new.log }
-    ensures keeps { KeepsPlaces table.now.cells seat.old.log seat.new.log }
+    ensures keeps { FillsNoPlace table.now.cells seat.old.log seat.new.log }
 {
     let owner = table.load_owner(seat, cell);
     if owner == 0 {

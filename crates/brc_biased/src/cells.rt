@@ -10,26 +10,26 @@ ghost use Rattle.brc_table.specs.law.world.declared.row.Phase.TheVariants as pha
 ghost use Rattle.brc_table.specs.law.world.Steps.{is_active, is_vacant};
 ghost use Rattle.brc_table.specs.law.known.Going_On.{filling, bearing, giving_back};
 ghost use Rattle.brc_table.specs.law.rule.declared.told.Moved.TheVariants as moves;
-ghost use Rattle.brc_table.specs.law.rule.declared.told.Told.TheVariants as told;
+ghost use Rattle.brc_table.specs.law.rule.declared.told.LogItem.TheVariants as told;
 ghost use Rattle.brc_table.specs.law.rule.Logs.{kind_in, entries_in};
 ghost use Rattle.brc_table.specs.law.rule.Seen.{part_seen, risen_seen};
 ghost use Rattle.brc_table.specs.law.world.declared.event.Dropped.TheVariants as drops;
 ghost use Rattle.brc_table.specs.law.world.Lists.{place_at};
-ghost use Rattle.brc_table.specs.law.steps.Owing.{Carries};
-ghost use Rattle.brc_table.specs.Knowing.{known_seen, Keeps};
+ghost use Rattle.brc_table.specs.law.steps.Owing.{MayCarry};
+ghost use Rattle.brc_table.specs.Knowing.{known_seen, KeepsNotes};
 ghost use Rattle.brc_table.specs.Seated.{Continues};
 ghost use Rattle.brc_table.specs.Shown.{contents_of};
-ghost use Rattle.brc_biased.specs.Standing.{Stands};
-ghost use Rattle.brc_biased.specs.Up.{IsKnown};
+ghost use Rattle.brc_biased.specs.Standing.{MayCountDown};
+ghost use Rattle.brc_biased.specs.Up.{KnowsPart};
 
 use crate::counter::Counter;
-use crate::home::Home;
+use crate::home::HasTable;
 use crate::owned::{clear_owned, mark_owned};
 use brc_table::block::Block;
 use brc_words::Kind;
 use std::alloc::Allocator;
 
-impl<H: Home<A>, A: Allocator> Counter<H, A> {
+impl<H: HasTable<A>, A: Allocator> Counter<H, A> {
     #[tactic(auto, using(crate::proofs::Owning::owns_born))]
     /// An object is born in the cell that the thread has claimed: its words are set, its block is put home, and the
     /// place of the frame has the first reference, which the thread counts on its own.
@@ -37,7 +37,7 @@ impl<H: Home<A>, A: Allocator> Counter<H, A> {
     pub fn bear(&mut self, block: Block<A>, kind: Kind, place: u32)
         requires inside { block.0 < self.old.heap.cells }
         requires mortal { FIRST_MORTAL ≤ block.0 }
-        requires stands { Stands self.old.heap.cells self.old.seat.log (hands.Busy phases.Claimed block.0) }
+        requires stands { MayCountDown self.old.heap.cells self.old.seat.log (hands.Busy phases.Claimed block.0) }
         requires active { is_active (part_seen self.old.heap.cells self.old.seat.log).row.stage ≡ true }
         requires vacant { is_vacant (part_seen self.old.heap.cells self.old.seat.log).frame place ≡ true }
         requires slot { self.old.seat.slots ≡ (block.0, None) ∷ rest self.old.seat.slots }
@@ -48,11 +48,11 @@ impl<H: Home<A>, A: Allocator> Counter<H, A> {
         ensures heap { self.new.heap ≡ self.old.heap }
         ensures seat { Continues self.old.seat self.new.seat }
         ensures told { self.new.seat.log ≡
-            told.Did (steps.Birth block.0 kind place) self.old.seat.thread (moves.Put block.0 (contents_of block.1))
-            ∷ told.Did (steps.InitShared block.0) (2 ^ 42) moves.Nothing
-            ∷ told.Did (steps.InitLocal block.0) 1 moves.Nothing ∷ self.old.seat.log }
+            told.Stepped (steps.Birth block.0 kind place) self.old.seat.thread (moves.Put block.0 (contents_of block.1))
+            ∷ told.Stepped (steps.InitShared block.0) (2 ^ 42) moves.Nothing
+            ∷ told.Stepped (steps.InitLocal block.0) 1 moves.Nothing ∷ self.old.seat.log }
         ensures home { self.new.seat.slots ≡ rest self.old.seat.slots }
-        ensures knows { IsKnown self.old.heap.cells self.new.seat.log
+        ensures knows { KnowsPart self.old.heap.cells self.new.seat.log
             (filling place block.0 (bearing block.0 (known_seen self.old.heap.cells self.old.seat.log))) }
         ensures risen { (k c : ℕ) → place_at (part_seen self.old.heap.cells self.old.seat.log).frame k ≡ Some c →
             risen_seen self.old.heap.cells self.old.seat.log (drops.Frame k) c ≡ true →
@@ -74,15 +74,15 @@ impl<H: Home<A>, A: Allocator> Counter<H, A> {
     pub fn free(&mut self, cell: u32) -> u64
         requires inside { cell < self.old.heap.cells }
         requires slot { self.old.seat.slots ≡ (cell, None) ∷ rest self.old.seat.slots }
-        requires carries { Carries self.old.heap.cells self.old.seat.log (steps.Free cell) cell }
+        requires carries { MayCarry self.old.heap.cells self.old.seat.log (steps.Free cell) cell }
         ensures heap { self.new.heap ≡ self.old.heap }
         ensures seat { Continues self.old.seat self.new.seat }
         ensures told { self.new.seat.log ≡
-            told.Did (steps.Free cell) result moves.Nothing ∷ self.old.seat.log }
+            told.Stepped (steps.Free cell) result moves.Nothing ∷ self.old.seat.log }
         ensures home { self.new.seat.slots ≡ rest self.old.seat.slots }
-        ensures knows { IsKnown self.old.heap.cells self.new.seat.log
+        ensures knows { KnowsPart self.old.heap.cells self.new.seat.log
             (giving_back cell (known_seen self.old.heap.cells self.old.seat.log)) }
-        ensures keeps { Keeps self.old.heap.cells self.old.seat.log self.new.seat.log }
+        ensures keeps { KeepsNotes self.old.heap.cells self.old.seat.log self.new.seat.log }
         ensures few { (part_seen self.old.heap.cells self.new.seat.log).row.frees < 2 ^ 64 }
     {
         if self.counts[cell as usize] == 0 {

@@ -10,37 +10,37 @@ ghost use Rattle.brc_table.specs.law.world.Heap.{words_for};
 ghost use Rattle.brc_table.specs.law.world.declared.event.Step.TheVariants as steps;
 ghost use Rattle.brc_table.specs.law.known.Going_On.{popping, closing, reopening, taking};
 ghost use Rattle.brc_table.specs.law.rule.declared.told.Moved.TheVariants as moves;
-ghost use Rattle.brc_table.specs.law.rule.declared.told.Told.TheVariants as told;
-ghost use Rattle.brc_table.specs.law.steps.Owing.{Allowed, Closes};
+ghost use Rattle.brc_table.specs.law.rule.declared.told.LogItem.TheVariants as told;
+ghost use Rattle.brc_table.specs.law.steps.Owing.{MayStep, MayClose};
 ghost use Rattle.brc_table.specs.law.steps.Taking.{AreQueued};
-ghost use Rattle.brc_table.specs.Knowing.{known_seen, entries_of, Keeps};
+ghost use Rattle.brc_table.specs.Knowing.{known_seen, entries_of, KeepsNotes};
 ghost use Rattle.brc_table.specs.Moving.{is_there};
-ghost use Rattle.brc_table.specs.Seated.{Stays, Continues};
+ghost use Rattle.brc_table.specs.Seated.{IsSameSeat, Continues};
 ghost use Rattle.brc_table.specs.Shown.{contents_of};
-ghost use Rattle.brc_biased.specs.Released.{Answers, HandsOver};
-ghost use Rattle.brc_biased.specs.Standing.{HasDead, Stands, KeepsPlaces};
-ghost use Rattle.brc_biased.specs.Up.{IsKnown};
+ghost use Rattle.brc_biased.specs.Released.{IsTakenBlock, HandsOver};
+ghost use Rattle.brc_biased.specs.Standing.{HasDead, MayCountDown, FillsNoPlace};
+ghost use Rattle.brc_biased.specs.Up.{KnowsPart};
 
 use crate::counter::Counter;
-use crate::home::Home;
+use crate::home::HasTable;
 use crate::owned::clear_owned;
 use brc_table::Found;
 use brc_table::block::Block;
 use std::alloc::Allocator;
 
-impl<H: Home<A>, A: Allocator> Counter<H, A> {
+impl<H: HasTable<A>, A: Allocator> Counter<H, A> {
     /// Closes the next of the thread's queue words, and takes its bits, each a cell of the heap. The thread counts
     /// nothing any more: it has handed over what it owned.
     pub fn close(&mut self, word: u32) -> u64
         requires inside { word < words_for self.old.heap.cells }
-        requires closes { Closes self.old.heap.cells self.old.seat.log word }
+        requires closes { MayClose self.old.heap.cells self.old.seat.log word }
         ensures heap { self.new.heap ≡ self.old.heap }
-        ensures seat { Stays self.old.seat self.new.seat }
-        ensures told { self.new.seat.log ≡ told.Did (steps.Close word) result moves.Nothing ∷ self.old.seat.log }
-        ensures knows { IsKnown self.old.heap.cells self.new.seat.log
+        ensures seat { IsSameSeat self.old.seat self.new.seat }
+        ensures told { self.new.seat.log ≡ told.Stepped (steps.Close word) result moves.Nothing ∷ self.old.seat.log }
+        ensures knows { KnowsPart self.old.heap.cells self.new.seat.log
             (closing self.old.heap.cells word
             (popping word result (known_seen self.old.heap.cells self.old.seat.log))) }
-        ensures keeps { Keeps self.old.heap.cells self.old.seat.log self.new.seat.log }
+        ensures keeps { KeepsNotes self.old.heap.cells self.old.seat.log self.new.seat.log }
         ensures cells { AreQueued self.old.heap.cells word result }
     {
         self.heap.table().close(&mut self.seat, word)
@@ -49,13 +49,13 @@ impl<H: Home<A>, A: Allocator> Counter<H, A> {
     /// Opens one of the thread's queue words again, by the first steps of a thread whose number was used before.
     pub fn open(&mut self, word: u32)
         requires inside { word < words_for self.old.heap.cells }
-        requires allowed { Allowed self.old.heap.cells self.old.seat.log (steps.Reopen word) }
+        requires allowed { MayStep self.old.heap.cells self.old.seat.log (steps.Reopen word) }
         ensures heap { self.new.heap ≡ self.old.heap }
-        ensures seat { Stays self.old.seat self.new.seat }
-        ensures told { self.new.seat.log ≡ told.Did (steps.Reopen word) 0 moves.Nothing ∷ self.old.seat.log }
-        ensures knows { IsKnown self.old.heap.cells self.new.seat.log
+        ensures seat { IsSameSeat self.old.seat self.new.seat }
+        ensures told { self.new.seat.log ≡ told.Stepped (steps.Reopen word) 0 moves.Nothing ∷ self.old.seat.log }
+        ensures knows { KnowsPart self.old.heap.cells self.new.seat.log
             (reopening self.old.heap.cells word (known_seen self.old.heap.cells self.old.seat.log)) }
-        ensures keeps { Keeps self.old.heap.cells self.old.seat.log self.new.seat.log }
+        ensures keeps { KeepsNotes self.old.heap.cells self.old.seat.log self.new.seat.log }
     {
         self.heap.table().open_word(&mut self.seat, word);
     }
@@ -66,21 +66,21 @@ impl<H: Home<A>, A: Allocator> Counter<H, A> {
         requires inside { cell < self.old.heap.cells }
         requires mortal { FIRST_MORTAL ≤ cell }
         requires counted { 0 < counts_seen self.old.heap.cells self.old.seat.log cell }
-        requires stands { Stands self.old.heap.cells self.old.seat.log hands.Free }
+        requires stands { MayCountDown self.old.heap.cells self.old.seat.log hands.Free }
         requires active { is_active (part_seen self.old.heap.cells self.old.seat.log).row.stage ≡ true }
 
         ensures heap { self.new.heap ≡ self.old.heap }
         ensures seat { Continues self.old.seat self.new.seat }
         ensures told { HandsOver cell result self.old.seat.log self.new.seat.log }
-        ensures block { Answers self.old.heap.cells cell result self.old.seat self.new.seat }
+        ensures block { IsTakenBlock self.old.heap.cells cell result self.old.seat self.new.seat }
         ensures dead { IfSome result (λ there.
             HasDead self.old.heap.cells self.new.seat.log cell (entries_in (contents_of there.1))) }
-        ensures knows { IsKnown self.old.heap.cells self.new.seat.log
+        ensures knows { KnowsPart self.old.heap.cells self.new.seat.log
             (taking (is_there result) cell (entries_of result) (known_seen self.old.heap.cells self.old.seat.log)) }
         ensures counts { (c : ℕ) → counts_seen self.old.heap.cells self.new.seat.log c ≡
             (if c == cell then 0 else counts_seen self.old.heap.cells self.old.seat.log c) }
-        ensures stands { Stands self.old.heap.cells self.new.seat.log hands.Free }
-        ensures keeps { KeepsPlaces self.old.heap.cells self.old.seat.log self.new.seat.log }
+        ensures stands { MayCountDown self.old.heap.cells self.new.seat.log hands.Free }
+        ensures keeps { FillsNoPlace self.old.heap.cells self.old.seat.log self.new.seat.log }
     {
         // From the offer on the object is queued: others count down on its shared word alone, and end it only once it
         // is merged. Whoever asked for it before may still put the reference into this thread's queue. Then the close

@@ -6,21 +6,21 @@ ghost use Rattle.brc_table.specs.law.world.Heap.{words_for};
 ghost use Rattle.brc_table.specs.law.rule.Seen.{counts_seen};
 ghost use Rattle.brc_biased.specs.Counter.{first_count};
 
-use crate::home::Home;
+use crate::home::HasTable;
 use brc_table::ThreadSeat;
 use brc_words::{FIRST_MORTAL, IMMORTAL_LOCAL};
 use std::alloc::{AllocError, Allocator};
 use std::marker::Model;
 
 /// One thread's seat, with the local counts of its own objects, and a bit for each of these.
-pub struct Counter<H: Home<A>, A: Allocator> {
+pub struct Counter<H: HasTable<A>, A: Allocator> {
     pub(crate) heap: H,
     pub(crate) seat: ThreadSeat<A>,
     pub(crate) counts: Vec<u32, A>,
     pub(crate) owned: Vec<u64, A>,
 }
 
-impl<H: Home<A>, A: Allocator> Model for Counter<H, A> {
+impl<H: HasTable<A>, A: Allocator> Model for Counter<H, A> {
     ghost use Rattle.brc_biased.specs.Counter.{CounterSeen, Counting};
 
     ghost Value = { CounterSeen A };
@@ -43,7 +43,7 @@ pub fn first_counts<A: Allocator>(alloc: A, cells: u32) -> Result<Vec<u32, A>, A
     Ok(counts)
 }
 
-impl<H: Home<A>, A: Allocator> Counter<H, A> {
+impl<H: HasTable<A>, A: Allocator> Counter<H, A> {
     #[tactic(auto, using(crate::proofs::Owning::owns_none))]
     /// A counter of a thread that counts nothing yet, with its counts as `first_counts` makes them, and its bits as
     /// `no_bits` does.

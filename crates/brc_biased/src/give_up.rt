@@ -9,12 +9,12 @@ ghost use Rattle.brc_table.specs.Moving.{is_there};
 ghost use Rattle.brc_table.specs.Seated.{Continues};
 ghost use Rattle.brc_table.specs.Shown.{contents_of};
 ghost use Rattle.brc_biased.specs.Bounded.{IsBounded};
-ghost use Rattle.brc_biased.specs.Released.{Answers, Released};
-ghost use Rattle.brc_biased.specs.Standing.{HasDead, Holds, KeepsPlaces, Stands, entries_left, released};
-ghost use Rattle.brc_biased.specs.Up.{IsKnown};
+ghost use Rattle.brc_biased.specs.Released.{IsTakenBlock, Released};
+ghost use Rattle.brc_biased.specs.Standing.{HasDead, MayDrop, FillsNoPlace, MayCountDown, entries_left, released};
+ghost use Rattle.brc_biased.specs.Up.{KnowsPart};
 
 use crate::counter::Counter;
-use crate::home::Home;
+use crate::home::HasTable;
 use crate::own::release_own;
 use crate::shared::{release_risen, release_shared};
 use brc_table::block::Block;
@@ -22,16 +22,16 @@ use brc_table::law::world::Dropped;
 use brc_words::FIRST_MORTAL;
 use std::alloc::Allocator;
 
-impl<H: Home<A>, A: Allocator> Counter<H, A> {
+impl<H: HasTable<A>, A: Allocator> Counter<H, A> {
     #[tactic(auto, using(crate::proofs::Owning::owns_less))]
     /// Gives a reference up, in at most `MOST_EVENTS` events whatever others do, with one lost exchange in the log, and
     /// answers the block of the object that this ended, if it did (PEP 703, "Biased Reference Counting"). `has_risen`
     /// says that the object was seen queued or merged while the reference was there; then no look is needed. It waits
-    /// for nobody, unless its `Home` does to find the table.
+    /// for nobody, unless its `HasTable` does to find the table.
     #[inline(always)]
     pub fn give_up(&mut self, drop: Dropped, cell: u32, has_risen: bool) -> Option<Block<A>>
         requires inside { cell < self.old.heap.cells }
-        requires holds { Holds self.old.heap.cells self.old.seat.log drop cell }
+        requires holds { MayDrop self.old.heap.cells self.old.seat.log drop cell }
         requires risen { IsTrue has_risen →
             risen_seen self.old.heap.cells self.old.seat.log drop cell ≡ true }
 
@@ -42,7 +42,7 @@ impl<H: Home<A>, A: Allocator> Counter<H, A> {
         ensures told { Released self.old.heap.cells drop cell has_risen result
             self.old.seat.log self.new.seat.log }
         ensures bounded { IsBounded self.old.seat.log self.new.seat.log }
-        ensures block { Answers self.old.heap.cells cell result self.old.seat self.new.seat }
+        ensures block { IsTakenBlock self.old.heap.cells cell result self.old.seat self.new.seat }
 
         // What the thread knows then: the reference is gone, and the block is its own.
         ensures dead { IfSome result (λ there.
@@ -50,11 +50,11 @@ impl<H: Home<A>, A: Allocator> Counter<H, A> {
         ensures others { (q : ℕ) (entries : List ℕ) → q ≢ cell →
             HasDead self.old.heap.cells self.old.seat.log q entries →
             HasDead self.old.heap.cells self.new.seat.log q (entries_left drop q entries) }
-        ensures knows { IsKnown self.old.heap.cells self.new.seat.log
+        ensures knows { KnowsPart self.old.heap.cells self.new.seat.log
             (released (is_there result) drop cell (entries_of result)
             (known_seen self.old.heap.cells self.old.seat.log)) }
-        ensures stands { Stands self.old.heap.cells self.new.seat.log hands.Free }
-        ensures keeps { KeepsPlaces self.old.heap.cells self.old.seat.log self.new.seat.log }
+        ensures stands { MayCountDown self.old.heap.cells self.new.seat.log hands.Free }
+        ensures keeps { FillsNoPlace self.old.heap.cells self.old.seat.log self.new.seat.log }
     {
         let count = self.counts[cell as usize];
         let table = self.heap.table();

@@ -8,8 +8,8 @@ use brc_table::HeapTable;
 use std::alloc::Allocator;
 
 /// What leads to the table of a heap. Counting waits for nobody only as far as `table` doesn't: a reference is there at
-/// once, and another `Home` has to say so of itself.
-pub trait Home<A: Allocator> {
+/// once, and another `HasTable` has to say so of itself.
+pub trait HasTable<A: Allocator> {
     ghost seen: { Self → TableSeen };
 
     /// The table.
@@ -17,7 +17,7 @@ pub trait Home<A: Allocator> {
         ensures { result.now ≡ seen self.now };
 }
 
-impl<'h, A: Allocator> Home<A> for &'h HeapTable<A> {
+impl<'h, A: Allocator> HasTable<A> for &'h HeapTable<A> {
     ghost seen = { λ heap. heap.now };
 
     fn table(&self) -> &HeapTable<A> {

@@ -15,13 +15,13 @@ mod home;
 mod own;
 mod owned;
 mod popped;
-mod resting;
+mod resting_counter;
 mod seek;
 mod shared;
 mod steps;
 mod up;
 
 pub use counter::{Counter, first_counts};
-pub use home::Home;
+pub use home::HasTable;
 pub use owned::{no_bits, strike};
-pub use resting::RestingCounter;
+pub use resting_counter::RestingCounter;

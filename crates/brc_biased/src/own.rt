@@ -11,9 +11,9 @@ ghost use Rattle.brc_table.specs.law.rule.Seen.{part_seen, counts_seen};
 ghost use Rattle.brc_table.specs.Knowing.{known_seen, entries_of};
 ghost use Rattle.brc_table.specs.Moving.{is_there};
 ghost use Rattle.brc_table.specs.Seated.{Continues};
-ghost use Rattle.brc_biased.specs.Released.{Answers, EndedOwn, GoesOwn};
-ghost use Rattle.brc_biased.specs.Standing.{Stands, Holds, SameCounts, KeepsPlaces, ending, released};
-ghost use Rattle.brc_biased.specs.Up.{IsKnown};
+ghost use Rattle.brc_biased.specs.Released.{IsTakenBlock, EndedOwn, GoesOwn};
+ghost use Rattle.brc_biased.specs.Standing.{MayCountDown, MayDrop, SameCounts, FillsNoPlace, ending, released};
+ghost use Rattle.brc_biased.specs.Up.{KnowsPart};
 
 use crate::owned::clear_owned;
 use brc_table::block::Block;
@@ -33,16 +33,16 @@ pub(crate) fn end_own<A: Allocator>(
     requires table { seat.old.table ≡ table.now.table }
     requires inside { cell < table.now.cells }
     requires words { length owned.old.items ≡ words_for table.now.cells }
-    requires stands { Stands table.now.cells seat.old.log (hands.Busy phases.Zero cell) }
+    requires stands { MayCountDown table.now.cells seat.old.log (hands.Busy phases.Zero cell) }
     requires active { is_active (part_seen table.now.cells seat.old.log).row.stage ≡ true }
     requires counted { counts_seen table.now.cells seat.old.log cell ≡ 0 }
     ensures told { EndedOwn cell result seat.old.log seat.new.log }
-    ensures block { Answers table.now.cells cell result seat.old seat.new }
+    ensures block { IsTakenBlock table.now.cells cell result seat.old seat.new }
     ensures seat { Continues seat.old seat.new }
-    ensures knows { IsKnown table.now.cells seat.new.log
+    ensures knows { KnowsPart table.now.cells seat.new.log
         (ending (is_there result) cell (entries_of result) (known_seen table.now.cells seat.old.log)) }
     ensures counts { SameCounts table.now.cells seat.old.log seat.new.log }
-    ensures keeps { KeepsPlaces table.now.cells seat.old.log seat.new.log }
+    ensures keeps { FillsNoPlace table.now.cells seat.old.log seat.new.log }
     ensures words { length owned.new.items ≡ length owned.old.items }
     ensures others { (c : ℕ) → c ≢ cell → bit_of owned.new.items c ≡ bit_of owned.old.items c }
 {
@@ -78,19 +78,19 @@ pub(crate) fn release_own<A: Allocator>(
     requires table { seat.old.table ≡ table.now.table }
     requires inside { cell < table.now.cells }
     requires words { length owned.old.items ≡ words_for table.now.cells }
-    requires holds { Holds table.now.cells seat.old.log drop cell }
+    requires holds { MayDrop table.now.cells seat.old.log drop cell }
     requires active { is_active (part_seen table.now.cells seat.old.log).row.stage ≡ true }
     requires mortal { FIRST_MORTAL ≤ cell }
     requires counted { counts_seen table.now.cells seat.old.log cell ≡ count }
     requires some_count { 0 < count }
     ensures told { GoesOwn table.now.cells drop cell result seat.old.log seat.new.log }
-    ensures block { Answers table.now.cells cell result seat.old seat.new }
+    ensures block { IsTakenBlock table.now.cells cell result seat.old seat.new }
     ensures seat { Continues seat.old seat.new }
-    ensures knows { IsKnown table.now.cells seat.new.log
+    ensures knows { KnowsPart table.now.cells seat.new.log
         (released (is_there result) drop cell (entries_of result) (known_seen table.now.cells seat.old.log)) }
     ensures counts { (c : ℕ) → counts_seen table.now.cells seat.new.log c ≡
         (if c == cell then count - 1 else counts_seen table.now.cells seat.old.log c) }
-    ensures keeps { KeepsPlaces table.now.cells seat.old.log seat.new.log }
+    ensures keeps { FillsNoPlace table.now.cells seat.old.log seat.new.log }
     ensures words { length owned.new.items ≡ length owned.old.items }
     ensures others { (c : ℕ) → c ≢ cell → bit_of owned.new.items c ≡ bit_of owned.old.items c }
     ensures kept { 1 < count → owned.new ≡ owned.old }

@@ -10,7 +10,7 @@ ghost use Rattle.brc_table.specs.law.world.Lists.{bit_of, word_at, with_bit, wit
 ghost use Rattle.brc_table.specs.law.rule.Seen.{counts_seen};
 
 use crate::counter::Counter;
-use crate::home::Home;
+use crate::home::HasTable;
 use std::alloc::{AllocError, Allocator};
 
 /// The bits of a thread that owns nothing.
@@ -80,7 +80,7 @@ pub(crate) fn clear_owned<A: Allocator>(words: &mut Vec<u64, A>, cell: u32)
     words[(cell / 32) as usize] = rest;
 }
 
-impl<H: Home<A>, A: Allocator> Counter<H, A> {
+impl<H: HasTable<A>, A: Allocator> Counter<H, A> {
     #[tactic(auto, using(crate::proofs::Owning::none_in_word))]
     /// The first cell at or after one that the thread counts, if there is one.
     pub fn next_owned(&self, from: u32) -> Option<u32>

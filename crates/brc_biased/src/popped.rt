@@ -15,12 +15,12 @@ ghost use Rattle.brc_table.specs.Knowing.{known_seen, entries_of};
 ghost use Rattle.brc_table.specs.Moving.{is_there};
 ghost use Rattle.brc_table.specs.Seated.{Continues};
 ghost use Rattle.brc_table.specs.Shown.{contents_of};
-ghost use Rattle.brc_biased.specs.Released.{Answers, Ends, Merges, Settled};
-ghost use Rattle.brc_biased.specs.Standing.{HasDead, Stands, KeepsPlaces};
-ghost use Rattle.brc_biased.specs.Up.{IsKnown};
+ghost use Rattle.brc_biased.specs.Released.{IsTakenBlock, EndsByStep, MergesPopped, Settled};
+ghost use Rattle.brc_biased.specs.Standing.{HasDead, MayCountDown, FillsNoPlace};
+ghost use Rattle.brc_biased.specs.Up.{KnowsPart};
 
 use crate::counter::Counter;
-use crate::home::Home;
+use crate::home::HasTable;
 use crate::owned::clear_owned;
 use brc_table::block::Block;
 use brc_table::{Found, HeapTable, ThreadSeat};
@@ -37,19 +37,19 @@ pub(crate) fn merge_popped<A: Allocator>(
 ) -> Option<Block<A>>
     requires table { seat.old.table ≡ table.now.table }
     requires inside { cell < table.now.cells }
-    requires stands { Stands table.now.cells seat.old.log hands.Free }
+    requires stands { MayCountDown table.now.cells seat.old.log hands.Free }
     requires active { is_active (part_seen table.now.cells seat.old.log).row.stage ≡ true }
     requires popped { bit_of (part_seen table.now.cells seat.old.log).popped cell ≡ 1 }
     requires found { noted fields.Shared cell seat.old.log ≡ Some shared }
     requires unmerged { shared % 4 ≢ 3 }
-    ensures told { Merges cell result seat.old.log seat.new.log }
-    ensures block { Answers table.now.cells cell result seat.old seat.new }
+    ensures told { MergesPopped cell result seat.old.log seat.new.log }
+    ensures block { IsTakenBlock table.now.cells cell result seat.old seat.new }
     ensures seat { Continues seat.old seat.new }
-    ensures knows { IsKnown table.now.cells seat.new.log
+    ensures knows { KnowsPart table.now.cells seat.new.log
         (settling cell (taking (is_there result) cell (entries_of result) (known_seen table.now.cells seat.old.log))) }
     ensures counts { (c : ℕ) → counts_seen table.now.cells seat.new.log c ≡
         (if c == cell then 0 else counts_seen table.now.cells seat.old.log c) }
-    ensures keeps { KeepsPlaces table.now.cells seat.old.log seat.new.log }
+    ensures keeps { FillsNoPlace table.now.cells seat.old.log seat.new.log }
 {
     table.untie_popped(seat, cell, shared);
     let _limit = table.local_limit();
@@ -62,27 +62,27 @@ pub(crate) fn merge_popped<A: Allocator>(
     block
 }
 
-impl<H: Home<A>, A: Allocator> Counter<H, A> {
+impl<H: HasTable<A>, A: Allocator> Counter<H, A> {
     #[tactic(auto, using(crate::proofs::Owning::owns_gone))]
     /// Deals with a popped entry: an object that isn't merged is merged by the thread; then the entry's reference is
     /// counted down, and the block is answered where that was the last one.
     pub fn settle(&mut self, cell: u32) -> Option<Block<A>>
         requires inside { cell < self.old.heap.cells }
-        requires stands { Stands self.old.heap.cells self.old.seat.log hands.Free }
+        requires stands { MayCountDown self.old.heap.cells self.old.seat.log hands.Free }
         requires active { is_active (part_seen self.old.heap.cells self.old.seat.log).row.stage ≡ true }
         requires popped { bit_of (part_seen self.old.heap.cells self.old.seat.log).popped cell ≡ 1 }
 
         ensures heap { self.new.heap ≡ self.old.heap }
         ensures seat { Continues self.old.seat self.new.seat }
         ensures told { Settled cell result self.old.seat.log self.new.seat.log }
-        ensures block { Answers self.old.heap.cells cell result self.old.seat self.new.seat }
+        ensures block { IsTakenBlock self.old.heap.cells cell result self.old.seat self.new.seat }
         ensures dead { IfSome result (λ there.
             HasDead self.old.heap.cells self.new.seat.log cell (entries_in (contents_of there.1))) }
-        ensures knows { IsKnown self.old.heap.cells self.new.seat.log
+        ensures knows { KnowsPart self.old.heap.cells self.new.seat.log
             (settling cell (taking (is_there result) cell (entries_of result)
             (known_seen self.old.heap.cells self.old.seat.log))) }
-        ensures stands { Stands self.old.heap.cells self.new.seat.log hands.Free }
-        ensures keeps { KeepsPlaces self.old.heap.cells self.old.seat.log self.new.seat.log }
+        ensures stands { MayCountDown self.old.heap.cells self.new.seat.log hands.Free }
+        ensures keeps { FillsNoPlace self.old.heap.cells self.old.seat.log self.new.seat.log }
     {
         let table = self.heap.table();
         let shared = table.load_shared(&mut self.seat, cell);
@@ -107,21 +107,21 @@ impl<H: Home<A>, A: Allocator> Counter<H, A> {
     /// it owned, and so the entry's reference is counted down at once.
     pub fn settle_left(&mut self, cell: u32) -> Option<Block<A>>
         requires inside { cell < self.old.heap.cells }
-        requires stands { Stands self.old.heap.cells self.old.seat.log hands.Free }
+        requires stands { MayCountDown self.old.heap.cells self.old.seat.log hands.Free }
         requires left { is_active (part_seen self.old.heap.cells self.old.seat.log).row.stage ≡ false }
         requires popped { bit_of (part_seen self.old.heap.cells self.old.seat.log).popped cell ≡ 1 }
 
         ensures heap { self.new.heap ≡ self.old.heap }
         ensures seat { Continues self.old.seat self.new.seat }
-        ensures told { Ends (steps.LastDown (lasts.Popped cell)) cell result self.old.seat.log self.new.seat.log }
-        ensures block { Answers self.old.heap.cells cell result self.old.seat self.new.seat }
+        ensures told { EndsByStep (steps.LastDown (lasts.Popped cell)) cell result self.old.seat.log self.new.seat.log }
+        ensures block { IsTakenBlock self.old.heap.cells cell result self.old.seat self.new.seat }
         ensures dead { IfSome result (λ there.
             HasDead self.old.heap.cells self.new.seat.log cell (entries_in (contents_of there.1))) }
-        ensures knows { IsKnown self.old.heap.cells self.new.seat.log
+        ensures knows { KnowsPart self.old.heap.cells self.new.seat.log
             (settling cell (taking (is_there result) cell (entries_of result)
             (known_seen self.old.heap.cells self.old.seat.log))) }
-        ensures stands { Stands self.old.heap.cells self.new.seat.log hands.Free }
-        ensures keeps { KeepsPlaces self.old.heap.cells self.old.seat.log self.new.seat.log }
+        ensures stands { MayCountDown self.old.heap.cells self.new.seat.log hands.Free }
+        ensures keeps { FillsNoPlace self.old.heap.cells self.old.seat.log self.new.seat.log }
     {
         let Found {
             number: _number,

@@ -11,14 +11,14 @@ ghost use Rattle.brc_table.specs.law.rule.Seen.{part_seen, taken_seen};
 ghost use Rattle.brc_table.specs.law.world.declared.row.Hand.TheVariants as hands;
 ghost use Rattle.brc_table.specs.law.world.declared.row.Phase.TheVariants as phases;
 ghost use Rattle.brc_table.specs.law.world.Steps.{is_active};
-ghost use Rattle.brc_table.specs.Knowing.{known_seen, Keeps};
+ghost use Rattle.brc_table.specs.Knowing.{known_seen, KeepsNotes};
 ghost use Rattle.brc_table.specs.Seated.{Continues};
-ghost use Rattle.brc_biased.specs.Seeking.{PassesFrom, PassesOver, ClaimsFrom, ClaimsAround, Takes, Misses};
-ghost use Rattle.brc_biased.specs.Standing.{Stands};
-ghost use Rattle.brc_biased.specs.Up.{IsKnown};
+ghost use Rattle.brc_biased.specs.Seeking.{PassesFrom, PassesOver, ClaimsFrom, ClaimsAround, ClaimsCell, Misses};
+ghost use Rattle.brc_biased.specs.Standing.{MayCountDown};
+ghost use Rattle.brc_biased.specs.Up.{KnowsPart};
 
 use crate::counter::Counter;
-use crate::home::Home;
+use crate::home::HasTable;
 use brc_words::FIRST_MORTAL;
 use std::alloc::Allocator;
 
@@ -44,28 +44,28 @@ fn has_bit(number: u64, at: u32) -> bool
     (number >> at) & 1 == 1
 }
 
-impl<H: Home<A>, A: Allocator> Counter<H, A> {
+impl<H: HasTable<A>, A: Allocator> Counter<H, A> {
     /// One cell is tried; true where it is the thread's.
     #[inline(always)]
     fn try_cell(&mut self, cell: u32) -> bool
         requires inside { cell < self.old.heap.cells }
         requires mortal { FIRST_MORTAL ≤ cell }
-        requires stands { Stands self.old.heap.cells self.old.seat.log hands.Free }
+        requires stands { MayCountDown self.old.heap.cells self.old.seat.log hands.Free }
         requires active { is_active (part_seen self.old.heap.cells self.old.seat.log).row.stage ≡ true }
         requires more { (part_seen self.old.heap.cells self.old.seat.log).row.allocs < MOST_BIRTHS }
         ensures heap { self.new.heap ≡ self.old.heap }
         ensures seat { Continues self.old.seat self.new.seat }
         ensures fresh { IsTrue result →
             listed_at (taken_seen self.old.heap.cells self.old.seat.log) cell ≡ None }
-        ensures claimed { IsTrue result → Takes cell self.old.seat.log self.new.seat.log }
+        ensures claimed { IsTrue result → ClaimsCell cell self.old.seat.log self.new.seat.log }
         ensures out { IsTrue result → self.new.seat.slots ≡ (cell, None) ∷ self.old.seat.slots }
-        ensures claimed_knows { IsTrue result → IsKnown self.old.heap.cells self.new.seat.log
+        ensures claimed_knows { IsTrue result → KnowsPart self.old.heap.cells self.new.seat.log
             (handing (hands.Busy phases.Claimed cell) (known_seen self.old.heap.cells self.old.seat.log)) }
         ensures missed { IsFalse result → Misses cell self.old.seat.log self.new.seat.log }
         ensures still { IsFalse result → self.new.seat.slots ≡ self.old.seat.slots }
-        ensures missed_knows { IsFalse result → IsKnown self.old.heap.cells self.new.seat.log
+        ensures missed_knows { IsFalse result → KnowsPart self.old.heap.cells self.new.seat.log
             (known_seen self.old.heap.cells self.old.seat.log) }
-        ensures keeps { Keeps self.old.heap.cells self.old.seat.log self.new.seat.log }
+        ensures keeps { KeepsNotes self.old.heap.cells self.old.seat.log self.new.seat.log }
     {
         match self.claim(cell) {
             Ok(_found) => true,
@@ -77,7 +77,7 @@ impl<H: Home<A>, A: Allocator> Counter<H, A> {
     #[inline(always)]
     fn seek_word(&mut self, word: u32) -> Option<u32>
         requires inside { word < free_words_for self.old.heap.cells }
-        requires stands { Stands self.old.heap.cells self.old.seat.log hands.Free }
+        requires stands { MayCountDown self.old.heap.cells self.old.seat.log hands.Free }
         requires active { is_active (part_seen self.old.heap.cells self.old.seat.log).row.stage ≡ true }
         requires more { (part_seen self.old.heap.cells self.old.seat.log).row.allocs < MOST_BIRTHS }
         ensures heap { self.new.heap ≡ self.old.heap }
@@ -90,15 +90,15 @@ impl<H: Home<A>, A: Allocator> Counter<H, A> {
         ensures claimed { IfSome result (λ cell.
             ClaimsFrom (word * 64) cell self.old.seat.log self.new.seat.log) }
         ensures out { IfSome result (λ cell. self.new.seat.slots ≡ (cell, None) ∷ self.old.seat.slots) }
-        ensures claimed_knows { IfSome result (λ cell. IsKnown self.old.heap.cells self.new.seat.log
+        ensures claimed_knows { IfSome result (λ cell. KnowsPart self.old.heap.cells self.new.seat.log
             (handing (hands.Busy phases.Claimed cell)
             (known_seen self.old.heap.cells self.old.seat.log))) }
         ensures full { IfNone result (PassesFrom (word * 64) self.old.seat.log
             (min (word * 64 + 64) self.old.heap.cells) self.new.seat.log) }
         ensures still { IfNone result (self.new.seat.slots ≡ self.old.seat.slots) }
-        ensures full_knows { IfNone result (IsKnown self.old.heap.cells self.new.seat.log
+        ensures full_knows { IfNone result (KnowsPart self.old.heap.cells self.new.seat.log
             (known_seen self.old.heap.cells self.old.seat.log)) }
-        ensures keeps { Keeps self.old.heap.cells self.old.seat.log self.new.seat.log }
+        ensures keeps { KeepsNotes self.old.heap.cells self.old.seat.log self.new.seat.log }
     {
         let cells = self.heap.table().cells();
         let found = self.heap.table().load_free(&mut self.seat, word);
@@ -120,7 +120,7 @@ impl<H: Home<A>, A: Allocator> Counter<H, A> {
     #[inline(always)]
     fn seek_words(&mut self, from: u32, to: u32) -> Option<u32>
         requires inside { to ≤ free_words_for self.old.heap.cells }
-        requires stands { Stands self.old.heap.cells self.old.seat.log hands.Free }
+        requires stands { MayCountDown self.old.heap.cells self.old.seat.log hands.Free }
         requires active { is_active (part_seen self.old.heap.cells self.old.seat.log).row.stage ≡ true }
         requires more { (part_seen self.old.heap.cells self.old.seat.log).row.allocs < MOST_BIRTHS }
         ensures heap { self.new.heap ≡ self.old.heap }
@@ -133,15 +133,15 @@ impl<H: Home<A>, A: Allocator> Counter<H, A> {
         ensures claimed { IfSome result (λ cell.
             ClaimsFrom (from * 64) cell self.old.seat.log self.new.seat.log) }
         ensures out { IfSome result (λ cell. self.new.seat.slots ≡ (cell, None) ∷ self.old.seat.slots) }
-        ensures claimed_knows { IfSome result (λ cell. IsKnown self.old.heap.cells self.new.seat.log
+        ensures claimed_knows { IfSome result (λ cell. KnowsPart self.old.heap.cells self.new.seat.log
             (handing (hands.Busy phases.Claimed cell)
             (known_seen self.old.heap.cells self.old.seat.log))) }
         ensures full { IfNone result (PassesFrom (from * 64) self.old.seat.log
             (min (to * 64) self.old.heap.cells) self.new.seat.log) }
         ensures still { IfNone result (self.new.seat.slots ≡ self.old.seat.slots) }
-        ensures full_knows { IfNone result (IsKnown self.old.heap.cells self.new.seat.log
+        ensures full_knows { IfNone result (KnowsPart self.old.heap.cells self.new.seat.log
             (known_seen self.old.heap.cells self.old.seat.log)) }
-        ensures keeps { Keeps self.old.heap.cells self.old.seat.log self.new.seat.log }
+        ensures keeps { KeepsNotes self.old.heap.cells self.old.seat.log self.new.seat.log }
     {
         for word in from..to {
             if let Some(cell) = self.seek_word(word) {
@@ -159,7 +159,7 @@ impl<H: Home<A>, A: Allocator> Counter<H, A> {
     /// free by then.
     #[inline(always)]
     pub fn seek_from(&mut self, start: u32) -> Option<u32>
-        requires stands { Stands self.old.heap.cells self.old.seat.log hands.Free }
+        requires stands { MayCountDown self.old.heap.cells self.old.seat.log hands.Free }
         requires active { is_active (part_seen self.old.heap.cells self.old.seat.log).row.stage ≡ true }
         requires more { (part_seen self.old.heap.cells self.old.seat.log).row.allocs < MOST_BIRTHS }
         ensures heap { self.new.heap ≡ self.old.heap }
@@ -173,7 +173,7 @@ impl<H: Home<A>, A: Allocator> Counter<H, A> {
         ensures claimed { IfSome result (λ cell.
             ClaimsAround self.old.heap.cells start cell self.old.seat.log self.new.seat.log) }
         ensures out { IfSome result (λ cell. self.new.seat.slots ≡ (cell, None) ∷ self.old.seat.slots) }
-        ensures claimed_knows { IfSome result (λ cell. IsKnown self.old.heap.cells self.new.seat.log
+        ensures claimed_knows { IfSome result (λ cell. KnowsPart self.old.heap.cells self.new.seat.log
             (handing (hands.Busy phases.Claimed cell)
             (known_seen self.old.heap.cells self.old.seat.log))) }
 
@@ -181,9 +181,9 @@ impl<H: Home<A>, A: Allocator> Counter<H, A> {
         ensures full { IfNone result
             (PassesOver self.old.seat.log self.old.heap.cells self.new.seat.log) }
         ensures still { IfNone result (self.new.seat.slots ≡ self.old.seat.slots) }
-        ensures full_knows { IfNone result (IsKnown self.old.heap.cells self.new.seat.log
+        ensures full_knows { IfNone result (KnowsPart self.old.heap.cells self.new.seat.log
             (known_seen self.old.heap.cells self.old.seat.log)) }
-        ensures keeps { Keeps self.old.heap.cells self.old.seat.log self.new.seat.log }
+        ensures keeps { KeepsNotes self.old.heap.cells self.old.seat.log self.new.seat.log }
     {
         let words = self.heap.table().free_words();
         if let Some(cell) = self.seek_words(start, words) {

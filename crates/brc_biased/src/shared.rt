@@ -8,9 +8,9 @@ ghost use Rattle.brc_table.specs.law.rule.Seen.{counts_seen, risen_seen};
 ghost use Rattle.brc_table.specs.Knowing.{known_seen, entries_of};
 ghost use Rattle.brc_table.specs.Moving.{is_there};
 ghost use Rattle.brc_table.specs.Seated.{Continues};
-ghost use Rattle.brc_biased.specs.Released.{Ends, Answers, Asks, GoesShared};
-ghost use Rattle.brc_biased.specs.Standing.{Holds, SameCounts, KeepsPlaces, released};
-ghost use Rattle.brc_biased.specs.Up.{IsKnown};
+ghost use Rattle.brc_biased.specs.Released.{EndsByStep, IsTakenBlock, Asks, GoesShared};
+ghost use Rattle.brc_biased.specs.Standing.{MayDrop, SameCounts, FillsNoPlace, released};
+ghost use Rattle.brc_biased.specs.Up.{KnowsPart};
 
 use crate::asked::hand_over;
 use brc_table::block::Block;
@@ -31,17 +31,17 @@ pub(crate) fn release_risen<A: Allocator>(
 ) -> Option<Block<A>>
     requires table { seat.old.table ≡ table.now.table }
     requires inside { cell < table.now.cells }
-    requires holds { Holds table.now.cells seat.old.log drop cell }
+    requires holds { MayDrop table.now.cells seat.old.log drop cell }
     requires mortal { FIRST_MORTAL ≤ cell }
     requires counted { counts_seen table.now.cells seat.old.log cell ≡ 0 }
     requires risen { risen_seen table.now.cells seat.old.log drop cell ≡ true }
-    ensures told { Ends (steps.LastDown (lasts.Dropped drop)) cell result seat.old.log seat.new.log }
-    ensures block { Answers table.now.cells cell result seat.old seat.new }
+    ensures told { EndsByStep (steps.LastDown (lasts.Dropped drop)) cell result seat.old.log seat.new.log }
+    ensures block { IsTakenBlock table.now.cells cell result seat.old seat.new }
     ensures seat { Continues seat.old seat.new }
-    ensures knows { IsKnown table.now.cells seat.new.log
+    ensures knows { KnowsPart table.now.cells seat.new.log
         (released (is_there result) drop cell (entries_of result) (known_seen table.now.cells seat.old.log)) }
     ensures counts { SameCounts table.now.cells seat.old.log seat.new.log }
-    ensures keeps { KeepsPlaces table.now.cells seat.old.log seat.new.log }
+    ensures keeps { FillsNoPlace table.now.cells seat.old.log seat.new.log }
 {
     let Found {
         number: _number,
@@ -60,16 +60,16 @@ pub(crate) fn release_asking<A: Allocator>(
 ) -> Option<Block<A>>
     requires table { seat.old.table ≡ table.now.table }
     requires inside { cell < table.now.cells }
-    requires holds { Holds table.now.cells seat.old.log drop cell }
+    requires holds { MayDrop table.now.cells seat.old.log drop cell }
     requires mortal { FIRST_MORTAL ≤ cell }
     requires counted { counts_seen table.now.cells seat.old.log cell ≡ 0 }
     ensures told { Asks drop cell result seat.old.log seat.new.log }
-    ensures block { Answers table.now.cells cell result seat.old seat.new }
+    ensures block { IsTakenBlock table.now.cells cell result seat.old seat.new }
     ensures seat { Continues seat.old seat.new }
-    ensures knows { IsKnown table.now.cells seat.new.log
+    ensures knows { KnowsPart table.now.cells seat.new.log
         (released (is_there result) drop cell (entries_of result) (known_seen table.now.cells seat.old.log)) }
     ensures counts { SameCounts table.now.cells seat.old.log seat.new.log }
-    ensures keeps { KeepsPlaces table.now.cells seat.old.log seat.new.log }
+    ensures keeps { FillsNoPlace table.now.cells seat.old.log seat.new.log }
 {
     let found = table.ask(seat, drop, cell);
     if found % 4 != 0 {
@@ -89,16 +89,16 @@ pub(crate) fn release_shared<A: Allocator>(
 ) -> Option<Block<A>>
     requires table { seat.old.table ≡ table.now.table }
     requires inside { cell < table.now.cells }
-    requires holds { Holds table.now.cells seat.old.log drop cell }
+    requires holds { MayDrop table.now.cells seat.old.log drop cell }
     requires mortal { FIRST_MORTAL ≤ cell }
     requires counted { counts_seen table.now.cells seat.old.log cell ≡ 0 }
     ensures told { GoesShared drop cell result seat.old.log seat.new.log }
-    ensures block { Answers table.now.cells cell result seat.old seat.new }
+    ensures block { IsTakenBlock table.now.cells cell result seat.old seat.new }
     ensures seat { Continues seat.old seat.new }
-    ensures knows { IsKnown table.now.cells seat.new.log
+    ensures knows { KnowsPart table.now.cells seat.new.log
         (released (is_there result) drop cell (entries_of result) (known_seen table.now.cells seat.old.log)) }
     ensures counts { SameCounts table.now.cells seat.old.log seat.new.log }
-    ensures keeps { KeepsPlaces table.now.cells seat.old.log seat.new.log }
+    ensures keeps { FillsNoPlace table.now.cells seat.old.log seat.new.log }
 {
     let word = table.load_shared(seat, cell);
     if word % 4 != 0 {

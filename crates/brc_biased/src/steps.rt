@@ -13,50 +13,50 @@ ghost use Rattle.brc_table.specs.law.known.declared.word.Word.TheVariants as wor
 ghost use Rattle.brc_table.specs.law.known.Going_On.{handing, locking, unlocking, popping};
 ghost use Rattle.brc_table.specs.law.known.Taken.{listed_at};
 ghost use Rattle.brc_table.specs.law.rule.declared.told.Moved.TheVariants as moves;
-ghost use Rattle.brc_table.specs.law.rule.declared.told.Told.TheVariants as told;
+ghost use Rattle.brc_table.specs.law.rule.declared.told.LogItem.TheVariants as told;
 ghost use Rattle.brc_table.specs.law.rule.Logs.{entries_in};
 ghost use Rattle.brc_table.specs.law.rule.Seen.{contents_locked, taken_seen};
 ghost use Rattle.brc_table.specs.law.living.Living.{OwnLog};
 ghost use Rattle.brc_table.specs.law.payloads.Payloads.{FindsOwn};
-ghost use Rattle.brc_table.specs.law.steps.Owing.{Allowed, Carries, Claims, Unlocks};
+ghost use Rattle.brc_table.specs.law.steps.Owing.{MayStep, MayCarry, MayClaimCell, MayUnlock};
 ghost use Rattle.brc_table.specs.law.steps.Taking.{AreCells, AreQueued};
-ghost use Rattle.brc_table.specs.Knowing.{known_seen, Keeps};
+ghost use Rattle.brc_table.specs.Knowing.{known_seen, KeepsNotes};
 ghost use Rattle.brc_table.specs.Moving.{found_locked};
-ghost use Rattle.brc_table.specs.Seated.{Continues, Stays};
+ghost use Rattle.brc_table.specs.Seated.{Continues, IsSameSeat};
 ghost use Rattle.brc_table.specs.Shown.{shows, contents_of};
-ghost use Rattle.brc_biased.specs.Up.{IsKnown};
+ghost use Rattle.brc_biased.specs.Up.{KnowsPart};
 
 use crate::counter::Counter;
-use crate::home::Home;
+use crate::home::HasTable;
 use brc_table::block::Block;
 use brc_table::law::world::Change;
 use std::alloc::Allocator;
 
-impl<H: Home<A>, A: Allocator> Counter<H, A> {
+impl<H: HasTable<A>, A: Allocator> Counter<H, A> {
     /// Claims a free cell, which is none of the thread's dead blocks, to make an object in; or the cell wasn't free.
     /// Either answer tells the cell's free word as it was found.
     #[inline(always)]
     pub fn claim(&mut self, cell: u32) -> Result<u64, u64>
         requires inside { cell < self.old.heap.cells }
-        requires claims { Claims self.old.heap.cells self.old.seat.log cell }
+        requires claims { MayClaimCell self.old.heap.cells self.old.seat.log cell }
         ensures heap { self.new.heap ≡ self.old.heap }
         ensures seat { Continues self.old.seat self.new.seat }
         ensures fresh { OnOk result
             (listed_at (taken_seen self.old.heap.cells self.old.seat.log) cell ≡ None) }
         ensures won { IfOk result (λ found. self.new.seat.log ≡
-            told.Did (steps.Claim cell) found moves.Nothing ∷ self.old.seat.log) }
+            told.Stepped (steps.Claim cell) found moves.Nothing ∷ self.old.seat.log) }
         ensures was_free { IfOk result (λ found. bit_at found (cell % 64) ≡ 1) }
         ensures out { OnOk result (self.new.seat.slots ≡ (cell, None) ∷ self.old.seat.slots) }
         ensures lost { IfErr result (λ found.
             self.new.seat.log ≡ told.Lost (words.FreeWord (cell / 64)) found ∷ self.old.seat.log) }
         ensures taken { IfErr result (λ found. bit_at found (cell % 64) ≡ 0) }
         ensures still { OnErr result (self.new.seat.slots ≡ self.old.seat.slots) }
-        ensures won_knows { OnOk result (IsKnown self.old.heap.cells self.new.seat.log
+        ensures won_knows { OnOk result (KnowsPart self.old.heap.cells self.new.seat.log
             (handing (hands.Busy phases.Claimed cell)
             (known_seen self.old.heap.cells self.old.seat.log))) }
-        ensures lost_knows { OnErr result (IsKnown self.old.heap.cells self.new.seat.log
+        ensures lost_knows { OnErr result (KnowsPart self.old.heap.cells self.new.seat.log
             (known_seen self.old.heap.cells self.old.seat.log)) }
-        ensures keeps { Keeps self.old.heap.cells self.old.seat.log self.new.seat.log }
+        ensures keeps { KeepsNotes self.old.heap.cells self.old.seat.log self.new.seat.log }
     {
         self.heap.table().claim(&mut self.seat, cell)
     }
@@ -65,7 +65,7 @@ impl<H: Home<A>, A: Allocator> Counter<H, A> {
     #[inline(always)]
     pub fn lock(&mut self, place: u32, cell: u32) -> Result<Block<A>, u64>
         requires inside { cell < self.old.heap.cells }
-        requires carries { Carries self.old.heap.cells self.old.seat.log (steps.Lock place) cell }
+        requires carries { MayCarry self.old.heap.cells self.old.seat.log (steps.Lock place) cell }
         ensures heap { self.new.heap ≡ self.old.heap }
         ensures seat { Continues self.old.seat self.new.seat }
         ensures of_cell { IfOk result (λ block. block.0 ≡ cell) }
@@ -75,7 +75,7 @@ impl<H: Home<A>, A: Allocator> Counter<H, A> {
             AreCells self.old.heap.cells (entries_in (contents_of block.1))) }
         ensures few { IfOk result (λ block.
             length (entries_in (contents_of block.1)) ≤ MOST_ENTRIES) }
-        ensures won { IfOk result (λ block. self.new.seat.log ≡ told.Did (steps.Lock place) 0
+        ensures won { IfOk result (λ block. self.new.seat.log ≡ told.Stepped (steps.Lock place) 0
             (moves.Found cell (contents_of block.1)) ∷ self.old.seat.log) }
         ensures out { IfOk result (λ block. self.new.seat.slots ≡ (cell, None) ∷ self.old.seat.slots) }
         ensures lost { IfErr result (λ found.
@@ -84,16 +84,16 @@ impl<H: Home<A>, A: Allocator> Counter<H, A> {
         ensures locked { IfErr result (λ found. 0 < found) }
         ensures won_own { IfOk result (λ block. FindsOwn self.old.heap.cells self.old.seat.log cell
             (contents_of block.1)) }
-        ensures won_knows { IfOk result (λ block. IsKnown self.old.heap.cells self.new.seat.log
+        ensures won_knows { IfOk result (λ block. KnowsPart self.old.heap.cells self.new.seat.log
             (locking place cell (entries_in (contents_of block.1))
             (known_seen self.old.heap.cells self.old.seat.log))) }
         ensures won_found { IfOk result (λ block.
             contents_locked self.new.seat.log ≡ Some (contents_of block.1)) }
-        ensures lost_knows { OnErr result (IsKnown self.old.heap.cells self.new.seat.log
+        ensures lost_knows { OnErr result (KnowsPart self.old.heap.cells self.new.seat.log
             (known_seen self.old.heap.cells self.old.seat.log)) }
         ensures lost_found { OnErr result
             (contents_locked self.new.seat.log ≡ contents_locked self.old.seat.log) }
-        ensures keeps { Keeps self.old.heap.cells self.old.seat.log self.new.seat.log }
+        ensures keeps { KeepsNotes self.old.heap.cells self.old.seat.log self.new.seat.log }
     {
         self.heap.table().lock(&mut self.seat, place, cell)
     }
@@ -103,17 +103,17 @@ impl<H: Home<A>, A: Allocator> Counter<H, A> {
     pub fn unlock(&mut self, block: Block<A>, change: Change)
         requires inside { block.0 < self.old.heap.cells }
         requires slot { self.old.seat.slots ≡ (block.0, None) ∷ rest self.old.seat.slots }
-        requires unlocks { Unlocks self.old.heap.cells self.old.seat.log (shows block)
+        requires unlocks { MayUnlock self.old.heap.cells self.old.seat.log (shows block)
             (found_locked self.old.seat.log) change block.0 }
         ensures heap { self.new.heap ≡ self.old.heap }
         ensures seat { Continues self.old.seat self.new.seat }
-        ensures told { self.new.seat.log ≡ told.Did (steps.Unlock change) 0
+        ensures told { self.new.seat.log ≡ told.Stepped (steps.Unlock change) 0
             (moves.Put block.0 (contents_of block.1)) ∷ self.old.seat.log }
         ensures home { self.new.seat.slots ≡ rest self.old.seat.slots }
-        ensures knows { IsKnown self.old.heap.cells self.new.seat.log
+        ensures knows { KnowsPart self.old.heap.cells self.new.seat.log
             (unlocking change block.0 (known_seen self.old.heap.cells self.old.seat.log)) }
         ensures found { contents_locked self.new.seat.log ≡ None }
-        ensures keeps { Keeps self.old.heap.cells self.old.seat.log self.new.seat.log }
+        ensures keeps { KeepsNotes self.old.heap.cells self.old.seat.log self.new.seat.log }
     {
         self.heap.table().unlock(&mut self.seat, block, change);
     }
@@ -121,13 +121,13 @@ impl<H: Home<A>, A: Allocator> Counter<H, A> {
     /// Takes the bits of one of the thread's queue words, each a cell of the heap.
     pub fn drain(&mut self, word: u32) -> u64
         requires inside { word < words_for self.old.heap.cells }
-        requires allowed { Allowed self.old.heap.cells self.old.seat.log (steps.Drain word) }
+        requires allowed { MayStep self.old.heap.cells self.old.seat.log (steps.Drain word) }
         ensures heap { self.new.heap ≡ self.old.heap }
-        ensures seat { Stays self.old.seat self.new.seat }
-        ensures told { self.new.seat.log ≡ told.Did (steps.Drain word) result moves.Nothing ∷ self.old.seat.log }
-        ensures knows { IsKnown self.old.heap.cells self.new.seat.log
+        ensures seat { IsSameSeat self.old.seat self.new.seat }
+        ensures told { self.new.seat.log ≡ told.Stepped (steps.Drain word) result moves.Nothing ∷ self.old.seat.log }
+        ensures knows { KnowsPart self.old.heap.cells self.new.seat.log
             (popping word result (known_seen self.old.heap.cells self.old.seat.log)) }
-        ensures keeps { Keeps self.old.heap.cells self.old.seat.log self.new.seat.log }
+        ensures keeps { KeepsNotes self.old.heap.cells self.old.seat.log self.new.seat.log }
         ensures cells { AreQueued self.old.heap.cells word result }
     {
         self.heap.table().drain(&mut self.seat, word)
@@ -135,13 +135,13 @@ impl<H: Home<A>, A: Allocator> Counter<H, A> {
 
     /// Takes what the thread was told to drain. Its own log before tells what lives.
     pub fn wake(&mut self) -> u64
-        requires allowed { Allowed self.old.heap.cells self.old.seat.log steps.Wake }
+        requires allowed { MayStep self.old.heap.cells self.old.seat.log steps.Wake }
         ensures heap { self.new.heap ≡ self.old.heap }
-        ensures seat { Stays self.old.seat self.new.seat }
-        ensures told { self.new.seat.log ≡ told.Did steps.Wake result moves.Nothing ∷ self.old.seat.log }
-        ensures knows { IsKnown self.old.heap.cells self.new.seat.log
+        ensures seat { IsSameSeat self.old.seat self.new.seat }
+        ensures told { self.new.seat.log ≡ told.Stepped steps.Wake result moves.Nothing ∷ self.old.seat.log }
+        ensures knows { KnowsPart self.old.heap.cells self.new.seat.log
             (known_seen self.old.heap.cells self.old.seat.log) }
-        ensures keeps { Keeps self.old.heap.cells self.old.seat.log self.new.seat.log }
+        ensures keeps { KeepsNotes self.old.heap.cells self.old.seat.log self.new.seat.log }
         ensures own { OwnLog self.old.heap.cells self.old.seat.log }
     {
         self.heap.table().wake(&mut self.seat)

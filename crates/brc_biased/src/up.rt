@@ -6,19 +6,19 @@ ghost use Rattle.brc_table.specs.law.world.declared.event.Dropped.TheVariants as
 ghost use Rattle.brc_table.specs.law.world.declared.event.Step.TheVariants as steps;
 ghost use Rattle.brc_table.specs.law.known.Going_On.{filling};
 ghost use Rattle.brc_table.specs.law.rule.declared.told.Moved.TheVariants as moves;
-ghost use Rattle.brc_table.specs.law.rule.declared.told.Told.TheVariants as told;
+ghost use Rattle.brc_table.specs.law.rule.declared.told.LogItem.TheVariants as told;
 ghost use Rattle.brc_table.specs.law.rule.Seen.{counts_seen, risen_seen, contents_locked};
-ghost use Rattle.brc_table.specs.Knowing.{known_seen, Keeps};
-ghost use Rattle.brc_table.specs.Seated.{Stays};
-ghost use Rattle.brc_biased.specs.Up.{Raising, CountsHere, RaisedImmortal, RaisedShared, IsKnown};
+ghost use Rattle.brc_table.specs.Knowing.{known_seen, KeepsNotes};
+ghost use Rattle.brc_table.specs.Seated.{IsSameSeat};
+ghost use Rattle.brc_biased.specs.Up.{Raising, CountsHere, RaisedImmortal, RaisedShared, KnowsPart};
 
 use crate::counter::Counter;
-use crate::home::Home;
+use crate::home::HasTable;
 use brc_table::law::world::Source;
 use brc_words::FIRST_MORTAL;
 use std::alloc::Allocator;
 
-impl<H: Home<A>, A: Allocator> Counter<H, A> {
+impl<H: HasTable<A>, A: Allocator> Counter<H, A> {
     #[tactic(auto, using(crate::proofs::Owning::owns_more))]
     /// Counts the cell up, in one event: an immortal by a look, an own object below the local limit on its local word,
     /// and all else on the shared word (PEP 703, "Biased Reference Counting"). It answers whether the shared word was
@@ -29,23 +29,23 @@ impl<H: Home<A>, A: Allocator> Counter<H, A> {
         requires raising { Raising self.old.heap.cells self.old.seat.log source place cell }
 
         ensures heap { self.new.heap ≡ self.old.heap }
-        ensures seat { Stays self.old.seat self.new.seat }
+        ensures seat { IsSameSeat self.old.seat self.new.seat }
 
         // Which of the three events it is.
         ensures immortal { cell < FIRST_MORTAL →
             RaisedImmortal source place self.old.seat.log self.new.seat.log }
         ensures own { FIRST_MORTAL ≤ cell →
             CountsHere self.old.heap.cells self.old.heap.local_limit self.old.seat.log cell →
-            self.new.seat.log ≡ told.Did (steps.LocalUp source place)
+            self.new.seat.log ≡ told.Stepped (steps.LocalUp source place)
             (counts_seen self.old.heap.cells self.old.seat.log cell + 1) moves.Nothing ∷ self.old.seat.log }
         ensures shared { FIRST_MORTAL ≤ cell →
             ¬ CountsHere self.old.heap.cells self.old.heap.local_limit self.old.seat.log cell →
             RaisedShared source place self.old.seat.log self.new.seat.log result }
 
         // What the thread knows then.
-        ensures knows { IsKnown self.old.heap.cells self.new.seat.log
+        ensures knows { KnowsPart self.old.heap.cells self.new.seat.log
             (filling place cell (known_seen self.old.heap.cells self.old.seat.log)) }
-        ensures keeps { Keeps self.old.heap.cells self.old.seat.log self.new.seat.log }
+        ensures keeps { KeepsNotes self.old.heap.cells self.old.seat.log self.new.seat.log }
         ensures found { contents_locked self.new.seat.log ≡ contents_locked self.old.seat.log }
         ensures risen { IsTrue result →
             risen_seen self.old.heap.cells self.new.seat.log (drops.Frame place) cell ≡ true }

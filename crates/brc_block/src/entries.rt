@@ -3,13 +3,13 @@
 ghost use Rattle.std.specs.Prelude.{◌≡◌, ℕ, ◌+◌, ◌<◌, ◌≤◌, ◌++◌, [], ◌∷◌, length, Some, OnOk, OnErr, OnSome, IfNone};
 ghost use Rattle.std.specs.Prelude.{slice_get, slice_set, remove};
 ghost use Rattle.std.specs.Option.{option_to_list};
-ghost use Rattle.brc_block.specs.Row.{Row};
+ghost use Rattle.brc_block.specs.Row.{RowSeen};
 
 use std::alloc::AllocError;
 
 /// Entries as cells, by index. One more goes in at the end.
 pub trait Entries: Drop {
-    ghost row: { Self → Row ℕ };
+    ghost row: { Self → RowSeen ℕ };
 
     fn len(&self) -> usize
         ensures { result ≡ length (row self.now).items };

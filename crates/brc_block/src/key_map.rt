@@ -25,9 +25,9 @@ impl<A: Allocator> Model for KeyMap<A> {
     ghost use Rattle.std.specs.Prelude.{ℕ};
     ghost use Rattle.brc_words.specs.declared.key.Key.{Key};
     ghost use Rattle.indexmap.specs.IndexMap.{spare};
-    ghost use Rattle.brc_block.specs.Row.{Row};
+    ghost use Rattle.brc_block.specs.Row.{RowSeen};
 
-    ghost Value = { Row (Key A × ℕ) };
+    ghost Value = { RowSeen (Key A × ℕ) };
 
     ghost view = { λ m. record {
       items = m.map.entries;

@@ -22,9 +22,9 @@ pub struct Letters<A: Allocator> {
 impl<A: Allocator> Model for Letters<A> {
     ghost use Rattle.std.specs.Prelude.{ℕ, ◌-◌};
     ghost use Rattle.std.specs.VecDeque.{deque_items, deque_len, deque_capacity};
-    ghost use Rattle.brc_block.specs.Row.{Row};
+    ghost use Rattle.brc_block.specs.Row.{RowSeen};
 
-    ghost Value = { Row ℕ };
+    ghost Value = { RowSeen ℕ };
 
     ghost view = { λ l. record {
       items = deque_items l.queue.value;

@@ -6,7 +6,7 @@
 #![tactic(auto)]
 
 mod block;
-mod cells;
+mod cell_list;
 mod entries;
 mod key_map;
 mod key_ref;
@@ -16,7 +16,7 @@ mod payload;
 mod worklist;
 
 pub use block::Block;
-pub use cells::Cells;
+pub use cell_list::CellList;
 pub use entries::Entries;
 pub use key_ref::KeyRef;
 pub use letters::Letters;

@@ -24,10 +24,10 @@ pub struct Pairs<A: Allocator> {
 impl<A: Allocator> Model for Pairs<A> {
     ghost use Rattle.std.specs.Prelude.{ℕ};
     ghost use Rattle.brc_words.specs.declared.key.Key.{Key};
-    ghost use Rattle.brc_block.specs.Row.{Row};
+    ghost use Rattle.brc_block.specs.Row.{RowSeen};
     ghost use Rattle.brc_block.specs.Pairs.{row_of};
 
-    ghost Value = { Row (Key A × ℕ) };
+    ghost Value = { RowSeen (Key A × ℕ) };
 
     ghost view = { λ p. row_of p.map };
 }

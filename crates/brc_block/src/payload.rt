@@ -6,7 +6,7 @@ ghost use Rattle.std.specs.Option.{option_to_list};
 ghost use Rattle.brc_words.specs.Kinds.{is_container};
 ghost use Rattle.brc_words.specs.declared.kind.Kind.TheVariants as kinds;
 
-use crate::cells::Cells;
+use crate::cell_list::CellList;
 use crate::entries::Entries;
 use crate::letters::Letters;
 use crate::pairs::Pairs;
@@ -18,7 +18,7 @@ use std::alloc::{AllocError, Allocator};
 pub enum Payload<A: Allocator> {
     Int(i64),
     Text(Text<A>),
-    List(Cells<A>),
+    List(CellList<A>),
     Dict(Pairs<A>),
     Mailbox(Letters<A>),
     Nothing,

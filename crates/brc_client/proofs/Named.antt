@@ -6,7 +6,7 @@ use Rattle.std.specs.Prelude.{MatchOption, Result}
 use Rattle.std.specs.Option.{IfSome}
 use Rattle.std.specs.declared.alloc.Global.{Global}
 use Rattle.brc_words.specs.declared.fault.Fault.{Fault}
-use Rattle.brc_count.specs.declared.handed.Handed.{Handed}
+use Rattle.brc_count.specs.declared.handed.HandedBack.{HandedBack}
 use Rattle.brc_count.specs.Frames.{FrameSeen, HandleSeen}
 use Rattle.brc_handles.specs.Handles.{slot}
 use Rattle.brc_client.specs.declared.status.Status.TheVariants as statuses
@@ -139,7 +139,7 @@ pub came_names : (client : ClientSeen) (place : ℕ) (result : Option ℕ) → p
 came_names client place result inside told = came_from client place result inside (slot client.handles place) refl told
 
 -- a call by place was refused, so one by numbers is
-pub refused : (call : FrameSeen Global → ℕ → HandleSeen → Result (Option HandleSeen) (Handed HandleSeen) → Type 0)
+pub refused : (call : FrameSeen Global → ℕ → HandleSeen → Result (Option HandleSeen) (HandedBack HandleSeen) → Type 0)
     (old new : ClientSeen) (container value into from : ℕ) (fault : Fault) → into ≡ place_in container
     → from ≡ place_in value → Names old container → Names old value → into ≢ from
     → TakesNot call old.frame new.frame old.handles into from fault

@@ -6,8 +6,8 @@ use Rattle.brc_words.specs.declared.fault.Fault.{Fault}
 use Rattle.brc_words.specs.declared.key.Key.{Key}
 use Rattle.brc_count.specs.law.world.declared.event.Source.TheVariants as sources
 use Rattle.brc_count.specs.law.rule.declared.contents.Contents.TheVariants as contents
-use Rattle.brc_count.specs.declared.handed.Handed.{Handed}
-use Rattle.brc_count.specs.Frames.{FrameSeen, HandleSeen, Given, Refused, IsAsBefore, place_seen}
+use Rattle.brc_count.specs.declared.handed.HandedBack.{HandedBack}
+use Rattle.brc_count.specs.Frames.{FrameSeen, HandleSeen, GivenHandle, Refused, IsAsBefore, place_seen}
 use Rattle.brc_count.specs.Locking.{cell_in}
 use Rattle.brc_count.specs.Owned.{Loses}
 use Rattle.brc_containers.specs.Looking.{LooksAt, RefusedCopy, IsText}
@@ -49,7 +49,7 @@ pub record Adds (call : FrameSeen Global → Result HandleSeen Fault → Type 0)
 pub record Retained (old : FrameSeen Global) (k : ℕ) (new : FrameSeen Global) (result : Result HandleSeen Fault)
     : Type 0 where
   pub given : IfOk result (λ given. (c : ℕ) → place_seen old.heap.cells old.seat.log k ≡ Some c
-      → Given old new (sources.Frame k) c given)
+      → GivenHandle old new (sources.Frame k) c given)
   pub refused : IfErr result (Refused old)
   pub unchanged : OnErr result (IsAsBefore old new)
 
@@ -72,7 +72,7 @@ pub record Releases (old new : ClientSeen) (number : ℕ) : Type 0 where
 
 -- The reference of one number went by the call into the object of another. Its place has what came out for it, under a
 -- number of its own, or is empty.
-pub record PutsIn (call : ℕ → HandleSeen → Result (Option HandleSeen) (Handed HandleSeen) → Type 0)
+pub record PutsIn (call : ℕ → HandleSeen → Result (Option HandleSeen) (HandedBack HandleSeen) → Type 0)
     (old new : ClientSeen) (container value : ℕ) (result : Option ℕ) : Type 0 where
   pub object : HandleSeen
   pub names_object : NamesAs old container object
@@ -89,15 +89,15 @@ pub record PutsIn (call : ℕ → HandleSeen → Result (Option HandleSeen) (Han
 
 -- Why it didn't: the container's number names none, then the value's; or they are one number: nothing was done. Or the
 -- heap refused, and the value has its number still.
-pub data PutsNot (call : ℕ → HandleSeen → Result (Option HandleSeen) (Handed HandleSeen) → Type 0)
+pub data PutsNot (call : ℕ → HandleSeen → Result (Option HandleSeen) (HandedBack HandleSeen) → Type 0)
     (old new : ClientSeen) (container value : ℕ) (status : Status) : Type 0 where
   ContainerUnnamed : NamesNone old container status → new ≡ old → PutsNot call old new container value status
   ValueUnnamed : Names old container → NamesNone old value status → new ≡ old
       → PutsNot call old new container value status
   OneNumber : Names old container → container ≡ value → status ≡ statuses.Same → new ≡ old
       → PutsNot call old new container value status
-  ValueRefused : (object given : HandleSeen) (handed : Handed HandleSeen) → NamesAs old container object
-      → NamesAs old value given → container ≢ value → status ≡ statuses.Fault handed.fault → handed.back ≡ given
+  ValueRefused : (object given : HandleSeen) (handed : HandedBack HandleSeen) → NamesAs old container object
+      → NamesAs old value given → container ≢ value → status ≡ statuses.Fault handed.fault → handed.value ≡ given
       → call object.place given (Err handed) → PutsNot call old new container value status
 
 -- ---- a look

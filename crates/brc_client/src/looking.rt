@@ -11,7 +11,7 @@ ghost use Rattle.brc_client.specs.Calls.{OfNamed, RefusedOf, Looks, Reads, IsOne
 use crate::client::Client;
 use crate::status::Status;
 use brc_containers::{try_int_of, try_kind_of, try_len_of, try_text_into};
-use brc_heap::{is_same, truth_of};
+use brc_heap::{same_object, truth_of};
 use brc_words::Kind;
 
 impl Client {
@@ -123,6 +123,6 @@ impl Client {
         let Some(second) = self.handles.get(second) else {
             unreachable!()
         };
-        Ok(is_same(self.mutator.frame(), first, second))
+        Ok(same_object(self.mutator.frame(), first, second))
     }
 }

@@ -31,10 +31,10 @@ use Rattle.brc_report.specs.Reports.{IsReport, are_contents}
 use Rattle.brc_report.proofs.Coming_Back.{held_well, runs_into}
 use Rattle.brc_thread.specs.Counting.{registrations, gatherings, births_of_all, frees_of_all, in_u32, in_u64}
 use Rattle.brc_thread.specs.Emptied.{AllGathered, blocks_in, is_used}
-use Rattle.brc_thread.specs.Ending.{Ends}
+use Rattle.brc_thread.specs.Ending.{IsLastState}
 use Rattle.brc_thread.proofs.At_Home.{IsIdle, root_rests, all_idle}
 use Rattle.brc_close.specs.Contents.{live_cells, contents_of_heap, contents_in}
-use Rattle.brc_close.specs.Closing.{Closes, Reports}
+use Rattle.brc_close.specs.Closing.{IsReportOfEnd, Reports}
 use Rattle.brc_close.proofs.Mortal_Kinds.{kind_mortal}
 use Rattle.brc_close.proofs.Held.{held_by_entry, holder_used}
 use Rattle.brc_close.proofs.Listing.{contents_shown, holder_among, Remaining, all_remain, contents_begin, live_beside}
@@ -50,7 +50,7 @@ within : (n : ℕ) → n < 18446744073709551616 → in_u64 n ≡ n
 within n low = omega (arith, low)
 
 module _ {A : Type 0} (n limit id : ℕ) (root : View) (slots : List (Option (ℕ × Payload A)))
-    (ends : Ends n limit id root slots)
+    (ends : IsLastState n limit id root slots)
     (same : registrations root ≡ gatherings root) where
   abbrev run : Run
   run = ends.remains.kept.run
@@ -150,7 +150,7 @@ module _ {A : Type 0} (n limit id : ℕ) (root : View) (slots : List (Option (�
 
   pub closes_so : (ledger : Ledger) (report : Report A) → ledger.allocs ≡ in_u64 (births_of_all root.gathered)
       → ledger.frees ≡ in_u64 (frees_of_all root.gathered)
-      → Reports ledger (contents_in (blocks_in slots)) report → Closes n limit root report
+      → Reports ledger (contents_in (blocks_in slots)) report → IsReportOfEnd n limit root report
   closes_so ledger report births deaths reports =
       let all_births = ends.births everyone in
       let all_deaths = ends.frees everyone in

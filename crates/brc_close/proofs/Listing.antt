@@ -25,7 +25,7 @@ use Rattle.brc_report.specs.Reports.{rises, are_contents}
 use Rattle.brc_count.specs.law.rule.Logs.{Run, kind_in, entries_in, contents_at}
 use Rattle.brc_count.specs.table.Shown.{contents_of}
 use Rattle.brc_thread.proofs.Payloads.{entries_shown, kind_shown}
-use Rattle.brc_thread.specs.Emptied.{is_used, used_from, blocks_in, HasBlock, AllAtHome}
+use Rattle.brc_thread.specs.Emptied.{is_used, used_from, blocks_in, SlotHas, AllAtHome}
 use Rattle.brc_close.specs.Contents.{live_from, live_cells, content_at, contents_of_heap, content_in, contents_in}
 
 -- ---- what blocks show
@@ -87,7 +87,7 @@ module _ {A : Type 0} where
         ]
       ]
     where
-      by_block : HasBlock slots i (contents_at run i) → contents_of block.1 ≡ contents_at run block.0
+      by_block : SlotHas slots i (contents_at run i) → contents_of block.1 ≡ contents_at run block.0
       by_block has =
           let same : (i, has.payload) ≡ block = one_block slots i block (i, has.payload) there has.there in
           ap (λ (b : ℕ × Payload A). contents_of b.1) (sym same) ∙ has.holds

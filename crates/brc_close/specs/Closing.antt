@@ -25,7 +25,7 @@ module _ {A : Type 0} where
   -- what all registrations did, also those whose numbers were used again, and births less frees are the live objects;
   -- the contents are those that were put home last in the globals and in each live mortal cell; the remains are exactly
   -- these mortal cells; and all cycles of theirs are named.
-  pub record Closes (n limit : ℕ) (root : View) (report : Report A) : Type 0 where
+  pub record IsReportOfEnd (n limit : ℕ) (root : View) (report : Report A) : Type 0 where
     pub run : Run
     pub legal : IsLegal n limit run
     pub root_did : own_of 0 run ≡ root.log

@@ -5,7 +5,7 @@ ghost use Rattle.brc_thread.specs.Counting.{registrations, gatherings};
 ghost use Rattle.brc_report.specs.Holding.{remains_of};
 ghost use Rattle.brc_report.specs.Spelled.{all_spelled};
 ghost use Rattle.brc_report.specs.declared.content.Remain.{Remain as TheRemain};
-ghost use Rattle.brc_close.specs.Closing.{Closes, Reports, StaysOpen};
+ghost use Rattle.brc_close.specs.Closing.{IsReportOfEnd, Reports, StaysOpen};
 
 use crate::collecting::collect;
 use brc_report::{Content, Ledger, Report, find_cycles, find_remains};
@@ -64,7 +64,7 @@ pub fn close<A: Allocator + Copy>(
     root: Root<A>,
 ) -> Result<Report<A>, CloseFault<A>>
     requires heap { root.table ≡ heap.table }
-    ensures report { IfOk result (Closes heap.cells heap.local_limit root.view) }
+    ensures report { IfOk result (IsReportOfEnd heap.cells heap.local_limit root.view) }
     ensures all { OnOk result (registrations root.view ≡ gatherings root.view) }
     ensures open { IfErr result (StaysOpen heap root) }
 {

@@ -2,7 +2,7 @@
 
 ghost use Rattle.std.specs.Prelude.{◌≡◌, IfOk, IfErr, OnOk};
 ghost use Rattle.brc_thread.specs.Counting.{registrations, gatherings};
-ghost use Rattle.brc_close.specs.Closing.{Closes};
+ghost use Rattle.brc_close.specs.Closing.{IsReportOfEnd};
 ghost use Rattle.brc_close.specs.Ending.{HasOneTable, reason_of, LacksReport};
 
 use crate::closing::{CloseFault, close};
@@ -54,7 +54,7 @@ pub fn close_or_end<A: Allocator + Copy>(
     root: Root<A>,
 ) -> Result<Report<A>, NoReport>
     requires heap { root.table ≡ heap.table }
-    ensures report { IfOk result (Closes heap.cells heap.local_limit root.view) }
+    ensures report { IfOk result (IsReportOfEnd heap.cells heap.local_limit root.view) }
     ensures all { OnOk result (registrations root.view ≡ gatherings root.view) }
     ensures none { IfErr result (LacksReport root) }
 {

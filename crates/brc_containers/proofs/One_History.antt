@@ -12,21 +12,22 @@ use Rattle.brc_count.specs.law.known.Items.{is_start, is_used}
 use Rattle.brc_count.specs.law.rule.declared.contents.Contents.{Contents}
 use Rattle.brc_count.specs.law.rule.declared.told.Moved.{Moved}
 use Rattle.brc_count.specs.law.rule.declared.told.Moved.TheVariants as moves
-use Rattle.brc_count.specs.law.rule.declared.told.Told.{Told}
-use Rattle.brc_count.specs.law.rule.declared.told.Told.TheVariants.{Did, Saw, Lost}
+use Rattle.brc_count.specs.law.rule.declared.told.LogItem.{LogItem}
+use Rattle.brc_count.specs.law.rule.declared.told.LogItem.TheVariants.{Stepped, Loaded, Lost}
 use Rattle.brc_count.specs.law.rule.Logs.{Run, item_of, items_of, own_of, all_of, begins, world, contents_at, puts, MovesWith}
 use Rattle.brc_count.specs.law.rule.Logs.{IsMoved, IsLegal}
 use Rattle.brc_count.specs.law.rule.Seen.{contents_on, contents_locked}
 use Rattle.brc_count.proofs.law.rule.Locked_Contents.{locked_contents}
 use Rattle.brc_count.proofs.law.rule.Own_Logs.{own_more, own_same}
-use Rattle.brc_containers.specs.History.{Call, Bears, Changes, IsSequential, Extends, left_by, with_step, with_call}
+use Rattle.brc_containers.specs.History.{ContainerCall, Bears, Changes, IsSequential, Extends, left_by, with_step}
+use Rattle.brc_containers.specs.History.{with_call}
 use Rattle.brc_containers.specs.History.{history_of, own_history, calls_of}
 
 none_some : {X : Type 0} (x : X) → None ≡ Some x → ⊥
 none_some x bad = absurd (cc)
 
 -- the run without its newest item is legal
-older_legal : (n limit : ℕ) (x : ℕ × Told) (run : Run) → IsLegal n limit (x ∷ run) → IsLegal n limit run
+older_legal : (n limit : ℕ) (x : ℕ × LogItem) (run : Run) → IsLegal n limit (x ∷ run) → IsLegal n limit run
 older_legal n limit x run legal = record { items = legal.items.0; moved = legal.moved.0 }
 
 pub earlier_legal : (n limit : ℕ) (later run : Run) → IsLegal n limit (later ++ run) → IsLegal n limit run
@@ -36,25 +37,25 @@ earlier_legal n limit (x ∷ later) run legal = earlier_legal n limit later run
 
 -- ---- what stands there is what the last call put home
 
-step_leaves : (h : Heap) (c t d : ℕ) (s : Step) (found : Option Contents) (put : Contents) (older : List Call)
+step_leaves : (h : Heap) (c t d : ℕ) (s : Step) (found : Option Contents) (put : Contents) (older : List ContainerCall)
     → puts h t s ≡ Some d
     → put ≡ left_by c (with_step t s found put older)
 step_leaves h c t d (Birth e kind k) found put older is = refl
 step_leaves h c t d (Unlock change) found put older is = refl
 step_leaves h c t d _ found put older is = absurd (none_some d is)
 
-call_leaves : (h : Heap) (run : Run) (c t : ℕ) (x : Told) (found : Option Contents) (older : List Call)
+call_leaves : (h : Heap) (run : Run) (c t : ℕ) (x : LogItem) (found : Option Contents) (older : List ContainerCall)
     → IsMoved h run t x
     → contents_at run c ≡ left_by c older → contents_at ((t, x) ∷ run) c ≡ left_by c (with_call c t x found older)
-call_leaves h run c t (Did s number moves.Nothing) found older goes before = before
-call_leaves h run c t (Did s number (moves.Found d contents)) found older goes before = before
-call_leaves h run c t (Did s number (moves.Put d put)) found older goes before = by_test (d == c)
+call_leaves h run c t (Stepped s number moves.Nothing) found older goes before = before
+call_leaves h run c t (Stepped s number (moves.Found d contents)) found older goes before = before
+call_leaves h run c t (Stepped s number (moves.Put d put)) found older goes before = by_test (d == c)
   where
     by_test : (here : Bool) → (if here then put else contents_at run c) ≡ left_by c
         (if here then with_step t s found put older else older)
     by_test true = step_leaves h c t d s found put older goes.cell
     by_test false = before
-call_leaves h run c t (Saw word number) found older goes before = before
+call_leaves h run c t (Loaded word number) found older goes before = before
 call_leaves h run c t (Lost word number) found older goes before = before
 
 pub last_stands : (n limit : ℕ) (run : Run) (c : ℕ) → IsLegal n limit run
@@ -73,12 +74,12 @@ unlocker h (suc t) change on = omega arith
 
 module _ (n limit : ℕ) where
   step_follows : (run : Run) (c t d : ℕ) (s : Step) (number : ℕ) (put : Contents) → AreOptions n limit
-      → IsLegal n limit ((t, Did s number (moves.Put d put)) ∷ run)
+      → IsLegal n limit ((t, Stepped s number (moves.Put d put)) ∷ run)
       → d ≡ c → IsSequential c (history_of c run)
       → IsSequential c (with_step t s (contents_locked (own_of t run)) put (history_of c run))
   step_follows run c t d (Birth e kind k) number put options legal here before = (before, tt)
   step_follows run c t d (Unlock change) number put options legal here before =
-      let older : IsLegal n limit run = older_legal n limit (t, Did (Unlock change) number (moves.Put d put))
+      let older : IsLegal n limit run = older_legal n limit (t, Stepped (Unlock change) number (moves.Put d put))
       run legal in
       let stands : contents_at run d ≡ left_by c (history_of c run) = ap (contents_at run) here
       ∙ last_stands n limit run c older in (
@@ -91,19 +92,19 @@ module _ (n limit : ℕ) where
       )
   step_follows run c t d _ number put options legal here before = before
 
-  call_follows : (run : Run) (c t : ℕ) (x : Told) → AreOptions n limit → IsLegal n limit ((t, x) ∷ run)
+  call_follows : (run : Run) (c t : ℕ) (x : LogItem) → AreOptions n limit → IsLegal n limit ((t, x) ∷ run)
       → IsSequential c (history_of c run)
       → IsSequential c (with_call c t x (contents_locked (own_of t run)) (history_of c run))
-  call_follows run c t (Did s number moves.Nothing) options legal before = before
-  call_follows run c t (Did s number (moves.Found d contents)) options legal before = before
-  call_follows run c t (Did s number (moves.Put d put)) options legal before = by_test (d == c) (eqb-true d c)
+  call_follows run c t (Stepped s number moves.Nothing) options legal before = before
+  call_follows run c t (Stepped s number (moves.Found d contents)) options legal before = before
+  call_follows run c t (Stepped s number (moves.Put d put)) options legal before = by_test (d == c) (eqb-true d c)
     where
       by_test : (here : Bool) → (here ≡ true → d ≡ c)
           → IsSequential c (if here then with_step t s (contents_locked (own_of t run)) put
           (history_of c run) else history_of c run)
       by_test true is = step_follows run c t d s number put options legal (is refl) before
       by_test false is = before
-  call_follows run c t (Saw word number) options legal before = before
+  call_follows run c t (Loaded word number) options legal before = before
   call_follows run c t (Lost word number) options legal before = before
 
   pub is_sequential : (run : Run) (c : ℕ) → AreOptions n limit → IsLegal n limit run → IsSequential c (history_of c run)
@@ -113,25 +114,25 @@ module _ (n limit : ℕ) where
 
 -- ---- what comes later stands after it
 
-step_adds : (t : ℕ) (s : Step) (found : Option Contents) (put : Contents) (older : List Call)
+step_adds : (t : ℕ) (s : Step) (found : Option Contents) (put : Contents) (older : List ContainerCall)
     → Extends older (with_step t s found put older)
 step_adds t (Birth c kind k) found put older = (Bears t put ∷ [], refl)
 step_adds t (Unlock change) found put older = (Changes t change found put ∷ [], refl)
 step_adds t _ found put older = ([], refl)
 
-call_adds : (c t : ℕ) (x : Told) (found : Option Contents) (older : List Call)
+call_adds : (c t : ℕ) (x : LogItem) (found : Option Contents) (older : List ContainerCall)
     → Extends older (with_call c t x found older)
-call_adds c t (Did s number moves.Nothing) found older = ([], refl)
-call_adds c t (Did s number (moves.Found d contents)) found older = ([], refl)
-call_adds c t (Did s number (moves.Put d put)) found older = by_test (d == c)
+call_adds c t (Stepped s number moves.Nothing) found older = ([], refl)
+call_adds c t (Stepped s number (moves.Found d contents)) found older = ([], refl)
+call_adds c t (Stepped s number (moves.Put d put)) found older = by_test (d == c)
   where
     by_test : (here : Bool) → Extends older (if here then with_step t s found put older else older)
     by_test true = step_adds t s found put older
     by_test false = ([], refl)
-call_adds c t (Saw word number) found older = ([], refl)
+call_adds c t (Loaded word number) found older = ([], refl)
 call_adds c t (Lost word number) found older = ([], refl)
 
-extends_on : (old mid new : List Call) → Extends old mid → Extends mid new → Extends old new
+extends_on : (old mid new : List ContainerCall) → Extends old mid → Extends mid new → Extends old new
 extends_on old mid new first second =
     (second.0 ++ first.0, second.1 ∙ ap (λ calls. second.0 ++ calls) first.1 ∙ sym (append_assoc second.0 first.0 old))
 
@@ -142,22 +143,22 @@ later_extends (x ∷ later) run c =
     (later_extends later run c)
     (call_adds c x.0 x.1 (contents_locked (own_of x.0 (later ++ run))) (history_of c (later ++ run)))
 
-front_sequential : (c : ℕ) (more older : List Call) → IsSequential c (more ++ older) → IsSequential c older
+front_sequential : (c : ℕ) (more older : List ContainerCall) → IsSequential c (more ++ older) → IsSequential c older
 front_sequential c [] older is = is
 front_sequential c (call ∷ more) older is = front_sequential c more older is.0
 
-pub fronts_sequential : (c : ℕ) (older newer : List Call) → Extends older newer → IsSequential c newer
+pub fronts_sequential : (c : ℕ) (older newer : List ContainerCall) → Extends older newer → IsSequential c newer
     → IsSequential c older
 fronts_sequential c older newer extends is = front_sequential c extends.0 older (subst (IsSequential c) extends.1 is)
 
 -- ---- a thread's own calls
 
 -- its own call joins its calls
-mine_joins : (c t : ℕ) (x : Told) (found : Option Contents) (older : List Call)
+mine_joins : (c t : ℕ) (x : LogItem) (found : Option Contents) (older : List ContainerCall)
     → calls_of t (with_call c t x found older) ≡ with_call c t x found (calls_of t older)
-mine_joins c t (Did s number moves.Nothing) found older = refl
-mine_joins c t (Did s number (moves.Found d contents)) found older = refl
-mine_joins c t (Did s number (moves.Put d put)) found older = by_test (d == c)
+mine_joins c t (Stepped s number moves.Nothing) found older = refl
+mine_joins c t (Stepped s number (moves.Found d contents)) found older = refl
+mine_joins c t (Stepped s number (moves.Put d put)) found older = by_test (d == c)
   where
     by_step : (s : Step) → calls_of t (with_step t s found put older) ≡ with_step t s found put (calls_of t older)
     by_step (Birth e kind k) = ap (λ b. if b then Bears t put ∷ calls_of t older else calls_of t older)
@@ -170,15 +171,15 @@ mine_joins c t (Did s number (moves.Put d put)) found older = by_test (d == c)
         ≡ (if here then with_step t s found put (calls_of t older) else calls_of t older)
     by_test true = by_step s
     by_test false = refl
-mine_joins c t (Saw word number) found older = refl
+mine_joins c t (Loaded word number) found older = refl
 mine_joins c t (Lost word number) found older = refl
 
 -- another's doesn't
-other_passes : (c t u : ℕ) (x : Told) (found : Option Contents) (older : List Call) → u ≢ t
+other_passes : (c t u : ℕ) (x : LogItem) (found : Option Contents) (older : List ContainerCall) → u ≢ t
     → calls_of t (with_call c u x found older) ≡ calls_of t older
-other_passes c t u (Did s number moves.Nothing) found older apart = refl
-other_passes c t u (Did s number (moves.Found d contents)) found older apart = refl
-other_passes c t u (Did s number (moves.Put d put)) found older apart = by_test (d == c)
+other_passes c t u (Stepped s number moves.Nothing) found older apart = refl
+other_passes c t u (Stepped s number (moves.Found d contents)) found older apart = refl
+other_passes c t u (Stepped s number (moves.Put d put)) found older apart = by_test (d == c)
   where
     by_step : (s : Step) → calls_of t (with_step u s found put older) ≡ calls_of t older
     by_step (Birth e kind k) = ap (λ b. if b then Bears u put ∷ calls_of t older else calls_of t older)
@@ -190,23 +191,24 @@ other_passes c t u (Did s number (moves.Put d put)) found older apart = by_test 
     by_test : (here : Bool) → calls_of t (if here then with_step u s found put older else older) ≡ calls_of t older
     by_test true = by_step s
     by_test false = refl
-other_passes c t u (Saw word number) found older apart = refl
+other_passes c t u (Loaded word number) found older apart = refl
 other_passes c t u (Lost word number) found older apart = refl
 
 -- ---- what a registration's log says of a lock, the log of all says too
 
-on_front : (x : Told) (a b : Option Contents) → ((p : Contents) → a ≡ Some p → b ≡ Some p) → (p : Contents)
+on_front : (x : LogItem) (a b : Option Contents) → ((p : Contents) → a ≡ Some p → b ≡ Some p) → (p : Contents)
     → contents_on x a ≡ Some p → contents_on x b ≡ Some p
-on_front (Did (Lock k) number (moves.Found c contents)) a b more p is = is
-on_front (Did (Unlock change) number moved) a b more p is = absurd (none_some p is)
+on_front (Stepped (Lock k) number (moves.Found c contents)) a b more p is = is
+on_front (Stepped (Unlock change) number moved) a b more p is = absurd (none_some p is)
 on_front _ a b more p is = more p is
 
-none_begun : (t : ℕ) (x : Told) (used : Bool) → is_start t (item_of x) ≡ true → contents_locked (begins used x) ≡ None
-none_begun t (Did (Register v) number moved) true starts = refl
-none_begun t (Did (Register v) number moved) false starts = refl
-none_begun t (Saw word number) used starts = absurd (true≢false (sym starts))
+none_begun : (t : ℕ) (x : LogItem) (used : Bool) → is_start t (item_of x) ≡ true
+    → contents_locked (begins used x) ≡ None
+none_begun t (Stepped (Register v) number moved) true starts = refl
+none_begun t (Stepped (Register v) number moved) false starts = refl
+none_begun t (Loaded word number) used starts = absurd (true≢false (sym starts))
 none_begun t (Lost word number) used starts = absurd (true≢false (sym starts))
-none_begun t (Did _ number moved) used starts = absurd (true≢false (sym starts))
+none_begun t (Stepped _ number moved) used starts = absurd (true≢false (sym starts))
 
 locked_front : (t : ℕ) (run : Run) (p : Contents) → contents_locked (own_of t run) ≡ Some p
     → contents_locked (all_of t run) ≡ Some p
@@ -232,30 +234,32 @@ locked_front t (x ∷ run) p is = elim (cases_Bool (is_start t (item_of x.1))) [
 
 module _ (n limit : ℕ) where
   -- an unlocking found the same by both
-  step_alike : (run : Run) (t d : ℕ) (s : Step) (number : ℕ) (put : Contents) (older : List Call) → AreOptions n limit
-      → IsLegal n limit ((t, Did s number (moves.Put d put)) ∷ run)
+  step_alike : (run : Run) (t d : ℕ) (s : Step) (number : ℕ) (put : Contents) (older : List ContainerCall)
+      → AreOptions n limit
+      → IsLegal n limit ((t, Stepped s number (moves.Put d put)) ∷ run)
       → with_step t s (contents_locked (own_of t run)) put older
       ≡ with_step t s (contents_locked (all_of t run)) put older
   step_alike run t d (Unlock change) number put older options legal =
       let was : contents_locked (own_of t run) ≡ Some (contents_at run d) =
-      locked_contents n limit run t d options (older_legal n limit (t, Did (Unlock change) number (moves.Put d put)) run
+      locked_contents n limit run t d options
+      (older_legal n limit (t, Stepped (Unlock change) number (moves.Put d put)) run
       legal) (unlocker (world n limit run) t change legal.items.1.0) legal.moved.1.cell in
       ap (λ found. Changes t change found put ∷ older) (was ∙ sym (locked_front t run (contents_at run d) was))
   step_alike run t d (Birth e kind k) number put older options legal = refl
   step_alike run t d _ number put older options legal = refl
 
-  call_alike : (run : Run) (c t : ℕ) (x : Told) (older : List Call) → AreOptions n limit
+  call_alike : (run : Run) (c t : ℕ) (x : LogItem) (older : List ContainerCall) → AreOptions n limit
       → IsLegal n limit ((t, x) ∷ run)
       → with_call c t x (contents_locked (own_of t run)) older ≡ with_call c t x (contents_locked (all_of t run)) older
-  call_alike run c t (Did s number moves.Nothing) older options legal = refl
-  call_alike run c t (Did s number (moves.Found d contents)) older options legal = refl
-  call_alike run c t (Did s number (moves.Put d put)) older options legal = by_test (d == c)
+  call_alike run c t (Stepped s number moves.Nothing) older options legal = refl
+  call_alike run c t (Stepped s number (moves.Found d contents)) older options legal = refl
+  call_alike run c t (Stepped s number (moves.Put d put)) older options legal = by_test (d == c)
     where
       by_test : (here : Bool) → (if here then with_step t s (contents_locked (own_of t run)) put older else older)
           ≡ (if here then with_step t s (contents_locked (all_of t run)) put older else older)
       by_test true = step_alike run t d s number put older options legal
       by_test false = refl
-  call_alike run c t (Saw word number) older options legal = refl
+  call_alike run c t (Loaded word number) older options legal = refl
   call_alike run c t (Lost word number) older options legal = refl
 
   -- ---- the calls of one number, of all its registrations

@@ -4,11 +4,11 @@
 -- (`brc_count`, `specs/Owned.antt`).
 use Rattle.std.specs.Prelude.{ℕ, Result, IfOk, IfErr, OnErr}
 use Rattle.brc_words.specs.declared.fault.Fault.{Fault}
-use Rattle.brc_count.specs.declared.handed.Handed.{Handed}
+use Rattle.brc_count.specs.declared.handed.HandedBack.{HandedBack}
 use Rattle.brc_count.specs.Frames.{FrameSeen}
 use Rattle.brc_count.specs.Locking.{KeepsThread, KeepsFrame}
 use Rattle.brc_lock.specs.Waiting.{Waits}
-use Rattle.brc_containers.specs.Changing.{KeepsPlaces}
+use Rattle.brc_containers.specs.Changing.{KeepsAllPlaces}
 
 module _ {A : Type 0} where
   -- so after some tries, each of which found the object in the place locked by another thread, and changed nothing
@@ -30,12 +30,12 @@ module _ {A : Type 0} where
       (result : Result T Fault) : Type 0 where
     pub thread : KeepsThread old new
     pub did : IfOk result done
-    pub places : OnErr result (KeepsPlaces old new)
+    pub places : OnErr result (KeepsAllPlaces old new)
     pub refused : IfErr result why
 
   -- A call that a value is given to. This was done; or the call was refused, and why, and the frame is as it was.
   pub record TakesIn {T V : Type 0} (old new : FrameSeen A) (done : T → Type 0) (why : Fault → Type 0)
-      (result : Result T (Handed V)) : Type 0 where
+      (result : Result T (HandedBack V)) : Type 0 where
     pub thread : KeepsThread old new
     pub did : IfOk result done
     pub frame : OnErr result (KeepsFrame old new)

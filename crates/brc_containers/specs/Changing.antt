@@ -10,9 +10,9 @@ use Rattle.brc_count.specs.law.world.declared.event.Source.TheVariants as source
 use Rattle.brc_count.specs.law.world.declared.event.Step.TheVariants.{Lock, Unlock}
 use Rattle.brc_count.specs.law.rule.declared.contents.Contents.{Contents}
 use Rattle.brc_count.specs.law.rule.declared.told.Moved.TheVariants as moves
-use Rattle.brc_count.specs.law.rule.declared.told.Told.TheVariants.{Did}
+use Rattle.brc_count.specs.law.rule.declared.told.LogItem.TheVariants.{Stepped}
 use Rattle.brc_count.specs.law.rule.Logs.{entries_in}
-use Rattle.brc_count.specs.Frames.{FrameSeen, HandleSeen, IsUnlocked, Given, Refused}
+use Rattle.brc_count.specs.Frames.{FrameSeen, HandleSeen, IsUnlocked, GivenHandle, Refused}
 use Rattle.brc_count.specs.Locking.{Busy, KeepsThread, KeepsFrame, ChangesPlace, cell_in}
 
 -- A call on plain data: what is found goes in; the answer and what is left come out, or why there is none.
@@ -26,13 +26,14 @@ module _ {A : Type 0} where
       (put : Contents) : Type 0 where
     pub cell : ℕ
     pub of_place : cell_in old k ≡ Some cell
-    pub events : new.seat.log ≡ Did (Unlock change) 0 (moves.Put cell put) ∷ Did (Lock k) 0 (moves.Found cell found)
+    pub events : new.seat.log ≡ Stepped (Unlock change) 0 (moves.Put cell put) ∷ Stepped (Lock k) 0
+        (moves.Found cell found)
         ∷ old.seat.log
     pub unlocked : IsUnlocked new
     pub keeps : KeepsThread old new
 
   -- every place has what it had, and the next one is the same; but more of them may need no memory
-  pub record KeepsPlaces (old new : FrameSeen A) : Type 0 where
+  pub record KeepsAllPlaces (old new : FrameSeen A) : Type 0 where
     pub places : (k : ℕ) → cell_in new k ≡ cell_in old k
     pub len : new.len ≡ old.len
     pub next : new.next ≡ old.next
@@ -41,7 +42,7 @@ module _ {A : Type 0} where
 
 module _ {A R : Type 0} where
   -- The reference of the handle in place v went into the object, by the plain call.
-  pub record Puts (old new : FrameSeen A) (k v : ℕ) (call : ℕ → PlainCall R) (answer : R) : Type 0 where
+  pub record CallPuts (old new : FrameSeen A) (k v : ℕ) (call : ℕ → PlainCall R) (answer : R) : Type 0 where
     pub value : ℕ
     pub of_value : cell_in old v ≡ Some value
     pub found : Contents
@@ -68,7 +69,7 @@ module _ {A R : Type 0} where
 
 module _ {A : Type 0} where
   -- The reference of an entry is the new handle's now, by the plain call, which answers the entry.
-  pub record Takes (old new : FrameSeen A) (k : ℕ) (call : PlainCall ℕ) (given : HandleSeen) : Type 0 where
+  pub record CallTakes (old new : FrameSeen A) (k : ℕ) (call : PlainCall ℕ) (given : HandleSeen) : Type 0 where
     pub found : Contents
     pub put : Contents
     pub index : ℕ
@@ -97,10 +98,10 @@ module _ {A : Type 0} where
     pub shared : FrameSeen A
     pub same_heap : locked.heap ≡ old.heap
     pub shared_heap : shared.heap ≡ old.heap
-    pub locks : locked.seat.log ≡ Did (Lock k) 0 (moves.Found cell found) ∷ old.seat.log
-    pub gives : Given locked shared (sources.Entry index) entry given
-    pub unlocks : new.seat.log ≡ Did (Unlock Keep) 0 (moves.Put cell found) ∷ shared.seat.log
-    pub before : KeepsPlaces old locked
+    pub locks : locked.seat.log ≡ Stepped (Lock k) 0 (moves.Found cell found) ∷ old.seat.log
+    pub gives : GivenHandle locked shared (sources.Entry index) entry given
+    pub unlocks : new.seat.log ≡ Stepped (Unlock Keep) 0 (moves.Put cell found) ∷ shared.seat.log
+    pub before : KeepsAllPlaces old locked
     pub after : KeepsFrame shared new
     pub unlocked : IsUnlocked new
     pub keeps : KeepsThread old new

@@ -12,7 +12,7 @@ use Rattle.brc_count.specs.law.world.declared.event.Step.TheVariants.{Lock, Unlo
 use Rattle.brc_count.specs.law.rule.declared.contents.Contents.{Contents}
 use Rattle.brc_count.specs.law.rule.declared.contents.Contents.TheVariants as contents
 use Rattle.brc_count.specs.law.rule.declared.told.Moved.TheVariants as moves
-use Rattle.brc_count.specs.law.rule.declared.told.Told.TheVariants.{Did}
+use Rattle.brc_count.specs.law.rule.declared.told.LogItem.TheVariants.{Stepped}
 use Rattle.brc_count.specs.law.rule.Logs.{kind_in, entries_in}
 use Rattle.brc_count.specs.Frames.{FrameSeen}
 use Rattle.brc_count.specs.Locking.{Busy, cell_in}
@@ -25,15 +25,16 @@ IsInt found = kind_in found ≡ kinds.Int
 abbrev pub IsText : Contents → Type 0
 IsText found = kind_in found ≡ kinds.Text
 
-abbrev pub IsContainer : Contents → Type 0
-IsContainer found = is_container (kind_in found) ≡ true
+abbrev pub HoldsContainer : Contents → Type 0
+HoldsContainer found = is_container (kind_in found) ≡ true
 
 module _ {A : Type 0} where
   -- The object in the place was locked, found with these contents, and unlocked as it was found. Nothing else was done.
   pub record LooksAt (old new : FrameSeen A) (k : ℕ) (found : Contents) : Type 0 where
     pub cell : ℕ
     pub of_place : cell_in old k ≡ Some cell
-    pub events : new.seat.log ≡ Did (Unlock Keep) 0 (moves.Put cell found) ∷ Did (Lock k) 0 (moves.Found cell found)
+    pub events : new.seat.log ≡ Stepped (Unlock Keep) 0 (moves.Put cell found) ∷ Stepped (Lock k) 0
+        (moves.Found cell found)
         ∷ old.seat.log
 
   -- A call was refused: the object is locked by another thread, and nothing was done but to find that out; it was
@@ -59,9 +60,9 @@ module _ {A : Type 0} where
   -- how many entries the container in the place has
   abbrev pub LenOf : FrameSeen A → FrameSeen A → ℕ → Result ℕ Fault → Type 0
   LenOf old new k result =
-      Looked old new (λ len. (found : Contents) × LooksAt old new k found × IsContainer found
+      Looked old new (λ len. (found : Contents) × LooksAt old new k found × HoldsContainer found
       × (length (entries_in found) ≡ len))
-      (RefusedLook old new k IsContainer) result
+      (RefusedLook old new k HoldsContainer) result
 
   -- the number of the integer in the place
   abbrev pub IntOf : FrameSeen A → FrameSeen A → ℕ → Result ℤ Fault → Type 0

@@ -6,7 +6,8 @@ ghost use Rattle.brc_count.specs.law.rule.Logs.{Run, all_of, contents_at, IsLega
 ghost use Rattle.brc_count.specs.Frames.{FrameSeen};
 ghost use Rattle.brc_count.specs.Locking.{KeepsThread, KeepsFrame};
 ghost use Rattle.brc_lock.specs.Waiting.{Waits};
-ghost use Rattle.brc_containers.specs.History.{Call as call, IsSequential, Extends, left_by, history_of, own_history};
+ghost use Rattle.brc_containers.specs.History.{ContainerCall as call, IsSequential, Extends, left_by, history_of};
+ghost use Rattle.brc_containers.specs.History.{own_history};
 ghost use Rattle.brc_containers.specs.History.{calls_of};
 
 use std::alloc::Allocator;

@@ -8,9 +8,9 @@
 
 mod laws;
 mod looking;
-mod reading;
-mod waiting;
+mod readers;
+mod waiting_readers;
 
 pub use laws::{calls_on_an_object_are_one_history, lost_tries_change_nothing};
-pub use reading::{try_int_of, try_kind_of, try_len_of, try_text_into, try_text_of};
-pub use waiting::{int_of, kind_of, len_of, text_into, text_of};
+pub use readers::{try_int_of, try_kind_of, try_len_of, try_text_into, try_text_of};
+pub use waiting_readers::{int_of, kind_of, len_of, text_into, text_of};

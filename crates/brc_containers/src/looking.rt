@@ -5,7 +5,7 @@ ghost use Rattle.std.specs.String.{string_bytes, string_len, string_capacity};
 ghost use Rattle.brc_count.specs.law.rule.declared.contents.Contents.TheVariants as contents;
 ghost use Rattle.brc_count.specs.law.rule.Logs.{entries_in};
 ghost use Rattle.brc_count.specs.table.Shown.{contents_of};
-ghost use Rattle.brc_containers.specs.Looking.{IsInt, IsText, IsContainer};
+ghost use Rattle.brc_containers.specs.Looking.{IsInt, IsText, HoldsContainer};
 
 use brc_count::block::{Entries, Payload};
 use brc_words::Text;
@@ -13,9 +13,9 @@ use std::alloc::{AllocError, Allocator};
 
 /// How many entries a container has; None for anything else.
 pub(crate) fn container_len<A: Allocator>(payload: &Payload<A>) -> Option<usize>
-    ensures container { IfSome result (λ len. IsContainer (contents_of payload.now)) }
+    ensures container { IfSome result (λ len. HoldsContainer (contents_of payload.now)) }
     ensures len { IfSome result (λ len. length (entries_in (contents_of payload.now)) ≡ len) }
-    ensures other { IfNone result (IsContainer (contents_of payload.now) → ⊥) }
+    ensures other { IfNone result (HoldsContainer (contents_of payload.now) → ⊥) }
 {
     match payload {
         Payload::List(cells) => Some(cells.len()),

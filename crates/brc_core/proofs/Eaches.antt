@@ -3,7 +3,7 @@ use Rattle.std.proofs.Common.{◌≡◌, ◌==◌, ℕ, zero, suc, ◌+◌, ◌<
 use Rattle.std.proofs.Common.{refl, sym, ◌∙◌, ap, append_assoc, add-zero, zero-add, add-one, arith}
 use Rattle.std.proofs.lemmas.List.{append-nil}
 use Rattle.std.proofs.lemmas.Option.{slice_get-get_or}
-use Rattle.brc_core.specs.declared.holders.Part.TheVariants as parts
+use Rattle.brc_core.specs.declared.holders.HolderPart.TheVariants as parts
 use Rattle.brc_core.specs.Holders.{below, in_part, in_frames, in_entries}
 use Rattle.brc_model.specs.declared.holder.Holder.{Holder}
 use Rattle.brc_model.specs.declared.holder.Holder.TheVariants as holders

@@ -16,7 +16,7 @@ use std::alloc::{AllocError, Allocator};
 
 /// A part of the world in which holders stand, at places that are numbered from 0.
 #[derive(Clone, Copy, Debug, PartialEq, Eq)]
-pub(crate) enum Part {
+pub(crate) enum HolderPart {
     /// The frame of this thread.
     Frame(u32),
     /// The entries of this cell.
@@ -52,27 +52,27 @@ fn carries(cell: u32, hand: Hand) -> bool
 }
 
 /// The holder of the cell at this number of the part.
-fn holder_in(part: Part, cell: u32, number: u32) -> Holder
+fn holder_in(part: HolderPart, cell: u32, number: u32) -> Holder
     ensures { result ≡ holder_in part cell number }
 {
     match part {
-        Part::Frame(thread) => Holder::Frame {
+        HolderPart::Frame(thread) => Holder::Frame {
             thread,
             place: number,
         },
-        Part::Entries(at) => Holder::Entry {
+        HolderPart::Entries(at) => Holder::Entry {
             cell: at,
             index: number,
         },
-        Part::Queues => Holder::Queue {
+        HolderPart::Queues => Holder::Queue {
             thread: number,
             cell,
         },
-        Part::Popped => Holder::Popped {
+        HolderPart::Popped => Holder::Popped {
             thread: number,
             cell,
         },
-        Part::Hands => Holder::Hand {
+        HolderPart::Hands => Holder::Hand {
             thread: number,
             cell,
         },
@@ -104,28 +104,28 @@ impl<A: Allocator + Copy> World<A> {
 
     /// How many places the part has.
     #[tactic(auto, using(crate::proofs::Bounds::entries_fit))]
-    fn count_in(&self, part: Part) -> u32
+    fn count_in(&self, part: HolderPart) -> u32
         ensures { result ≡ count_in self.now part }
     {
         match part {
-            Part::Frame(thread) => self.places(thread),
-            Part::Entries(at) => self.tables.entries(at).len() as u32,
-            Part::Queues => self.threads(),
-            Part::Popped => self.threads(),
-            Part::Hands => self.threads(),
+            HolderPart::Frame(thread) => self.places(thread),
+            HolderPart::Entries(at) => self.tables.entries(at).len() as u32,
+            HolderPart::Queues => self.threads(),
+            HolderPart::Popped => self.threads(),
+            HolderPart::Hands => self.threads(),
         }
     }
 
     /// Whether the part's place with this number holds the cell.
-    fn holds(&self, part: Part, cell: u32, number: u32) -> bool
+    fn holds(&self, part: HolderPart, cell: u32, number: u32) -> bool
         ensures { result ≡ holds self.now part cell number }
     {
         match part {
-            Part::Frame(thread) => names(cell, self.place(thread, number)),
-            Part::Entries(at) => names(cell, self.entry(at, number)),
-            Part::Queues => self.queued(number, cell),
-            Part::Popped => self.popped(number, cell),
-            Part::Hands => carries(cell, self.tables.row(number).hand),
+            HolderPart::Frame(thread) => names(cell, self.place(thread, number)),
+            HolderPart::Entries(at) => names(cell, self.entry(at, number)),
+            HolderPart::Queues => self.queued(number, cell),
+            HolderPart::Popped => self.popped(number, cell),
+            HolderPart::Hands => carries(cell, self.tables.row(number).hand),
         }
     }
 
@@ -133,7 +133,7 @@ impl<A: Allocator + Copy> World<A> {
     fn put_part<B: Allocator>(
         &self,
         found: &mut Vec<Holder, B>,
-        part: Part,
+        part: HolderPart,
         cell: u32,
     ) -> Result<(), AllocError>
         ensures { OnOk result (found.new.items ≡ found.old.items ++ in_part self.now part cell) }
@@ -154,7 +154,7 @@ impl<A: Allocator + Copy> World<A> {
         ensures { OnOk result (found.new.items ≡ found.old.items ++ in_frames self.now cell) }
     {
         for thread in 0..self.threads() {
-            self.put_part(found, Part::Frame(thread), cell)?;
+            self.put_part(found, HolderPart::Frame(thread), cell)?;
         }
         Ok(())
     }
@@ -168,7 +168,7 @@ impl<A: Allocator + Copy> World<A> {
         ensures { OnOk result (found.new.items ≡ found.old.items ++ in_entries self.now cell) }
     {
         for at in 0..self.cells() {
-            self.put_part(found, Part::Entries(at), cell)?;
+            self.put_part(found, HolderPart::Entries(at), cell)?;
         }
         Ok(())
     }
@@ -181,9 +181,9 @@ impl<A: Allocator + Copy> World<A> {
         let _ = &self.tables;
         self.put_frames(found, cell)?;
         self.put_entries(found, cell)?;
-        self.put_part(found, Part::Queues, cell)?;
-        self.put_part(found, Part::Popped, cell)?;
-        self.put_part(found, Part::Hands, cell)?;
+        self.put_part(found, HolderPart::Queues, cell)?;
+        self.put_part(found, HolderPart::Popped, cell)?;
+        self.put_part(found, HolderPart::Hands, cell)?;
         Ok(())
     }
 

@@ -17,12 +17,12 @@ use Rattle.brc_table.proofs.law.world.Framing.{place_at-filled_here, place_at-fi
 use Rattle.brc_table.specs.law.known.Items.{Part, put}
 use Rattle.brc_table.specs.law.known.Going_On.{filling, bearing, handing}
 use Rattle.brc_table.specs.law.known.Taken.{Blocks, listed_at}
-use Rattle.brc_table.specs.law.rule.declared.told.Told.{Told}
+use Rattle.brc_table.specs.law.rule.declared.told.LogItem.{LogItem}
 use Rattle.brc_table.specs.law.rule.Seen.{part_seen, risen_seen, taken_seen}
-use Rattle.brc_table.specs.Knowing.{known_seen, Keeps}
+use Rattle.brc_table.specs.Knowing.{known_seen, KeepsNotes}
 use Rattle.brc_table.specs.Seated.{TableSeen, SeatSeen}
-use Rattle.brc_biased.specs.Up.{IsKnown}
-use Rattle.brc_count.specs.declared.held.Held.{Held}
+use Rattle.brc_biased.specs.Up.{KnowsPart}
+use Rattle.brc_count.specs.declared.held.PlaceEntry.{PlaceEntry}
 use Rattle.brc_count.specs.declared.ledger.Ledger.{Ledger}
 use Rattle.brc_count.specs.Frames.{Buried, Holding, locked_place, place_seen, cell_held}
 use Rattle.brc_count.proofs.Buried.{put_else}
@@ -56,13 +56,13 @@ buried_still {has = has} {blocks = blocks} c b fresh = record {
   only = b.only;
 }
 
-same_held : {a b : Held} → Some a ≡ Some b → a ≡ b
+same_held : {a b : PlaceEntry} → Some a ≡ Some b → a ≡ b
 same_held same = cc
 
 -- what the log says of the thread's part, after a cell was claimed and an object born in it
-pub born_known : (n : ℕ) (before mid log : List Told) (k c : ℕ)
-    → IsKnown n mid (handing (hands.Busy phases.Claimed c) (known_seen n before))
-    → IsKnown n log (filling k c (bearing c (known_seen n mid)))
+pub born_known : (n : ℕ) (before mid log : List LogItem) (k c : ℕ)
+    → KnowsPart n mid (handing (hands.Busy phases.Claimed c) (known_seen n before))
+    → KnowsPart n log (filling k c (bearing c (known_seen n mid)))
     → part_seen n log ≡ (filling k c (bearing c (known_seen n before))).part
 born_known n before mid log k c claimed born = born.part ∙ ap (λ (p : Part). record p {
   row = record p.row { hand = hands.Free; allocs = p.row.allocs + 1 };
@@ -70,7 +70,7 @@ born_known n before mid log k c claimed born = born.part ∙ ap (λ (p : Part). 
   frame = filled p.frame k c;
 }) claimed.part
 
-module _ {A : Type 0} {heap : TableSeen} (before mid seat : SeatSeen A) {old places : Slab Held}
+module _ {A : Type 0} {heap : TableSeen} (before mid seat : SeatSeen A) {old places : Slab PlaceEntry}
     {works : List (ℕ × Payload A)} {popped : List ℕ} {ledger : Ledger} where
   placed_born : (k c : ℕ) → Holding A heap before old works popped ledger
       → part_seen heap.cells seat.log ≡ (filling k c (bearing c (known_seen heap.cells before.log))).part
@@ -85,9 +85,9 @@ module _ {A : Type 0} {heap : TableSeen} (before mid seat : SeatSeen A) {old pla
   ]
 
   pub after_birth : (k c : ℕ) → Holding A heap before old works popped ledger
-      → IsKnown heap.cells mid.log (handing (hands.Busy phases.Claimed c) (known_seen heap.cells before.log))
-      → IsKnown heap.cells seat.log (filling k c (bearing c (known_seen heap.cells mid.log)))
-      → Keeps heap.cells before.log mid.log
+      → KnowsPart heap.cells mid.log (handing (hands.Busy phases.Claimed c) (known_seen heap.cells before.log))
+      → KnowsPart heap.cells seat.log (filling k c (bearing c (known_seen heap.cells mid.log)))
+      → KeepsNotes heap.cells before.log mid.log
       → ((j q : ℕ) → place_seen heap.cells mid.log j ≡ Some q → risen_seen heap.cells mid.log (drops.Frame j) q ≡ true
       → risen_seen heap.cells seat.log (drops.Frame j) q ≡ true)
       → mid.slots ≡ (c, None) ∷ before.slots → seat.slots ≡ rest mid.slots
@@ -103,7 +103,7 @@ module _ {A : Type 0} {heap : TableSeen} (before mid seat : SeatSeen A) {old pla
         placed = placed_born k c keeps part updates;
         risen = λ j held there is. elim (cases_eq j k) [
           | inl same ↦ absurd (true≢false
-              (sym is ∙ ap (λ (x : Held). x.risen)
+              (sym is ∙ ap (λ (x : PlaceEntry). x.risen)
               (sym (same_held (sym updates.changed ∙ ap (get places) (sym same) ∙ there)))))
           | inr other ↦
               let was_there = keeps.placed j ∙ ap cell_held (sym (updates.others j other) ∙ there) in
@@ -113,7 +113,7 @@ module _ {A : Type 0} {heap : TableSeen} (before mid seat : SeatSeen A) {old pla
               ∙ ap (names held.cell) there_then ∙ eq-eqb held.cell held.cell refl)
         ];
         inside = λ j held there. elim (cases_eq j k) [
-          | inl same ↦ subst (λ (x : Held). x.cell < heap.cells)
+          | inl same ↦ subst (λ (x : PlaceEntry). x.cell < heap.cells)
               (same_held (sym updates.changed ∙ ap (get places) (sym same) ∙ there)) low
           | inr other ↦ keeps.inside j held (sym (updates.others j other) ∙ there)
         ];

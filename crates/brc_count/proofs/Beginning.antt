@@ -5,52 +5,53 @@ use Rattle.brc_table.specs.law.world.declared.event.Step.TheVariants.{Register}
 use Rattle.brc_table.specs.law.world.Heap.{words_for}
 use Rattle.brc_table.specs.law.world.Lists.{is_blank}
 use Rattle.brc_table.specs.law.rule.declared.told.Moved.TheVariants.{Nothing}
-use Rattle.brc_table.specs.law.rule.declared.told.Told.{Told}
-use Rattle.brc_table.specs.law.rule.declared.told.Told.TheVariants.{Did}
+use Rattle.brc_table.specs.law.rule.declared.told.LogItem.{LogItem}
+use Rattle.brc_table.specs.law.rule.declared.told.LogItem.TheVariants.{Stepped}
 use Rattle.brc_table.specs.law.world.Steps.{is_active}
 use Rattle.brc_table.specs.law.rule.Seen.{part_seen, counts_seen}
 use Rattle.brc_table.specs.law.rule.declared.view.View.{View}
 use Rattle.brc_table.specs.law.rule.Logs.{begins}
 use Rattle.brc_table.specs.law.steps.Joining.{is_again, starting, next_thread}
-use Rattle.brc_table.specs.Seated.{TableSeen, Stays}
+use Rattle.brc_table.specs.Seated.{TableSeen, IsSameSeat}
 use Rattle.brc_count.specs.Frames.{FrameSeen, Framing, ledger_seen}
-use Rattle.brc_count.specs.Closing.{IsFirst, FirstNew, FirstAgain, Opens, NoneOpened, Opened, stage_opened}
+use Rattle.brc_count.specs.Closing.{IsFirst, FirstNew, FirstAgain, ReopensWords, NoneOpened, Opened, stage_opened}
 use Rattle.brc_count.proofs.Leaving.{stage_active}
 
 -- it is empty or the root's item; it counts nothing; and of a number that was used before it says that all words are
 -- closed
-begins_first : (b : Bool) (t : ℕ) (log : List Told) → log ≡ begins b (Did (Register t) 0 Nothing) → IsFirst log
+begins_first : (b : Bool) (t : ℕ) (log : List LogItem) → log ≡ begins b (Stepped (Register t) 0 Nothing) → IsFirst log
 begins_first true t log is = FirstAgain t is
 begins_first false t log is = FirstNew is
 
-pub started_first : (v : View) (log : List Told) → log ≡ (starting v).log → IsFirst log
+pub started_first : (v : View) (log : List LogItem) → log ≡ (starting v).log → IsFirst log
 started_first v log is = begins_first (is_again v) (next_thread v) log is
 
-pub first_none : (n : ℕ) (log : List Told) (c : ℕ) → IsFirst log → counts_seen n log c ≡ 0
+pub first_none : (n : ℕ) (log : List LogItem) (c : ℕ) → IsFirst log → counts_seen n log c ≡ 0
 first_none n log c (FirstNew is) = ap (λ l. counts_seen n l c) is
 first_none n log c (FirstAgain t is) = ap (λ l. counts_seen n l c) is
 
-pub again_opening : (n : ℕ) (v : View) (log : List Told) → log ≡ (starting v).log → is_again v ≡ true
+pub again_opening : (n : ℕ) (v : View) (log : List LogItem) → log ≡ (starting v).log → is_again v ≡ true
     → (part_seen n log).row.stage ≡ stages.Opening 0
 again_opening n v log is again = ap (λ l. (part_seen n l).row.stage) is
-    ∙ ap (λ b. (part_seen n (begins b (Did (Register (next_thread v)) 0 Nothing))).row.stage) again
+    ∙ ap (λ b. (part_seen n (begins b (Stepped (Register (next_thread v)) 0 Nothing))).row.stage) again
 
 -- such a log has no popped entry, no birth and no free
 blank_zeros : (k : ℕ) → is_blank (replicate k 0) ≡ true
 blank_zeros zero = refl
 blank_zeros (suc k) = blank_zeros k
 
-first_blank : (n : ℕ) (log : List Told) → IsFirst log → is_blank (part_seen n log).popped ≡ true
+first_blank : (n : ℕ) (log : List LogItem) → IsFirst log → is_blank (part_seen n log).popped ≡ true
 first_blank n log (FirstNew is) = ap (λ l. is_blank (part_seen n l).popped) is ∙ blank_zeros (words_for n)
 first_blank n log (FirstAgain t is) = ap (λ l. is_blank (part_seen n l).popped) is ∙ blank_zeros (words_for n)
 
 -- opening queue words pops nothing, and neither bears nor frees
-record IsStill (n : ℕ) (before log : List Told) : Type 0 where
+record IsStill (n : ℕ) (before log : List LogItem) : Type 0 where
   popped : (part_seen n log).popped ≡ (part_seen n before).popped
   allocs : (part_seen n log).row.allocs ≡ (part_seen n before).row.allocs
   frees : (part_seen n log).row.frees ≡ (part_seen n before).row.frees
 
-opens_still : (n : ℕ) (before : List Told) (k : ℕ) (log : List Told) → Opens before k log → IsStill n before log
+opens_still : (n : ℕ) (before : List LogItem) (k : ℕ) (log : List LogItem) → ReopensWords before k log
+    → IsStill n before log
 opens_still n before _ _ NoneOpened = record { popped = refl; allocs = refl; frees = refl }
 opens_still n before _ _ (Opened k log more) = let still = opens_still n before k log more in
     record { popped = still.popped; allocs = still.allocs; frees = still.frees }
@@ -85,14 +86,14 @@ module _ {A : Type 0} where
 
   -- the frame of a number that is used again, once its words are open, and its ledger
   module _ (old new : FrameSeen A) (first : IsFirst old.seat.log) (same : new ≡ record old { seat = new.seat })
-      (opens : Opens old.seat.log (words_for old.heap.cells) new.seat.log) where
+      (opens : ReopensWords old.seat.log (words_for old.heap.cells) new.seat.log) where
     heap_same : new.heap ≡ old.heap
     heap_same = ap (λ (f : FrameSeen A). f.heap) same
 
     still : IsStill old.heap.cells old.seat.log new.seat.log
     still = opens_still old.heap.cells old.seat.log (words_for old.heap.cells) new.seat.log opens
 
-    pub begins_again : (thread : ℕ) → old.seat.thread ≡ thread → 0 < thread → Stays old.seat new.seat
+    pub begins_again : (thread : ℕ) → old.seat.thread ≡ thread → 0 < thread → IsSameSeat old.seat new.seat
         → (part_seen old.heap.cells new.seat.log).row.stage ≡ stage_opened (words_for old.heap.cells)
         (words_for old.heap.cells)
         → 0 < words_for old.heap.cells → Framing new thread

@@ -7,8 +7,8 @@ use Rattle.std.proofs.lemmas.List.{length-set, get_or-set_same, get_or_past, get
 use Rattle.std.specs.Int.{bit_at}
 use Rattle.brc_table.specs.law.world.declared.event.Step.TheVariants.{Register}
 use Rattle.brc_table.specs.law.rule.declared.told.Moved.TheVariants.{Nothing}
-use Rattle.brc_table.specs.law.rule.declared.told.Told.{Told}
-use Rattle.brc_table.specs.law.rule.declared.told.Told.TheVariants.{Did}
+use Rattle.brc_table.specs.law.rule.declared.told.LogItem.{LogItem}
+use Rattle.brc_table.specs.law.rule.declared.told.LogItem.TheVariants.{Stepped}
 use Rattle.brc_count.specs.Closing.{IsFirst, FirstNew, FirstAgain}
 use Rattle.brc_table.specs.law.world.Heap.{words_for}
 use Rattle.std.proofs.lemmas.Nat.Bits.{bit_at-zero}
@@ -35,17 +35,17 @@ use Rattle.brc_table.specs.law.known.Going_On.{filling, giving_back}
 use Rattle.brc_table.specs.law.known.Taken.{Blocks, listed_at, cut, off, taken_on}
 use Rattle.brc_table.specs.law.rule.Seen.{part_seen, risen_seen, taken_seen, contents_locked}
 use Rattle.brc_table.specs.law.rule.Logs.{entries_in}
-use Rattle.brc_table.specs.law.steps.Owing.{Carries}
+use Rattle.brc_table.specs.law.steps.Owing.{MayCarry}
 use Rattle.brc_table.specs.law.steps.Taking.{AreCells}
-use Rattle.brc_table.specs.Knowing.{known_seen, entries_of as entries_answered, Keeps}
+use Rattle.brc_table.specs.Knowing.{known_seen, entries_of as entries_answered, KeepsNotes}
 use Rattle.brc_table.specs.Moving.{is_there, out_with, found_or}
 use Rattle.brc_table.specs.Shown.{contents_of}
-use Rattle.brc_table.specs.Seated.{TableSeen, SeatSeen, Stays, Continues}
-use Rattle.brc_biased.specs.Standing.{Holds, KeepsPlaces, may_give_up, released, Stands}
-use Rattle.brc_biased.specs.Released.{Answers}
-use Rattle.brc_biased.specs.Up.{IsKnown, Raising}
+use Rattle.brc_table.specs.Seated.{TableSeen, SeatSeen, IsSameSeat, Continues}
+use Rattle.brc_biased.specs.Standing.{MayDrop, FillsNoPlace, may_give_up, released, MayCountDown}
+use Rattle.brc_biased.specs.Released.{IsTakenBlock}
+use Rattle.brc_biased.specs.Up.{KnowsPart, Raising}
 use Rattle.brc_biased.proofs.Marking.{marks_wide}
-use Rattle.brc_count.specs.declared.held.Held.{Held}
+use Rattle.brc_count.specs.declared.held.PlaceEntry.{PlaceEntry}
 use Rattle.brc_count.specs.declared.ledger.Ledger.{Ledger}
 use Rattle.brc_table.specs.law.rule.declared.contents.Contents.TheVariants as contents
 use Rattle.brc_count.specs.Frames.{place_seen, locked_place, lock_seen, cell_held, block_listed, slot_out, slots_out}
@@ -59,7 +59,7 @@ vacated_here frame k = elim (cases_lt k (length frame)) [
   | inr past ↦ get_or_past (vacated frame k) k None (omega (arith, past, length-set frame k None))
 ]
 
-same_held : {a b : Held} → Some a ≡ Some b → a ≡ b
+same_held : {a b : PlaceEntry} → Some a ≡ Some b → a ≡ b
 same_held same = cc
 
 pub same_cell : {c d : ℕ} → Some c ≡ Some d → c ≡ d
@@ -94,7 +94,8 @@ giving_may stages.Left c is = refl
 giving_may (stages.Opening words) c is = cc
 
 -- a place that is vacant and below the limit may get a reference, from a source that fits what is locked
-pub raising : {A : Type 0} {heap : TableSeen} {seat : SeatSeen A} {places : Slab Held} {works : List (ℕ × Payload A)}
+pub raising : {A : Type 0} {heap : TableSeen} {seat : SeatSeen A} {places : Slab PlaceEntry}
+    {works : List (ℕ × Payload A)}
     {popped : List ℕ} {ledger : Ledger} (source : Source) (k c : ℕ)
     → Holding A heap seat places works popped ledger → is_active (part_seen heap.cells seat.log).row.stage ≡ true
     → lock_ok (locked_place heap.cells seat.log) (LocalUp source k) ≡ true
@@ -112,17 +113,18 @@ raising {heap = heap} {seat = seat} source k c keeps active fits named low vacan
 }
 
 -- the thread may give references up
-pub stands : {A : Type 0} {heap : TableSeen} {seat : SeatSeen A} {places : Slab Held} {works : List (ℕ × Payload A)}
+pub stands : {A : Type 0} {heap : TableSeen} {seat : SeatSeen A} {places : Slab PlaceEntry}
+    {works : List (ℕ × Payload A)}
     {popped : List ℕ} {ledger : Ledger}
     → Holding A heap seat places works popped ledger → may_give_up (part_seen heap.cells seat.log).row.stage ≡ true
-    → locked_place heap.cells seat.log ≡ None → Stands heap.cells seat.log hands.Free
+    → locked_place heap.cells seat.log ≡ None → MayCountDown heap.cells seat.log hands.Free
 stands keeps stage unlocked = record { stage = stage; lock = unlocked; hand_is = keeps.hand_is }
 
-pub nothing_locked : (n : ℕ) (log : List Told) → locked_place n log ≡ None → lock_seen n log ≡ None
+pub nothing_locked : (n : ℕ) (log : List LogItem) → locked_place n log ≡ None → lock_seen n log ≡ None
 nothing_locked n log none = ap (locked_cell (part_seen n log).frame) none
 
 -- with nothing locked no slot is out but those of the worklist
-pub out_unlocked : {A : Type 0} (n : ℕ) (log : List Told) (works : List (ℕ × Payload A)) → locked_place n log ≡ None
+pub out_unlocked : {A : Type 0} (n : ℕ) (log : List LogItem) (works : List (ℕ × Payload A)) → locked_place n log ≡ None
     → slots_out (lock_seen n log) works ≡ map slot_out works
 out_unlocked n log works none = ap (λ l. slots_out (locked_cell (part_seen n log).frame l) works) none
 
@@ -133,7 +135,7 @@ no_marks_yet n c = elim (cases_lt c (length (replicate n false))) [
 ]
 
 -- a thread that has done nothing yet, with no place filled
-pub opening : {A : Type 0} (heap : TableSeen) (seat : SeatSeen A) (places : Slab Held) (popped : List ℕ)
+pub opening : {A : Type 0} (heap : TableSeen) (seat : SeatSeen A) (places : Slab PlaceEntry) (popped : List ℕ)
     → IsFirst seat.log → seat.slots ≡ [] → places.slots ≡ [] → popped ≡ replicate (words_for heap.cells) 0
     → Holding A heap seat places [] popped (record { allocs = 0; frees = 0 })
 opening heap seat places popped (FirstNew log) slots none blank = record {
@@ -162,8 +164,8 @@ opening heap seat places popped (FirstAgain t log) slots none blank = record {
   lock_filled = λ k is. absurd (none_held (rw log at is));
   lock_has = λ c is. absurd (none_held (rw log at is));
   listed = rw log refl;
-  buried = rw log (nothing_buried heap.cells (part_seen heap.cells (Did (Register t) 0 Nothing ∷ [])).worklist
-      (part_seen heap.cells (Did (Register t) 0 Nothing ∷ [])).has
+  buried = rw log (nothing_buried heap.cells (part_seen heap.cells (Stepped (Register t) 0 Nothing ∷ [])).worklist
+      (part_seen heap.cells (Stepped (Register t) 0 Nothing ∷ [])).has
       (no_marks_yet heap.cells));
   popped_is = rw log blank;
   words = ap length blank ∙ length-replicate (words_for heap.cells) 0;
@@ -191,9 +193,9 @@ module _ {A : Type 0} where
   blocks_pushed c (Some there) works of_cell =
       ap (λ (d : ℕ). (d, entries_answered (Some there)) ∷ map block_listed works) (sym of_cell)
 
-module _ (n : ℕ) (before log : List Told) where
+module _ (n : ℕ) (before log : List LogItem) where
   -- the locked object is where it was: the place that is filled now was vacant
-  lock_stays : (k c : ℕ) → IsKnown n log (filling k c (known_seen n before))
+  lock_stays : (k c : ℕ) → KnowsPart n log (filling k c (known_seen n before))
       → ((j : ℕ) → locked_place n before ≡ Some j → is_some (place_seen n before j) ≡ true)
       → place_seen n before k ≡ None → lock_seen n log ≡ lock_seen n before
   lock_stays k c knows there vacant =
@@ -205,7 +207,7 @@ module _ (n : ℕ) (before log : List Told) where
       same (Some j) there = place_at-filled_else (part_seen n before).frame k c j
           (λ is. absurd (not_there (place_seen n before j) (there j refl) (ap (place_seen n before) is ∙ vacant)))
 
-  still_filled : (k c : ℕ) → IsKnown n log (filling k c (known_seen n before)) → (j : ℕ)
+  still_filled : (k c : ℕ) → KnowsPart n log (filling k c (known_seen n before)) → (j : ℕ)
       → is_some (place_seen n before j) ≡ true → is_some (place_seen n log j) ≡ true
   still_filled k c knows j there = ap (λ (p : Part). is_some (place_at p.frame j)) knows.part ∙ elim (cases_eq j k) [
     | inl same ↦ ap is_some (ap (place_at (filled (part_seen n before).frame k c)) same
@@ -213,12 +215,12 @@ module _ (n : ℕ) (before log : List Told) where
     | inr other ↦ ap is_some (place_at-filled_else (part_seen n before).frame k c j other) ∙ there
   ]
 
-module _ {A : Type 0} {heap : TableSeen} (before seat : SeatSeen A) {old places : Slab Held}
+module _ {A : Type 0} {heap : TableSeen} (before seat : SeatSeen A) {old places : Slab PlaceEntry}
     {works : List (ℕ × Payload A)} {popped : List ℕ} {ledger : Ledger} where
   -- ---- a place that was vacant has a reference more
 
   placed_up : (k c : ℕ) (risen : Bool) → Holding A heap before old works popped ledger
-      → IsKnown heap.cells seat.log (filling k c (known_seen heap.cells before.log))
+      → KnowsPart heap.cells seat.log (filling k c (known_seen heap.cells before.log))
       → Updates old places k (Some (record { cell = c; risen = risen })) → (j : ℕ)
       → place_seen heap.cells seat.log j ≡ cell_held (get places j)
   placed_up k c risen keeps knows updates j = ap (λ (p : Part). place_at p.frame j) knows.part ∙ elim (cases_eq j k) [
@@ -229,9 +231,9 @@ module _ {A : Type 0} {heap : TableSeen} (before seat : SeatSeen A) {old places 
         ∙ keeps.placed j ∙ sym (ap cell_held (updates.others j other))
   ]
 
-  pub after_up : (k c : ℕ) (risen : Bool) → Holding A heap before old works popped ledger → Stays before seat
-      → IsKnown heap.cells seat.log (filling k c (known_seen heap.cells before.log))
-      → Keeps heap.cells before.log seat.log
+  pub after_up : (k c : ℕ) (risen : Bool) → Holding A heap before old works popped ledger → IsSameSeat before seat
+      → KnowsPart heap.cells seat.log (filling k c (known_seen heap.cells before.log))
+      → KeepsNotes heap.cells before.log seat.log
       → (IsTrue risen → risen_seen heap.cells seat.log (drops.Frame k) c ≡ true)
       → c < heap.cells
       → Updates old places k (Some (record { cell = c; risen = risen }))
@@ -248,8 +250,8 @@ module _ {A : Type 0} {heap : TableSeen} (before seat : SeatSeen A) {old places 
               let new : record { cell = c; risen = risen } ≡ held =
               same_held (sym updates.changed ∙ ap (get places) (sym same) ∙ there) in
               ap (λ i. risen_seen heap.cells seat.log (drops.Frame i) held.cell) same
-              ∙ ap (λ (x : Held). risen_seen heap.cells seat.log (drops.Frame k) x.cell) (sym new)
-              ∙ seen (ap (λ (x : Held). x.risen) new ∙ is)
+              ∙ ap (λ (x : PlaceEntry). risen_seen heap.cells seat.log (drops.Frame k) x.cell) (sym new)
+              ∙ seen (ap (λ (x : PlaceEntry). x.risen) new ∙ is)
           | inr other ↦
               goes_on.risen (drops.Frame j) held.cell (keeps.risen j held (sym (updates.others j other) ∙ there) is)
               ∙ ap (names held.cell) (placed_up k c risen keeps knows updates j ∙ ap cell_held there)
@@ -259,7 +261,7 @@ module _ {A : Type 0} {heap : TableSeen} (before seat : SeatSeen A) {old places 
           | inl same ↦
               let new : record { cell = c; risen = risen } ≡ held =
               same_held (sym updates.changed ∙ ap (get places) (sym same) ∙ there) in
-              subst (λ (x : Held). x.cell < heap.cells) new inside
+              subst (λ (x : PlaceEntry). x.cell < heap.cells) new inside
           | inr other ↦ keeps.inside j held (sym (updates.others j other) ∙ there)
         ];
         out = stays.2 ∙ keeps.out ∙ ap (λ l. slots_out l works) (sym locks);
@@ -278,9 +280,9 @@ module _ {A : Type 0} {heap : TableSeen} (before seat : SeatSeen A) {old places 
 
   -- ---- a place's reference is gone, and the block of the object that it ended is on the worklist
 
-  placed_released : (k : ℕ) (held : Held) (block : Option (ℕ × Payload A))
+  placed_released : (k : ℕ) (held : PlaceEntry) (block : Option (ℕ × Payload A))
       → Holding A heap before old works popped ledger
-      → IsKnown heap.cells seat.log (released (is_there block) (drops.Frame k) held.cell (entries_answered block)
+      → KnowsPart heap.cells seat.log (released (is_there block) (drops.Frame k) held.cell (entries_answered block)
       (known_seen heap.cells before.log))
       → Updates old places k None → (j : ℕ)
       → place_seen heap.cells seat.log j ≡ cell_held (get places j)
@@ -293,13 +295,13 @@ module _ {A : Type 0} {heap : TableSeen} (before seat : SeatSeen A) {old places 
             ∙ keeps.placed j ∙ sym (ap cell_held (updates.others j other))
       ]
 
-  pub after_release : (k : ℕ) (held : Held) (block : Option (ℕ × Payload A))
+  pub after_release : (k : ℕ) (held : PlaceEntry) (block : Option (ℕ × Payload A))
       → Holding A heap before old works popped ledger
       → Continues before seat
-      → IsKnown heap.cells seat.log (released (is_there block) (drops.Frame k) held.cell (entries_answered block)
+      → KnowsPart heap.cells seat.log (released (is_there block) (drops.Frame k) held.cell (entries_answered block)
       (known_seen heap.cells before.log))
-      → KeepsPlaces heap.cells before.log seat.log
-      → Answers heap.cells held.cell block before seat
+      → FillsNoPlace heap.cells before.log seat.log
+      → IsTakenBlock heap.cells held.cell block before seat
       → held.cell < heap.cells
       → Updates old places k None
       → locked_place heap.cells before.log ≡ None
@@ -341,7 +343,8 @@ entries_front : {A : Type 0} {works : List (ℕ × Payload A)} (entry : ℕ) (mi
     → entries_in (contents_of pops.held) ≡ entries_of pops.left ++ entry ∷ []
 entries_front entry mid pops = contents_have pops.held ∙ pops.entries
 
-module _ {A : Type 0} {heap : TableSeen} (before seat : SeatSeen A) {places : Slab Held} {works : List (ℕ × Payload A)}
+module _ {A : Type 0} {heap : TableSeen} (before seat : SeatSeen A) {places : Slab PlaceEntry}
+    {works : List (ℕ × Payload A)}
     {popped : List ℕ} {ledger : Ledger} where
   -- ---- the front block's last entry is released
 
@@ -371,7 +374,7 @@ module _ {A : Type 0} {heap : TableSeen} (before seat : SeatSeen A) {places : Sl
   pub entry_held : (entry : ℕ) (mid : List (ℕ × Payload A)) (pops : PopsEntry works mid entry)
       → Holding A heap before places works popped ledger
       → may_give_up (part_seen heap.cells before.log).row.stage ≡ true → locked_place heap.cells before.log ≡ None
-      → Holds heap.cells before.log (drops.Work pops.cell) entry
+      → MayDrop heap.cells before.log (drops.Work pops.cell) entry
   entry_held entry mid pops keeps stage unlocked =
       let b = buried_front entry mid pops keeps in
       let here = listed_here pops.cell (entries_in (contents_of pops.held)) (map block_listed pops.below) in
@@ -387,10 +390,10 @@ module _ {A : Type 0} {heap : TableSeen} (before seat : SeatSeen A) {places : Sl
   pub after_entry : (entry : ℕ) (mid : List (ℕ × Payload A)) (block : Option (ℕ × Payload A))
       (pops : PopsEntry works mid entry)
       → Holding A heap before places works popped ledger → Continues before seat
-      → IsKnown heap.cells seat.log (released (is_there block) (drops.Work pops.cell) entry (entries_answered block)
+      → KnowsPart heap.cells seat.log (released (is_there block) (drops.Work pops.cell) entry (entries_answered block)
       (known_seen heap.cells before.log))
-      → KeepsPlaces heap.cells before.log seat.log
-      → Answers heap.cells entry block before seat
+      → FillsNoPlace heap.cells before.log seat.log
+      → IsTakenBlock heap.cells entry block before seat
       → locked_place heap.cells before.log ≡ None
       → Holding A heap seat places (pushed block mid) popped ledger
   after_entry entry mid block pops keeps continues knows goes_on answers unlocked =
@@ -456,7 +459,7 @@ module _ {A : Type 0} {heap : TableSeen} (before seat : SeatSeen A) {places : Sl
   pub free_carries : (d : ℕ) (payload : Payload A) (below : List (ℕ × Payload A))
       → Holding A heap before places works popped ledger
       → may_give_up (part_seen heap.cells before.log).row.stage ≡ true → locked_place heap.cells before.log ≡ None
-      → works ≡ (d, payload) ∷ below → entries_of payload ≡ [] → Carries heap.cells before.log (Free d) d
+      → works ≡ (d, payload) ∷ below → entries_of payload ≡ [] → MayCarry heap.cells before.log (Free d) d
   free_carries d payload below keeps stage unlocked front none =
       let es : List ℕ = entries_in (contents_of payload) in
       let b : Buried heap.cells (part_seen heap.cells before.log).worklist (part_seen heap.cells before.log).has
@@ -479,8 +482,8 @@ module _ {A : Type 0} {heap : TableSeen} (before seat : SeatSeen A) {places : Sl
       → Holding A heap before places works popped ledger
       → locked_place heap.cells before.log ≡ None
       → works ≡ (d, payload) ∷ below → Continues before seat → seat.slots ≡ rest before.slots
-      → IsKnown heap.cells seat.log (giving_back d (known_seen heap.cells before.log))
-      → Keeps heap.cells before.log seat.log
+      → KnowsPart heap.cells seat.log (giving_back d (known_seen heap.cells before.log))
+      → KeepsNotes heap.cells before.log seat.log
       → Holding A heap seat places below popped (record ledger { frees = ledger.frees + 1 })
   after_freeing d payload below keeps unlocked front continues home knows goes_on =
       let es : List ℕ = entries_in (contents_of payload) in

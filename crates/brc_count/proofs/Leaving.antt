@@ -16,9 +16,9 @@ use Rattle.brc_table.specs.law.world.Steps.{stage_ok, closes_next, closed_more, 
 use Rattle.brc_table.specs.law.known.Taken.{listed_at}
 use Rattle.brc_words.specs.declared.limits.TheConstants.{FIRST_MORTAL}
 use Rattle.brc_table.specs.law.rule.Seen.{part_seen, counts_seen}
-use Rattle.brc_table.specs.law.steps.Owing.{Allowed, Closes}
+use Rattle.brc_table.specs.law.steps.Owing.{MayStep, MayClose}
 use Rattle.brc_table.specs.Seated.{TableSeen, SeatSeen}
-use Rattle.brc_count.specs.declared.held.Held.{Held}
+use Rattle.brc_count.specs.declared.held.PlaceEntry.{PlaceEntry}
 use Rattle.brc_count.specs.declared.ledger.Ledger.{Ledger}
 use Rattle.brc_count.specs.Frames.{FrameSeen, Holding, locked_place, cell_held}
 use Rattle.brc_count.specs.Closing.{stage_with, stage_opened, TurnedLeaving, TurnsLeaving, OneMore}
@@ -59,7 +59,7 @@ unmarked_from marks none = eq-eqb (marked_cells marks) 0 (count marks none)
         let first : ◌≡◌ {A = ℕ} (if x then 1 else 0) 0 = ap (λ (v : Bool). if v then 1 else 0) (empty 0) in
         omega (arith, sum_by-cons (λ (v : Bool). if v then 1 else 0) x xs, first, count xs (λ k. empty (suc k)))
 
-module _ {A : Type 0} {heap : TableSeen} {seat : SeatSeen A} {places : Slab Held} {popped : List ℕ}
+module _ {A : Type 0} {heap : TableSeen} {seat : SeatSeen A} {places : Slab PlaceEntry} {popped : List ℕ}
     {ledger : Ledger} where
   -- no place is filled
   pub holds_bare : {works : List (ℕ × Payload A)} → Holding A heap seat places works popped ledger → slab_len places ≡ 0
@@ -79,7 +79,7 @@ module _ {A : Type 0} {heap : TableSeen} {seat : SeatSeen A} {places : Slab Held
       → slab_len places ≡ 0 → locked_place heap.cells seat.log ≡ None
       → ((c : ℕ) → FIRST_MORTAL ≤ c → c < heap.cells → counts_seen heap.cells seat.log c ≡ 0)
       → (part_seen heap.cells seat.log).row.stage ≡ stage_with (words_for heap.cells) k → k < words_for heap.cells
-      → (k ≡ 0 → is_blank (part_seen heap.cells seat.log).popped ≡ true) → Closes heap.cells seat.log k
+      → (k ≡ 0 → is_blank (part_seen heap.cells seat.log).popped ≡ true) → MayClose heap.cells seat.log k
   may_close k keeps none unlocked counts stage low blank = record {
     own = rw (
       stage,
@@ -123,11 +123,11 @@ module _ {A : Type 0} {heap : TableSeen} {seat : SeatSeen A} {places : Slab Held
       ]
 
 -- a thread whose number is used again may open its next queue word
-pub may_open : {A : Type 0} {heap : TableSeen} {seat : SeatSeen A} {places : Slab Held} {popped : List ℕ}
+pub may_open : {A : Type 0} {heap : TableSeen} {seat : SeatSeen A} {places : Slab PlaceEntry} {popped : List ℕ}
     {ledger : Ledger} {works : List (ℕ × Payload A)} (k : ℕ) → Holding A heap seat places works popped ledger
     → locked_place heap.cells seat.log ≡ None
     → (part_seen heap.cells seat.log).row.stage ≡ stage_opened (words_for heap.cells) k → k < words_for heap.cells
-    → Allowed heap.cells seat.log (Reopen k)
+    → MayStep heap.cells seat.log (Reopen k)
 may_open {heap = heap} k keeps unlocked stage low = record {
   own = rw (
     stage ∙ opening_at (words_for heap.cells) k low,

@@ -11,14 +11,14 @@ use Rattle.brc_table.specs.law.known.Items.{Part, part_by, meant}
 use Rattle.brc_table.specs.law.known.Taken.{Blocks, listed_at, taken_by}
 use Rattle.brc_table.specs.law.rule.declared.contents.Contents.TheVariants as contents
 use Rattle.brc_table.specs.law.rule.declared.told.Moved.TheVariants.{Nothing}
-use Rattle.brc_table.specs.law.rule.declared.told.Told.{Told}
-use Rattle.brc_table.specs.law.rule.declared.told.Told.TheVariants.{Did}
+use Rattle.brc_table.specs.law.rule.declared.told.LogItem.{LogItem}
+use Rattle.brc_table.specs.law.rule.declared.told.LogItem.TheVariants.{Stepped}
 use Rattle.brc_table.specs.law.rule.Logs.{entries_in}
 use Rattle.brc_table.specs.law.rule.Seen.{part_seen, counts_seen, taken_seen, contents_locked}
 use Rattle.brc_table.specs.law.steps.Taking.{AreCells}
 use Rattle.brc_table.specs.Moving.{found_or, found_locked}
 use Rattle.brc_table.specs.Seated.{TableSeen}
-use Rattle.brc_count.specs.Frames.{place_seen, locked_place, lock_seen, HandleSeen, FrameSeen, CountsUp, Given}
+use Rattle.brc_count.specs.Frames.{place_seen, locked_place, lock_seen, HandleSeen, FrameSeen, CountsUp, GivenHandle}
 use Rattle.brc_count.specs.Locking.{KnowsLock, KeepsLock}
 
 not_both : {b : Bool} → b ≡ true → b ≡ false → ⊥
@@ -29,7 +29,7 @@ some_of None is = cc
 some_of (Some c) is = (c, refl)
 
 -- an entry of the locked object is a reference to its cell
-pub entry_named : (n : ℕ) (log : List Told) (i k c : ℕ) → KnowsLock n log
+pub entry_named : (n : ℕ) (log : List LogItem) (i k c : ℕ) → KnowsLock n log
     → slice_get (entries_in (found_locked log)) i ≡ Some c
     → meant (part_seen n log) (LocalUp (sources.Entry i) k) ≡ Some c
 entry_named n log i k c lock entry =
@@ -37,9 +37,9 @@ entry_named n log i k c lock entry =
     ap (λ l. entry_of (part_seen n log).has l i) is ∙ ap (λ es. slice_get es i) (lock.has d is) ∙ entry
 
 -- counting up is one step
-data OneUp (source : Source) (k : ℕ) (before log : List Told) : Type 0 where
-  OnLocal : (found : ℕ) → log ≡ Did (LocalUp source k) found Nothing ∷ before → OneUp source k before log
-  OnShared : (found : ℕ) → log ≡ Did (SharedUp source k) found Nothing ∷ before → OneUp source k before log
+data OneUp (source : Source) (k : ℕ) (before log : List LogItem) : Type 0 where
+  OnLocal : (found : ℕ) → log ≡ Stepped (LocalUp source k) found Nothing ∷ before → OneUp source k before log
+  OnShared : (found : ℕ) → log ≡ Stepped (SharedUp source k) found Nothing ∷ before → OneUp source k before log
 
 one_up : {A : Type 0} (old new : FrameSeen A) (source : Source) (k c : ℕ) → CountsUp old new source k c
     → OneUp source k old.seat.log new.seat.log
@@ -56,7 +56,7 @@ one_up old new source k c up = elim (cases_lt c FIRST_MORTAL) [
   ]
 ]
 
-contents_stay : (source : Source) (k : ℕ) (before log : List Told) → OneUp source k before log
+contents_stay : (source : Source) (k : ℕ) (before log : List LogItem) → OneUp source k before log
     → contents_locked log ≡ contents_locked before
 contents_stay source k before log (OnLocal found told) = ap contents_locked told
 contents_stay source k before log (OnShared found told) = ap contents_locked told
@@ -71,7 +71,7 @@ none_taken_shared : (source : Source) (k found : ℕ) (o : Option ℕ) (blocks :
 none_taken_shared source k found None blocks = refl
 none_taken_shared source k found (Some c) blocks = refl
 
-blocks_stay : (n : ℕ) (source : Source) (k : ℕ) (before log : List Told) → OneUp source k before log
+blocks_stay : (n : ℕ) (source : Source) (k : ℕ) (before log : List LogItem) → OneUp source k before log
     → taken_seen n log ≡ taken_seen n before
 blocks_stay n source k before log (OnLocal found told) = ap (taken_seen n) told
     ∙ none_taken_local source k found (meant (part_seen n before) (LocalUp source k)) (taken_seen n before)
@@ -88,7 +88,7 @@ same_has_shared : (n : ℕ) (source : Source) (k found : ℕ) (part : Part) (o :
 same_has_shared n source k found part None = refl
 same_has_shared n source k found part (Some c) = refl
 
-has_stays : (n : ℕ) (source : Source) (k : ℕ) (before log : List Told) → OneUp source k before log
+has_stays : (n : ℕ) (source : Source) (k : ℕ) (before log : List LogItem) → OneUp source k before log
     → (part_seen n log).has ≡ (part_seen n before).has
 has_stays n source k before log (OnLocal found told) = ap (λ l. (part_seen n l).has) told
     ∙ same_has_local n source k found (part_seen n before) (meant (part_seen n before) (LocalUp source k))
@@ -96,7 +96,7 @@ has_stays n source k before log (OnShared found told) = ap (λ l. (part_seen n l
     ∙ same_has_shared n source k found (part_seen n before) (meant (part_seen n before) (SharedUp source k))
 
 -- the locked place isn't the one that was vacant, so it has what it had
-same_cell_locked : (n : ℕ) (before log : List Told) (k : ℕ) → locked_place n log ≡ locked_place n before
+same_cell_locked : (n : ℕ) (before log : List LogItem) (k : ℕ) → locked_place n log ≡ locked_place n before
     → place_seen n before k ≡ None → ((j : ℕ) → j ≢ k → place_seen n log j ≡ place_seen n before j)
     → is_some (lock_seen n before) ≡ true → lock_seen n log ≡ lock_seen n before
 same_cell_locked n before log k place vacant others there =
@@ -112,7 +112,7 @@ same_cell_locked n before log k place vacant others there =
 
 -- what is locked and found stays
 pub entry_up : {A : Type 0} (old new : FrameSeen A) (source : Source) (c : ℕ) (given : HandleSeen)
-    → Given old new source c given
+    → GivenHandle old new source c given
     → new.heap ≡ old.heap → KnowsLock old.heap.cells old.seat.log → KeepsLock old new
 entry_up old new source c given all heap lock =
     let up = one_up old new source given.place c all.counted in

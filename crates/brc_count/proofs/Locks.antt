@@ -28,13 +28,13 @@ use Rattle.brc_table.specs.law.rule.declared.contents.Contents.TheVariants as co
 use Rattle.brc_table.specs.law.rule.Keys.{keys_in, KeysGo}
 use Rattle.brc_table.specs.law.rule.Logs.{entries_in, kind_in}
 use Rattle.brc_table.specs.law.rule.Seen.{part_seen, taken_seen, contents_locked}
-use Rattle.brc_table.specs.law.steps.Owing.{Carries, Unlocks}
-use Rattle.brc_table.specs.Knowing.{known_seen, Keeps}
+use Rattle.brc_table.specs.law.steps.Owing.{MayCarry, MayUnlock}
+use Rattle.brc_table.specs.Knowing.{known_seen, KeepsNotes}
 use Rattle.brc_table.specs.Moving.{found_or, found_locked}
 use Rattle.brc_table.specs.Seated.{TableSeen, SeatSeen}
 use Rattle.brc_table.specs.Shown.{shows, contents_of}
-use Rattle.brc_biased.specs.Up.{IsKnown}
-use Rattle.brc_count.specs.declared.held.Held.{Held}
+use Rattle.brc_biased.specs.Up.{KnowsPart}
+use Rattle.brc_count.specs.declared.held.PlaceEntry.{PlaceEntry}
 use Rattle.brc_count.specs.declared.ledger.Ledger.{Ledger}
 use Rattle.brc_count.specs.Frames.{place_seen, locked_place, lock_seen, cell_held, slots_out, Buried, Holding}
 use Rattle.brc_count.specs.Frames.{FrameSeen, IsActive}
@@ -46,7 +46,7 @@ use Rattle.brc_count.specs.Locking.{contents_found, entries_found, keys_found}
 nothing_there : {X : Type 0} {a : X} → None ≡ Some a → ⊥
 nothing_there same = cc
 
-same_there : {a b : Held} → Some a ≡ Some b → a ≡ b
+same_there : {a b : PlaceEntry} → Some a ≡ Some b → a ≡ b
 same_there same = cc
 
 not_both : {b : Bool} → b ≡ true → b ≡ false → ⊥
@@ -83,15 +83,15 @@ vacant_here frame k = elim (cases_lt k (length frame)) [
 
 -- The places are those of this frame; what is marked as seen risen was there before, and all that is there are cells of
 -- the heap.
-pub record Refits (n : ℕ) (frame : List (Option ℕ)) (old places : Slab Held) : Type 0 where
+pub record Refits (n : ℕ) (frame : List (Option ℕ)) (old places : Slab PlaceEntry) : Type 0 where
   pub placed : (j : ℕ) → place_at frame j ≡ cell_held (get places j)
-  pub risen : (j : ℕ) (held : Held) → get places j ≡ Some held → held.risen ≡ true → get old j ≡ Some held
-  pub inside : (j : ℕ) (held : Held) → get places j ≡ Some held → held.cell < n
+  pub risen : (j : ℕ) (held : PlaceEntry) → get places j ≡ Some held → held.risen ≡ true → get old j ≡ Some held
+  pub inside : (j : ℕ) (held : PlaceEntry) → get places j ≡ Some held → held.cell < n
 
-module _ (n : ℕ) (frame : List (Option ℕ)) {old places : Slab Held} where
+module _ (n : ℕ) (frame : List (Option ℕ)) {old places : Slab PlaceEntry} where
   -- a place's reference is gone
   pub refits_vacated : (k : ℕ) → ((j : ℕ) → place_at frame j ≡ cell_held (get old j))
-      → ((j : ℕ) (held : Held) → get old j ≡ Some held → held.cell < n)
+      → ((j : ℕ) (held : PlaceEntry) → get old j ≡ Some held → held.cell < n)
       → Updates old places k None → Refits n (vacated frame k) old places
   refits_vacated k placed inside updates = record {
     placed = λ j. elim (cases_eq j k) [
@@ -111,10 +111,11 @@ module _ (n : ℕ) (frame : List (Option ℕ)) {old places : Slab Held} where
 
   -- a place has a reference that wasn't seen risen
   pub refits_filled : (k c : ℕ) → ((j : ℕ) → place_at frame j ≡ cell_held (get old j))
-      → ((j : ℕ) (held : Held) → get old j ≡ Some held → held.cell < n) → c < n
+      → ((j : ℕ) (held : PlaceEntry) → get old j ≡ Some held → held.cell < n) → c < n
       → Updates old places k (Some (record { cell = c; risen = false })) → Refits n (filled frame k c) old places
   refits_filled k c placed inside low updates =
-      let here : (j : ℕ) (held : Held) → j ≡ k → get places j ≡ Some held → record { cell = c; risen = false } ≡ held =
+      let here : (j : ℕ) (held : PlaceEntry) → j ≡ k → get places j ≡ Some held
+      → record { cell = c; risen = false } ≡ held =
       λ j held same there. same_there (sym updates.changed ∙ ap (get places) (sym same) ∙ there) in
       record {
         placed = λ j. elim (cases_eq j k) [
@@ -123,11 +124,11 @@ module _ (n : ℕ) (frame : List (Option ℕ)) {old places : Slab Held} where
           | inr other ↦ place_at-filled_else frame k c j other ∙ placed j ∙ sym (ap cell_held (updates.others j other))
         ];
         risen = λ j held there is. elim (cases_eq j k) [
-          | inl same ↦ absurd (not_both is (ap (λ (x : Held). x.risen) (sym (here j held same there))))
+          | inl same ↦ absurd (not_both is (ap (λ (x : PlaceEntry). x.risen) (sym (here j held same there))))
           | inr other ↦ sym (updates.others j other) ∙ there
         ];
         inside = λ j held there. elim (cases_eq j k) [
-          | inl same ↦ subst (λ (x : Held). x.cell < n) (here j held same there) low
+          | inl same ↦ subst (λ (x : PlaceEntry). x.cell < n) (here j held same there) low
           | inr other ↦ inside j held (sym (updates.others j other) ∙ there)
         ];
       }
@@ -150,13 +151,14 @@ after_put {has = has} {blocks = blocks} c es b none = record {
 
 -- ---- the locking
 
-module _ {A : Type 0} {heap : TableSeen} (before seat : SeatSeen A) {places : Slab Held} {works : List (ℕ × Payload A)}
+module _ {A : Type 0} {heap : TableSeen} (before seat : SeatSeen A) {places : Slab PlaceEntry}
+    {works : List (ℕ × Payload A)}
     {popped : List ℕ} {ledger : Ledger} where
   -- a place's object may be locked
   pub lock_carries : (k c : ℕ) → Holding A heap before places works popped ledger
       → is_active (part_seen heap.cells before.log).row.stage ≡ true
       → locked_place heap.cells before.log ≡ None → place_seen heap.cells before.log k ≡ Some c
-      → Carries heap.cells before.log (Lock k) c
+      → MayCarry heap.cells before.log (Lock k) c
   lock_carries k c keeps active unlocked there = record {
     own = rw (may_lock (part_seen heap.cells before.log).row.stage k active, unlocked, keeps.hand_is) refl;
     cell = there;
@@ -165,8 +167,8 @@ module _ {A : Type 0} {heap : TableSeen} (before seat : SeatSeen A) {places : Sl
   pub after_lock : (k c : ℕ) (found : Contents) → Holding A heap before places works popped ledger
       → locked_place heap.cells before.log ≡ None
       → place_seen heap.cells before.log k ≡ Some c → seat.slots ≡ (c, None) ∷ before.slots
-      → IsKnown heap.cells seat.log (locking k c (entries_in found) (known_seen heap.cells before.log))
-      → Keeps heap.cells before.log seat.log
+      → KnowsPart heap.cells seat.log (locking k c (entries_in found) (known_seen heap.cells before.log))
+      → KeepsNotes heap.cells before.log seat.log
       → listed_at (taken_seen heap.cells before.log) c ≡ None → contents_locked seat.log ≡ Some found
       → Holding A heap seat places works popped ledger
   after_lock k c found keeps unlocked there out knows goes_on fresh found_now =
@@ -203,7 +205,7 @@ module _ {A : Type 0} {heap : TableSeen} (before seat : SeatSeen A) {places : Sl
   -- the object is found locked, and nothing is known but that
   pub after_busy : Holding A heap before places works popped ledger → locked_place heap.cells before.log ≡ None
       → seat.slots ≡ before.slots
-      → IsKnown heap.cells seat.log (known_seen heap.cells before.log) → Keeps heap.cells before.log seat.log
+      → KnowsPart heap.cells seat.log (known_seen heap.cells before.log) → KeepsNotes heap.cells before.log seat.log
       → Holding A heap seat places works popped ledger
   after_busy keeps unlocked still knows goes_on =
       let places_now : (j : ℕ) → place_seen heap.cells seat.log j ≡ cell_held (get places j) =
@@ -232,13 +234,13 @@ module _ {A : Type 0} {heap : TableSeen} (before seat : SeatSeen A) {places : Sl
 
 -- ---- the unlocking
 
-module _ {A : Type 0} {heap : TableSeen} (before seat : SeatSeen A) {old places : Slab Held}
+module _ {A : Type 0} {heap : TableSeen} (before seat : SeatSeen A) {old places : Slab PlaceEntry}
     {works : List (ℕ × Payload A)} {popped : List ℕ} {ledger : Ledger} where
   pub after_end : (change : Change) (c : ℕ) → Holding A heap before old works popped ledger
       → KnowsLock heap.cells before.log
       → lock_seen heap.cells before.log ≡ Some c → seat.slots ≡ rest before.slots
-      → IsKnown heap.cells seat.log (unlocking change c (known_seen heap.cells before.log))
-      → Keeps heap.cells before.log seat.log
+      → KnowsPart heap.cells seat.log (unlocking change c (known_seen heap.cells before.log))
+      → KeepsNotes heap.cells before.log seat.log
       → Refits heap.cells (frame_changed change (entries_in (found_locked before.log))
       (part_seen heap.cells before.log).frame) old places
       → Holding A heap seat places works popped ledger
@@ -276,8 +278,8 @@ module _ {A : Type 0} {heap : TableSeen} (before seat : SeatSeen A) {old places 
       → ((frame : List (Option ℕ)) (es : List ℕ) → frame_changed change es frame ≡ filled frame k
       (slice_index_or es i 0))
       → seat.slots ≡ rest before.slots
-      → IsKnown heap.cells seat.log (unlocking change c (known_seen heap.cells before.log))
-      → Keeps heap.cells before.log seat.log
+      → KnowsPart heap.cells seat.log (unlocking change c (known_seen heap.cells before.log))
+      → KeepsNotes heap.cells before.log seat.log
       → Updates old places k (Some (record { cell = d; risen = false }))
       → Holding A heap seat places works popped ledger
   after_end_filled change c i k d keeps lock locked entry fills home knows goes_on updates =
@@ -293,15 +295,16 @@ module _ {A : Type 0} {heap : TableSeen} (before seat : SeatSeen A) {old places 
   -- a place's reference is an entry's
   pub after_end_put : (c k : ℕ) → Holding A heap before old works popped ledger → KnowsLock heap.cells before.log
       → lock_seen heap.cells before.log ≡ Some c → seat.slots ≡ rest before.slots
-      → IsKnown heap.cells seat.log (unlocking (changes.Put k) c (known_seen heap.cells before.log))
-      → Keeps heap.cells before.log seat.log
+      → KnowsPart heap.cells seat.log (unlocking (changes.Put k) c (known_seen heap.cells before.log))
+      → KeepsNotes heap.cells before.log seat.log
       → Updates old places k None → Holding A heap seat places works popped ledger
   after_end_put c k keeps lock locked home knows goes_on updates =
       after_end (changes.Put k) c keeps lock locked home knows goes_on
       (refits_vacated heap.cells (part_seen heap.cells before.log).frame k keeps.placed keeps.inside updates)
 
 -- what the frame shows of a place that was changed
-pub changes_place : {A : Type 0} (old new : FrameSeen A) {before after : Slab Held} (k : ℕ) (slot : Option Held)
+pub changes_place : {A : Type 0} (old new : FrameSeen A) {before after : Slab PlaceEntry} (k : ℕ)
+    (slot : Option PlaceEntry)
     → ((j : ℕ) → cell_in old j ≡ cell_held (get before j)) → ((j : ℕ) → cell_in new j ≡ cell_held (get after j))
     → Updates before after k slot → ChangesPlace old new k (cell_held slot)
 changes_place old new k slot placed now updates = record {
@@ -328,7 +331,7 @@ module _ {A : Type 0} (frame : FrameSeen A) (block : ℕ × Payload A) where
       → entries_in (contents_of block.1) ≡ entries_changed change (part_seen frame.heap.cells frame.seat.log).frame
       (entries_found frame)
       → KeysGo change (contents_found frame) (contents_of block.1) → is_keep change ≡ false
-      → Unlocks frame.heap.cells frame.seat.log (shows block) (found_locked frame.seat.log) change block.0
+      → MayUnlock frame.heap.cells frame.seat.log (shows block) (found_locked frame.seat.log) change block.0
   unlocks change active free lock locked container same_kind allowed entries keys changed =
       let n = frame.heap.cells in
       let log = frame.seat.log in
@@ -354,7 +357,7 @@ module _ {A : Type 0} (frame : FrameSeen A) (block : ℕ × Payload A) where
       → slice_get (entries_found frame) i ≡ Some c → j < MOST_PLACES → cell_in frame j ≡ None
       → entries_in (contents_of block.1) ≡ remove (entries_found frame) i
       → keys_in (contents_of block.1) ≡ remove (keys_found frame) i
-      → Unlocks frame.heap.cells frame.seat.log (shows block) (found_locked frame.seat.log) (changes.Take i j) block.0
+      → MayUnlock frame.heap.cells frame.seat.log (shows block) (found_locked frame.seat.log) (changes.Take i j) block.0
   unlocks_take i j c active free lock locked container same_kind entry low vacant entries keys =
       unlocks (changes.Take i j) active free lock locked container same_kind
       (λ k place there. rw (
@@ -373,7 +376,7 @@ module _ {A : Type 0} (frame : FrameSeen A) (block : ℕ × Payload A) where
       → slice_get (entries_found frame) i ≡ Some c → is_some (cell_in frame j) ≡ true → place_locked frame ≢ Some j
       → ((d : ℕ) → cell_in frame j ≡ Some d → entries_in (contents_of block.1) ≡ slice_set (entries_found frame) i d)
       → keys_in (contents_of block.1) ≡ keys_found frame
-      → Unlocks frame.heap.cells frame.seat.log (shows block) (found_locked frame.seat.log) (changes.Swap i j) block.0
+      → MayUnlock frame.heap.cells frame.seat.log (shows block) (found_locked frame.seat.log) (changes.Swap i j) block.0
   unlocks_swap i j c active free lock locked container same_kind entry filled apart entries keys =
       let (d, is) = some_of (cell_in frame j) filled in
       unlocks (changes.Swap i j) active free lock locked container same_kind

@@ -1,7 +1,7 @@
 -- Which handles a frame owns after a call, from what the call does to its places.
 use Rattle.std.proofs.Common.{◌≡◌, ◌≢◌, ℕ, ◌+◌, ◌<◌, true, Option, Some, None, is_some, refl, sym, ◌∙◌, ap}
 use Rattle.brc_table.specs.law.world.declared.event.Source.{Source}
-use Rattle.brc_count.specs.Frames.{FrameSeen, HandleSeen, Owns, Given, ReleasedOf}
+use Rattle.brc_count.specs.Frames.{FrameSeen, HandleSeen, Owns, GivenHandle, ReleasedOf}
 use Rattle.brc_count.specs.Locking.{cell_in, KeepsThread, KeepsFrame, ChangesPlace}
 use Rattle.brc_count.specs.Owned.{Keeps, Gains, Loses}
 use Rattle.brc_words.specs.declared.limits.TheConstants.{MOST_PLACES}
@@ -93,7 +93,7 @@ module _ {A : Type 0} where
 
   -- a new handle has a reference
   pub given_gains : (old new : FrameSeen A) (source : Source) (c : ℕ) (given : HandleSeen) → new.heap ≡ old.heap
-      → Given old new source c given → Gains old new given
+      → GivenHandle old new source c given → Gains old new given
   given_gains old new source c given heap g =
       gains_place old new given c g.heap g.thread heap g.seat.1 g.len g.room g.vacant g.has g.others
 

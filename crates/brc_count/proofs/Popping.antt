@@ -19,17 +19,17 @@ use Rattle.brc_table.specs.law.world.declared.event.Dropped.TheVariants as drops
 use Rattle.brc_table.specs.law.known.Items.{Part, popped_told}
 use Rattle.brc_table.specs.law.known.Going_On.{popping, closing, reopening, settling, taking}
 use Rattle.brc_table.specs.law.known.Taken.{taken_on}
-use Rattle.brc_table.specs.law.rule.declared.told.Told.{Told}
+use Rattle.brc_table.specs.law.rule.declared.told.LogItem.{LogItem}
 use Rattle.brc_table.specs.law.rule.Seen.{part_seen, taken_seen}
 use Rattle.brc_table.specs.law.steps.Taking.{AreQueued}
-use Rattle.brc_table.specs.Knowing.{known_seen, entries_of as entries_answered, Keeps}
+use Rattle.brc_table.specs.Knowing.{known_seen, entries_of as entries_answered, KeepsNotes}
 use Rattle.brc_table.specs.Moving.{is_there, out_with}
-use Rattle.brc_table.specs.Seated.{TableSeen, SeatSeen, Stays, Continues}
-use Rattle.brc_biased.specs.Released.{Answers}
-use Rattle.brc_biased.specs.Standing.{KeepsPlaces}
-use Rattle.brc_biased.specs.Up.{IsKnown}
+use Rattle.brc_table.specs.Seated.{TableSeen, SeatSeen, IsSameSeat, Continues}
+use Rattle.brc_biased.specs.Released.{IsTakenBlock}
+use Rattle.brc_biased.specs.Standing.{FillsNoPlace}
+use Rattle.brc_biased.specs.Up.{KnowsPart}
 use Rattle.brc_biased.proofs.Marking.{marks_wide}
-use Rattle.brc_count.specs.declared.held.Held.{Held}
+use Rattle.brc_count.specs.declared.held.PlaceEntry.{PlaceEntry}
 use Rattle.brc_count.specs.declared.ledger.Ledger.{Ledger}
 use Rattle.brc_count.specs.Polling.{DealsBits, NoBit, NotSet, DrainsNamed, NoName, NotNamed}
 use Rattle.brc_count.specs.Frames.{AreBits, FrameSeen, Holding, locked_place, cell_held, pushed}
@@ -122,7 +122,7 @@ lowest_set n words k i v read low is fit =
 -- ---- what is held
 
 -- what is the same after the bits of word k are popped, and the bits
-pub record Pops (n : ℕ) (before log : List Told) (k number : ℕ) : Type 0 where
+pub record Pops (n : ℕ) (before log : List LogItem) (k number : ℕ) : Type 0 where
   pub hand : (part_seen n log).row.hand ≡ (part_seen n before).row.hand
   pub locked : (part_seen n log).row.locked ≡ (part_seen n before).row.locked
   pub allocs : (part_seen n log).row.allocs ≡ (part_seen n before).row.allocs
@@ -133,8 +133,8 @@ pub record Pops (n : ℕ) (before log : List Told) (k number : ℕ) : Type 0 whe
   pub blocks : taken_seen n log ≡ taken_seen n before
   pub popped : (part_seen n log).popped ≡ popped_told (Some k) number (part_seen n before).popped
 
-pub drained_pops : (n : ℕ) (before log : List Told) (k number : ℕ)
-    → IsKnown n log (popping k number (known_seen n before)) → Pops n before log k number
+pub drained_pops : (n : ℕ) (before log : List LogItem) (k number : ℕ)
+    → KnowsPart n log (popping k number (known_seen n before)) → Pops n before log k number
 drained_pops n before log k number knows = record {
   hand = ap (λ (p : Part). p.row.hand) knows.part;
   locked = ap (λ (p : Part). p.row.locked) knows.part;
@@ -147,8 +147,8 @@ drained_pops n before log k number knows = record {
   popped = ap (λ (p : Part). p.popped) knows.part;
 }
 
-pub closed_pops : (n : ℕ) (before log : List Told) (k number : ℕ)
-    → IsKnown n log (closing n k (popping k number (known_seen n before))) → Pops n before log k number
+pub closed_pops : (n : ℕ) (before log : List LogItem) (k number : ℕ)
+    → KnowsPart n log (closing n k (popping k number (known_seen n before))) → Pops n before log k number
 closed_pops n before log k number knows = record {
   hand = ap (λ (p : Part). p.row.hand) knows.part;
   locked = ap (λ (p : Part). p.row.locked) knows.part;
@@ -161,11 +161,12 @@ closed_pops n before log k number knows = record {
   popped = ap (λ (p : Part). p.popped) knows.part;
 }
 
-module _ {A : Type 0} {heap : TableSeen} (before seat : SeatSeen A) {places : Slab Held} {works : List (ℕ × Payload A)}
+module _ {A : Type 0} {heap : TableSeen} (before seat : SeatSeen A) {places : Slab PlaceEntry}
+    {works : List (ℕ × Payload A)}
     {popped : List ℕ} {ledger : Ledger} where
   -- the bits of a queue word are popped, whether it is drained or closed
-  pub after_pops : (k number read : ℕ) → Holding A heap before places works popped ledger → Stays before seat
-      → Pops heap.cells before.log seat.log k number → Keeps heap.cells before.log seat.log
+  pub after_pops : (k number read : ℕ) → Holding A heap before places works popped ledger → IsSameSeat before seat
+      → Pops heap.cells before.log seat.log k number → KeepsNotes heap.cells before.log seat.log
       → AreQueued heap.cells k number → k < words_for heap.cells → read ≡ word_at popped k
       → locked_place heap.cells before.log ≡ None
       → Holding A heap seat places works (set popped k (bit_or read number)) ledger
@@ -197,9 +198,9 @@ module _ {A : Type 0} {heap : TableSeen} (before seat : SeatSeen A) {places : Sl
   -- an entry is dealt with, and the block of the object that it ended is on the worklist
   pub after_settle : (c read : ℕ) (block : Option (ℕ × Payload A)) → Holding A heap before places works popped ledger
       → Continues before seat
-      → IsKnown heap.cells seat.log
+      → KnowsPart heap.cells seat.log
       (settling c (taking (is_there block) c (entries_answered block) (known_seen heap.cells before.log)))
-      → KeepsPlaces heap.cells before.log seat.log → Answers heap.cells c block before seat
+      → FillsNoPlace heap.cells before.log seat.log → IsTakenBlock heap.cells c block before seat
       → bit_of popped c ≡ 1 → read ≡ word_at popped (c / 32) → locked_place heap.cells before.log ≡ None
       → Holding A heap seat places (pushed block works) (set popped (c / 32) (bit_xor read (2 ^ (c % 32)))) ledger
   after_settle c read block keeps continues knows goes_on answers there was unlocked =
@@ -232,9 +233,9 @@ module _ {A : Type 0} {heap : TableSeen} (before seat : SeatSeen A) {places : Sl
       }
 
   -- a queue word is open again
-  pub after_opens : (k : ℕ) → Holding A heap before places works popped ledger → Stays before seat
-      → IsKnown heap.cells seat.log (reopening heap.cells k (known_seen heap.cells before.log))
-      → Keeps heap.cells before.log seat.log → locked_place heap.cells before.log ≡ None
+  pub after_opens : (k : ℕ) → Holding A heap before places works popped ledger → IsSameSeat before seat
+      → KnowsPart heap.cells seat.log (reopening heap.cells k (known_seen heap.cells before.log))
+      → KeepsNotes heap.cells before.log seat.log → locked_place heap.cells before.log ≡ None
       → Holding A heap seat places works popped ledger
   after_opens k keeps stays knows goes_on unlocked =
       let gone : locked_place heap.cells seat.log ≡ None = ap (λ (p : Part). p.row.locked) knows.part ∙ unlocked in
@@ -262,9 +263,9 @@ module _ {A : Type 0} {heap : TableSeen} (before seat : SeatSeen A) {places : Sl
   -- an own object is handed over, and its block, where it ended, is on the worklist
   pub after_handed : (c : ℕ) (block : Option (ℕ × Payload A)) → Holding A heap before places works popped ledger
       → Continues before seat
-      → IsKnown heap.cells seat.log
+      → KnowsPart heap.cells seat.log
       (taking (is_there block) c (entries_answered block) (known_seen heap.cells before.log))
-      → KeepsPlaces heap.cells before.log seat.log → Answers heap.cells c block before seat
+      → FillsNoPlace heap.cells before.log seat.log → IsTakenBlock heap.cells c block before seat
       → c < heap.cells → locked_place heap.cells before.log ≡ None
       → Holding A heap seat places (pushed block works) popped ledger
   after_handed c block keeps continues knows goes_on answers low unlocked =

@@ -6,8 +6,8 @@ use Rattle.brc_table.specs.law.world.declared.event.Dropped.TheVariants as drops
 use Rattle.brc_table.specs.law.world.declared.event.Step.TheVariants.{Free, Drain, Wake}
 use Rattle.brc_table.specs.law.world.Heap.{words_for}
 use Rattle.brc_table.specs.law.rule.declared.told.Moved.TheVariants.{Nothing}
-use Rattle.brc_table.specs.law.rule.declared.told.Told.{Told}
-use Rattle.brc_table.specs.law.rule.declared.told.Told.TheVariants.{Did}
+use Rattle.brc_table.specs.law.rule.declared.told.LogItem.{LogItem}
+use Rattle.brc_table.specs.law.rule.declared.told.LogItem.TheVariants.{Stepped}
 use Rattle.brc_table.specs.law.living.Quiet.{is_quiet, Quietly, NoItem, OneMore}
 use Rattle.brc_table.specs.law.living.Living.{OwnLog}
 use Rattle.brc_table.proofs.law.living.Earlier.{own_before}
@@ -30,7 +30,8 @@ module _ {A : Type 0} where
   joined a b c = quietly_joined a.seat.log b.seat.log c.seat.log
 
   -- one such item
-  one : (x : Told) (old new : FrameSeen A) → is_quiet x ≡ true → new.seat.log ≡ x ∷ old.seat.log → GoesQuietly old new
+  one : (x : LogItem) (old new : FrameSeen A) → is_quiet x ≡ true → new.seat.log ≡ x ∷ old.seat.log
+      → GoesQuietly old new
   one x old new quiet is = subst (Quietly old.seat.log) (sym is) (OneMore x old.seat.log NoItem quiet)
 
   pub release_quietly : (old new : FrameSeen A) (k c : ℕ) → ReleasedOf old new k c → GoesQuietly old new
@@ -53,7 +54,7 @@ module _ {A : Type 0} where
   turned_quietly old new (EntryReleased entry mid pops seen block same released works) =
       released_quietly old.heap.cells (drops.Work pops.cell) entry seen block old.seat.log new.seat.log released
   turned_quietly old new (BlockFreed front found same works empty is) =
-      one (Did (Free front.0) found Nothing) old new refl is
+      one (Stepped (Free front.0) found Nothing) old new refl is
 
   pub turns_quietly : (old : FrameSeen A) (n : ℕ) (new : FrameSeen A) → Turns old n new → GoesQuietly old new
   turns_quietly old _ _ frames.NoTurn = NoItem
@@ -74,7 +75,7 @@ module _ {A : Type 0} where
 
   drains_quietly : (old new : FrameSeen A) (k : ℕ) → Drains old new k → GoesQuietly old new
   drains_quietly old new k drains =
-      joined old drains.mid new (one (Did (Drain k) drains.bits Nothing) old drains.mid refl drains.drained)
+      joined old drains.mid new (one (Stepped (Drain k) drains.bits Nothing) old drains.mid refl drains.drained)
       (bits_quietly k drains.bits drains.mid 32 new drains.dealt)
 
   each_quietly : (from : ℕ) (old : FrameSeen A) (to : ℕ) (new : FrameSeen A) → DrainsEach from old to new
@@ -93,7 +94,7 @@ module _ {A : Type 0} where
 
   pub polled_quietly : (old new : FrameSeen A) (told : ℕ) → Polled old new told → GoesQuietly old new
   polled_quietly old new told polled =
-      joined old polled.mid new (one (Did Wake told Nothing) old polled.mid refl polled.woken)
+      joined old polled.mid new (one (Stepped Wake told Nothing) old polled.mid refl polled.woken)
       (named_quietly told (words_for old.heap.cells) polled.mid ((words_for old.heap.cells + 31) / 32) new
       polled.drains)
 

@@ -9,15 +9,15 @@ use Rattle.brc_table.specs.law.world.Lists.{bit_of, is_blank}
 use Rattle.brc_table.specs.law.world.Heap.{words_for}
 use Rattle.brc_table.specs.law.world.Steps.{closed_more, opened_more}
 use Rattle.brc_table.specs.law.rule.declared.told.Moved.TheVariants.{Nothing}
-use Rattle.brc_table.specs.law.rule.declared.told.Told.{Told}
-use Rattle.brc_table.specs.law.rule.declared.told.Told.TheVariants.{Did}
+use Rattle.brc_table.specs.law.rule.declared.told.LogItem.{LogItem}
+use Rattle.brc_table.specs.law.rule.declared.told.LogItem.TheVariants.{Stepped}
 use Rattle.brc_table.specs.law.rule.declared.view.View.{View}
 use Rattle.brc_table.specs.law.steps.Joining.{is_again, starting}
 use Rattle.brc_words.specs.declared.limits.TheConstants.{FIRST_MORTAL}
 use Rattle.brc_table.specs.block.declared.payload.Payload.{Payload}
 use Rattle.brc_table.specs.law.rule.Seen.{counts_seen}
 use Rattle.brc_count.specs.Frames.{FrameSeen, Turned, popped_seen, pushed}
-use Rattle.brc_biased.specs.Released.{Ends, HandsOver}
+use Rattle.brc_biased.specs.Released.{EndsByStep, HandsOver}
 
 -- where a thread stands that has closed so many of its queue words
 abbrev pub stage_with : ℕ → ℕ → Stage
@@ -28,26 +28,27 @@ abbrev pub stage_opened : ℕ → ℕ → Stage
 stage_opened words opened = if opened == 0 then stages.Opening 0 else opened_more words (opened - 1)
 
 -- so many queue words were opened again, by rising number
-pub data Opens (before : List Told) : ℕ → List Told → Type 0 where
-  NoneOpened : Opens before 0 before
-  Opened : (k : ℕ) (log : List Told) → Opens before k log → Opens before (k + 1) (Did (Reopen k) 0 Nothing ∷ log)
+pub data ReopensWords (before : List LogItem) : ℕ → List LogItem → Type 0 where
+  NoneOpened : ReopensWords before 0 before
+  Opened : (k : ℕ) (log : List LogItem) → ReopensWords before k log
+      → ReopensWords before (k + 1) (Stepped (Reopen k) 0 Nothing ∷ log)
 
 -- How the log of a thread begins that the root registers: a new number's with nothing, and one that was used before
 -- with the root's item and all its queue words.
-pub data BeginsBy (n : ℕ) (root : View) (log : List Told) : Type 0 where
+pub data BeginsBy (n : ℕ) (root : View) (log : List LogItem) : Type 0 where
   BeginsNew : is_again root ≡ false → log ≡ [] → BeginsBy n root log
-  BeginsAgain : is_again root ≡ true → Opens (starting root).log (words_for n) log → BeginsBy n root log
+  BeginsAgain : is_again root ≡ true → ReopensWords (starting root).log (words_for n) log → BeginsBy n root log
 
 -- a log that says at most that its number is used again
-pub data IsFirst (log : List Told) : Type 0 where
+pub data IsFirst (log : List LogItem) : Type 0 where
   FirstNew : log ≡ [] → IsFirst log
-  FirstAgain : (t : ℕ) → log ≡ Did (Register t) 0 Nothing ∷ [] → IsFirst log
+  FirstAgain : (t : ℕ) → log ≡ Stepped (Register t) 0 Nothing ∷ [] → IsFirst log
 
 -- so many queue words were closed, by rising number
-pub data Closes (before : List Told) : ℕ → List Told → Type 0 where
-  NoWord : Closes before 0 before
-  Closed : (k bits : ℕ) (log : List Told) → Closes before k log
-      → Closes before (k + 1) (Did (Close k) bits Nothing ∷ log)
+pub data ClosesWords (before : List LogItem) : ℕ → List LogItem → Type 0 where
+  NoWord : ClosesWords before 0 before
+  Closed : (k bits : ℕ) (log : List LogItem) → ClosesWords before k log
+      → ClosesWords before (k + 1) (Stepped (Close k) bits Nothing ∷ log)
 
 module _ {A : Type 0} where
   -- A popped entry of a thread that has left is counted down: its object is merged, since the thread handed over all
@@ -55,7 +56,7 @@ module _ {A : Type 0} where
   pub record CountsDown (old new : FrameSeen A) (c : ℕ) : Type 0 where
     pub heap : new.heap ≡ old.heap
     pub block : Option (ℕ × Payload A)
-    pub events : Ends (LastDown (lasts.Popped c)) c block old.seat.log new.seat.log
+    pub events : EndsByStep (LastDown (lasts.Popped c)) c block old.seat.log new.seat.log
     pub works : new.works ≡ pushed block old.works
 
   -- A turn of a thread that has left: a popped entry is counted down; or, if none is left, a turn of the work on dead
@@ -90,4 +91,4 @@ module _ {A : Type 0} where
   pub record GoesOut (old new : FrameSeen A) : Type 0 where
     pub mid : FrameSeen A
     pub hands : HandsEach old old.heap.cells mid
-    pub closes : Closes mid.seat.log (words_for old.heap.cells) new.seat.log
+    pub closes : ClosesWords mid.seat.log (words_for old.heap.cells) new.seat.log

@@ -19,19 +19,19 @@ use Rattle.brc_table.specs.law.world.Steps.{is_active, is_left, locked_cell, loc
 use Rattle.brc_table.specs.law.known.Items.{meant}
 use Rattle.brc_table.specs.law.known.Taken.{Blocks, listed_at}
 use Rattle.brc_table.specs.law.rule.declared.told.Moved.TheVariants.{Nothing}
-use Rattle.brc_table.specs.law.rule.declared.told.Told.{Told}
-use Rattle.brc_table.specs.law.rule.declared.told.Told.TheVariants.{Did}
+use Rattle.brc_table.specs.law.rule.declared.told.LogItem.{LogItem}
+use Rattle.brc_table.specs.law.rule.declared.told.LogItem.TheVariants.{Stepped}
 use Rattle.brc_table.specs.law.rule.Logs.{entries_in}
 use Rattle.brc_table.specs.law.rule.Seen.{part_seen, counts_seen, risen_seen, taken_seen}
 use Rattle.brc_table.specs.law.steps.Taking.{AreCells}
-use Rattle.brc_table.specs.Seated.{TableSeen, SeatSeen, Stays}
+use Rattle.brc_table.specs.Seated.{TableSeen, SeatSeen, IsSameSeat}
 use Rattle.brc_table.specs.Moving.{found_locked}
 use Rattle.brc_table.specs.Shown.{contents_of}
 use Rattle.brc_biased.specs.Counter.{CounterSeen}
 use Rattle.brc_biased.specs.Standing.{may_give_up}
 use Rattle.brc_biased.specs.Released.{Released}
 use Rattle.brc_biased.specs.Up.{CountsHere, RaisedImmortal, RaisedShared}
-use Rattle.brc_count.specs.declared.held.Held.{Held}
+use Rattle.brc_count.specs.declared.held.PlaceEntry.{PlaceEntry}
 use Rattle.brc_count.specs.declared.ledger.Ledger.{Ledger}
 
 -- of which heap the handle is, of which thread, and which place of that thread's frame has its reference
@@ -41,18 +41,18 @@ pub record HandleSeen : Type 0 where
   pub place : ℕ
 
 -- the cell to which a place of the frame has a reference, by the thread's log
-abbrev pub place_seen : ℕ → List Told → ℕ → Option ℕ
+abbrev pub place_seen : ℕ → List LogItem → ℕ → Option ℕ
 place_seen n log k = place_at (part_seen n log).frame k
 
 -- the place that the thread has locked, if one, and its cell
-abbrev pub locked_place : ℕ → List Told → Option ℕ
+abbrev pub locked_place : ℕ → List LogItem → Option ℕ
 locked_place n log = (part_seen n log).row.locked
 
-abbrev pub lock_seen : ℕ → List Told → Option ℕ
+abbrev pub lock_seen : ℕ → List LogItem → Option ℕ
 lock_seen n log = locked_cell (part_seen n log).frame (locked_place n log)
 
 -- the cell of what is held
-abbrev pub cell_held : Option Held → Option ℕ
+abbrev pub cell_held : Option PlaceEntry → Option ℕ
 cell_held None = None
 cell_held (Some held) = Some held.cell
 
@@ -127,13 +127,13 @@ AreBits n words = (k i : ℕ) → bit_at (word_at words k) i ≡ 1 → (i < 32) 
 -- risen was seen so; the popped words are the log's; the worklist has the dead blocks that the log lists, and no slot
 -- is out but theirs and that of the object that is locked, if one is; that one stands in its place, with the entries
 -- that were found. Births and frees are counted.
-pub record Holding (A : Type 0) (heap : TableSeen) (seat : SeatSeen A) (places : Slab Held)
+pub record Holding (A : Type 0) (heap : TableSeen) (seat : SeatSeen A) (places : Slab PlaceEntry)
     (works : List (ℕ × Payload A)) (popped : List ℕ) (ledger : Ledger) : Type 0 where
   pub hand_is : (part_seen heap.cells seat.log).row.hand ≡ hands.Free
   pub placed : (k : ℕ) → place_seen heap.cells seat.log k ≡ cell_held (get places k)
-  pub risen : (k : ℕ) (held : Held) → get places k ≡ Some held → held.risen ≡ true
+  pub risen : (k : ℕ) (held : PlaceEntry) → get places k ≡ Some held → held.risen ≡ true
       → risen_seen heap.cells seat.log (drops.Frame k) held.cell ≡ true
-  pub inside : (k : ℕ) (held : Held) → get places k ≡ Some held → held.cell < heap.cells
+  pub inside : (k : ℕ) (held : PlaceEntry) → get places k ≡ Some held → held.cell < heap.cells
   pub out : seat.slots ≡ slots_out (lock_seen heap.cells seat.log) works
   pub lock_filled : (k : ℕ) → locked_place heap.cells seat.log ≡ Some k
       → is_some (place_seen heap.cells seat.log k) ≡ true
@@ -192,7 +192,7 @@ pub record Leaving {A : Type 0} (holdings : FrameSeen A) (thread next : ℕ) : T
   pub done : (k : ℕ) → k < next → word_at (popped_seen holdings) k ≡ 0
 
 -- what contracts see of a frame at rest, without dead blocks
-abbrev pub resting_seen : {A : Type 0} → CounterSeen A → Slab Held → StartSeen → FrameSeen A
+abbrev pub resting_seen : {A : Type 0} → CounterSeen A → Slab PlaceEntry → StartSeen → FrameSeen A
 resting_seen counter places start = record {
   heap = counter.heap;
   seat = counter.seat;
@@ -205,7 +205,7 @@ resting_seen counter places start = record {
 }
 
 -- what a frame at rest keeps: it is a frame's, without handles and dead blocks, and nothing is locked
-pub record Rests (A : Type 0) (counter : CounterSeen A) (places : Slab Held) (popped : List ℕ) (ledger : Ledger)
+pub record Rests (A : Type 0) (counter : CounterSeen A) (places : Slab PlaceEntry) (popped : List ℕ) (ledger : Ledger)
     (start : StartSeen) (thread : ℕ) : Type 0 where
   pub holding : Holding A counter.heap counter.seat places [] popped ledger
   pub framing : Framing (resting_seen counter places start) thread
@@ -241,14 +241,15 @@ KeepsButStart old new = new ≡ record old { from = new.from; near = new.near }
 pub record CountsUp {A : Type 0} (old new : FrameSeen A) (source : Source) (k c : ℕ) : Type 0 where
   pub immortal : c < FIRST_MORTAL → RaisedImmortal source k old.seat.log new.seat.log
   pub own : FIRST_MORTAL ≤ c → CountsHere old.heap.cells old.heap.local_limit old.seat.log c
-      → new.seat.log ≡ Did (LocalUp source k) (counts_seen old.heap.cells old.seat.log c + 1) Nothing ∷ old.seat.log
+      → new.seat.log ≡ Stepped (LocalUp source k) (counts_seen old.heap.cells old.seat.log c + 1) Nothing ∷ old.seat.log
   pub risen : Bool
   pub shared : FIRST_MORTAL ≤ c → ¬ CountsHere old.heap.cells old.heap.local_limit old.seat.log c
       → RaisedShared source k old.seat.log new.seat.log risen
 
 -- A new handle is of the frame's heap and thread, in the place that was next, and has a reference to the cell; every
 -- other place has what it had, and no block came or went.
-pub record Given {A : Type 0} (old new : FrameSeen A) (source : Source) (c : ℕ) (given : HandleSeen) : Type 0 where
+pub record GivenHandle {A : Type 0} (old new : FrameSeen A) (source : Source) (c : ℕ)
+    (given : HandleSeen) : Type 0 where
   pub heap : given.heap ≡ old.heap
   pub thread : given.thread ≡ old.seat.thread
   pub place : given.place ≡ old.next
@@ -258,7 +259,7 @@ pub record Given {A : Type 0} (old new : FrameSeen A) (source : Source) (c : ℕ
   pub others : (k : ℕ) → k ≢ given.place → place_seen new.heap.cells new.seat.log k ≡ place_seen old.heap.cells
       old.seat.log k
   pub counted : CountsUp old new source given.place c
-  pub seat : Stays old.seat new.seat
+  pub seat : IsSameSeat old.seat new.seat
   pub len : new.len ≡ old.len + 1
   pub works : new.works ≡ old.works
   pub rest : KeepsRest old new
@@ -294,7 +295,7 @@ pub data Turned {A : Type 0} (old new : FrameSeen A) : Type 0 where
       → new.works ≡ pushed block mid → Turned old new
   BlockFreed : (front : ℕ × Payload A) (found : ℕ) → new.heap ≡ old.heap → old.works ≡ front ∷ new.works
       → entries_of front.1 ≡ []
-      → new.seat.log ≡ Did (Free front.0) found Nothing ∷ old.seat.log → Turned old new
+      → new.seat.log ≡ Stepped (Free front.0) found Nothing ∷ old.seat.log → Turned old new
 
 -- so many turns, one after the other
 pub data Turns {A : Type 0} (old : FrameSeen A) : ℕ → FrameSeen A → Type 0 where

@@ -10,8 +10,8 @@ use Rattle.brc_table.specs.law.known.Taken.{listed_at}
 use Rattle.brc_table.specs.law.rule.declared.contents.PlainKey.{PlainKey}
 use Rattle.brc_table.specs.law.rule.declared.contents.Contents.{Contents}
 use Rattle.brc_table.specs.law.rule.declared.told.Moved.TheVariants as moves
-use Rattle.brc_table.specs.law.rule.declared.told.Told.{Told}
-use Rattle.brc_table.specs.law.rule.declared.told.Told.TheVariants.{Did, Lost}
+use Rattle.brc_table.specs.law.rule.declared.told.LogItem.{LogItem}
+use Rattle.brc_table.specs.law.rule.declared.told.LogItem.TheVariants.{Stepped, Lost}
 use Rattle.brc_table.specs.law.rule.Keys.{keys_in}
 use Rattle.brc_table.specs.law.rule.Logs.{entries_in}
 use Rattle.brc_table.specs.law.rule.Seen.{part_seen, taken_seen, contents_locked}
@@ -24,7 +24,7 @@ use Rattle.brc_count.specs.Frames.{FrameSeen, place_seen, locked_place, lock_see
 -- What a thread knows of the object that it has locked: it stands in a place of the frame; what the locking found, with
 -- the entries that the thread's own part has, not too many, and all of them cells of the heap; and that its block is
 -- none of the dead ones.
-pub record KnowsLock (n : ℕ) (log : List Told) : Type 0 where
+pub record KnowsLock (n : ℕ) (log : List LogItem) : Type 0 where
   pub somewhere : is_some (lock_seen n log) ≡ true
   pub found : contents_locked log ≡ Some (found_locked log)
   pub has : (c : ℕ) → lock_seen n log ≡ Some c → (part_seen n log).has c ≡ entries_in (found_locked log)
@@ -94,7 +94,7 @@ pub record KeepsLock {A : Type 0} (old new : FrameSeen A) : Type 0 where
 -- that were found: those that the thread put home there last, where the object is private to it.
 pub record Began {A : Type 0} (old new : FrameSeen A) (k : ℕ) (block : ℕ × Payload A) : Type 0 where
   pub cell : cell_in old k ≡ Some block.0
-  pub event : new.seat.log ≡ Did (Lock k) 0 (moves.Found block.0 (contents_of block.1)) ∷ old.seat.log
+  pub event : new.seat.log ≡ Stepped (Lock k) 0 (moves.Found block.0 (contents_of block.1)) ∷ old.seat.log
   pub locked : IsLocked new
   pub locks_place : place_locked new ≡ Some k
   pub locks_cell : cell_locked new ≡ Some block.0
@@ -111,7 +111,7 @@ pub record Busy {A : Type 0} (old new : FrameSeen A) (k : ℕ) : Type 0 where
   pub unlocked : IsUnlocked new
 
 -- The locked object is changed and unlocked, by one event, and its block is at home.
-pub record Ended {A : Type 0} (old new : FrameSeen A) (change : Change) (block : ℕ × Payload A) : Type 0 where
-  pub event : new.seat.log ≡ Did (Unlock change) 0 (moves.Put block.0 (contents_of block.1)) ∷ old.seat.log
+pub record UnlockedBy {A : Type 0} (old new : FrameSeen A) (change : Change) (block : ℕ × Payload A) : Type 0 where
+  pub event : new.seat.log ≡ Stepped (Unlock change) 0 (moves.Put block.0 (contents_of block.1)) ∷ old.seat.log
   pub unlocked : IsUnlocked new
   pub keeps : KeepsThread old new

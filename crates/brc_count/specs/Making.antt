@@ -8,8 +8,8 @@ use Rattle.brc_table.specs.law.world.declared.event.Step.TheVariants.{InitLocal,
 use Rattle.brc_table.specs.law.rule.declared.contents.Contents.{Contents}
 use Rattle.brc_table.specs.law.rule.Logs.{kind_in}
 use Rattle.brc_table.specs.law.rule.declared.told.Moved.TheVariants.{Nothing, Put}
-use Rattle.brc_table.specs.law.rule.declared.told.Told.{Told}
-use Rattle.brc_table.specs.law.rule.declared.told.Told.TheVariants.{Did}
+use Rattle.brc_table.specs.law.rule.declared.told.LogItem.{LogItem}
+use Rattle.brc_table.specs.law.rule.declared.told.LogItem.TheVariants.{Stepped}
 use Rattle.brc_table.specs.Seated.{Continues}
 use Rattle.brc_biased.specs.Seeking.{PassesOver, ClaimsAround}
 use Rattle.brc_count.specs.Frames.{FrameSeen, HandleSeen, KeepsRest, KeepsHandles, IsAsBefore, IsFull, place_seen}
@@ -24,12 +24,12 @@ module _ {A : Type 0} where
     pub cell : ℕ
     pub mortal : FIRST_MORTAL ≤ cell
     pub inside : cell < old.heap.cells
-    pub mid : List Told
+    pub mid : List LogItem
     pub start : ℕ
     pub claimed : ClaimsAround old.heap.cells start cell old.seat.log mid
     pub as_asked : old.near ≡ false → start ≡ old.from
-    pub told : new.seat.log ≡ Did (Birth cell (kind_in contents) given.place) old.seat.thread (Put cell contents)
-        ∷ Did (InitShared cell) (2 ^ 42) Nothing ∷ Did (InitLocal cell) 1 Nothing ∷ mid
+    pub told : new.seat.log ≡ Stepped (Birth cell (kind_in contents) given.place) old.seat.thread (Put cell contents)
+        ∷ Stepped (InitShared cell) (2 ^ 42) Nothing ∷ Stepped (InitLocal cell) 1 Nothing ∷ mid
     pub heap : given.heap ≡ old.heap
     pub thread : given.thread ≡ old.seat.thread
     pub place : given.place ≡ old.next

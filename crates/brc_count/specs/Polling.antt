@@ -5,7 +5,7 @@ use Rattle.brc_table.specs.block.declared.payload.Payload.{Payload}
 use Rattle.brc_table.specs.law.world.declared.event.Step.TheVariants.{Drain, Wake}
 use Rattle.brc_table.specs.law.world.Heap.{words_for}
 use Rattle.brc_table.specs.law.rule.declared.told.Moved.TheVariants.{Nothing}
-use Rattle.brc_table.specs.law.rule.declared.told.Told.TheVariants.{Did}
+use Rattle.brc_table.specs.law.rule.declared.told.LogItem.TheVariants.{Stepped}
 use Rattle.brc_biased.specs.Released.{Settled}
 use Rattle.brc_count.specs.Frames.{FrameSeen, pushed}
 
@@ -32,7 +32,7 @@ module _ {A : Type 0} where
     pub bits : ℕ
     pub mid : FrameSeen A
     pub heap : mid.heap ≡ old.heap
-    pub drained : mid.seat.log ≡ Did (Drain k) bits Nothing ∷ old.seat.log
+    pub drained : mid.seat.log ≡ Stepped (Drain k) bits Nothing ∷ old.seat.log
     pub works : mid.works ≡ old.works
     pub dealt : DealsBits k bits mid 32 new
 
@@ -55,6 +55,6 @@ module _ {A : Type 0} where
   pub record Polled (old new : FrameSeen A) (told : ℕ) : Type 0 where
     pub mid : FrameSeen A
     pub heap : mid.heap ≡ old.heap
-    pub woken : mid.seat.log ≡ Did Wake told Nothing ∷ old.seat.log
+    pub woken : mid.seat.log ≡ Stepped Wake told Nothing ∷ old.seat.log
     pub works : mid.works ≡ old.works
     pub drains : DrainsNamed told (words_for old.heap.cells) mid ((words_for old.heap.cells + 31) / 32) new

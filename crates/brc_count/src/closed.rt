@@ -6,26 +6,26 @@ ghost use Rattle.brc_table.specs.law.world.Lists.{word_at, is_blank, is_unmarked
 ghost use Rattle.brc_table.specs.law.world.Steps.{is_left, is_free_hand};
 ghost use Rattle.brc_table.specs.law.rule.Seen.{part_seen};
 ghost use Rattle.brc_count.specs.Frames.{KeepsHandles, ledger_seen, popped_seen};
-ghost use Rattle.brc_table.specs.law.steps.Joining.{Leaves};
+ghost use Rattle.brc_table.specs.law.steps.Joining.{HasLeft};
 ghost use Rattle.brc_table.specs.Seated.{view_of};
 ghost use Rattle.brc_count.specs.Closing.{TurnedLeaving, TurnsLeaving};
 
 use crate::holdings::Holdings;
 use crate::ledger::Ledger;
-use brc_biased::Home;
+use brc_biased::HasTable;
 use brc_table::ThreadSeat;
 use std::alloc::Allocator;
 use std::marker::Model;
 
 /// What a thread that has left holds: popped entries of its queue, and dead blocks.
-pub struct ClosedFrame<H: Home<A>, A: Allocator> {
+pub struct ClosedFrame<H: HasTable<A>, A: Allocator> {
     pub(crate) holdings: Holdings<H, A>,
     pub(crate) thread: u32,
     /// All popped words below this one are 0.
     pub(crate) next: usize,
 }
 
-impl<H: Home<A>, A: Allocator> Model for ClosedFrame<H, A> {
+impl<H: HasTable<A>, A: Allocator> Model for ClosedFrame<H, A> {
     ghost use Rattle.brc_count.specs.Frames.{FrameSeen, Leaving};
 
     ghost Value = { FrameSeen A };
@@ -35,7 +35,7 @@ impl<H: Home<A>, A: Allocator> Model for ClosedFrame<H, A> {
     ghost invariant = { λ f. Leaving f.holdings f.thread f.next };
 }
 
-impl<H: Home<A>, A: Allocator> ClosedFrame<H, A> {
+impl<H: HasTable<A>, A: Allocator> ClosedFrame<H, A> {
     /// Whose frame it was: the thread's number, from 1 to 64.
     pub fn thread(&self) -> u32
         ensures { result ≡ self.now.seat.thread }
@@ -109,7 +109,7 @@ impl<H: Home<A>, A: Allocator> ClosedFrame<H, A> {
         H: Drop,
         ensures seat { IfOk result (λ seat. seat ≡ self.seat) }
         ensures table { IfOk result (λ seat. seat.table ≡ self.heap.table) }
-        ensures leaves { IfOk result (λ seat. Leaves self.heap.cells (view_of seat)) }
+        ensures leaves { IfOk result (λ seat. HasLeft self.heap.cells (view_of seat)) }
         ensures bare { IfOk result (λ seat. seat.slots ≡ []) }
         ensures refused { OnErr result ((is_blank (popped_seen self) ≡ false) ⊎ (0 < length self.works)) }
         ensures unchanged { IfErr result (λ same. same ≡ self) }
@@ -126,7 +126,7 @@ impl<H: Home<A>, A: Allocator> ClosedFrame<H, A> {
     }
 }
 
-impl<H: Home<A> + Drop, A: Allocator> ClosedFrame<H, A> {
+impl<H: HasTable<A> + Drop, A: Allocator> ClosedFrame<H, A> {
     /// The thread is given up: the memory of its dead blocks is given back, and what was in its queue is dealt with by
     /// nobody. Its seat is joined by nobody, so its heap answers Missing for good.
     pub fn abandon(self) {

@@ -4,25 +4,25 @@
 ghost use Rattle.std.specs.Prelude.{◌≡◌, ◌+◌, ◌<◌, ◌≤◌, ◌==◌, if◌then◌else◌, ℕ, [], List, true};
 ghost use Rattle.brc_table.specs.law.world.Heap.{words_for};
 ghost use Rattle.brc_table.specs.law.world.Lists.{is_blank};
-ghost use Rattle.brc_table.specs.law.rule.declared.told.Told.{Told};
+ghost use Rattle.brc_table.specs.law.rule.declared.told.LogItem.{LogItem};
 ghost use Rattle.brc_table.specs.law.rule.Seen.{part_seen};
 ghost use Rattle.brc_table.specs.law.world.Steps.{is_left};
-ghost use Rattle.brc_table.specs.law.steps.Joining.{Leaves};
-ghost use Rattle.brc_table.specs.Seated.{Stays, view_of};
+ghost use Rattle.brc_table.specs.law.steps.Joining.{HasLeft};
+ghost use Rattle.brc_table.specs.Seated.{IsSameSeat, view_of};
 ghost use Rattle.brc_count.specs.Frames.{IsUnlocked, IsActive, popped_seen};
 ghost use Rattle.brc_words.specs.declared.limits.TheConstants.{FIRST_MORTAL};
 ghost use Rattle.brc_table.specs.law.rule.Seen.{counts_seen};
 ghost use Rattle.brc_table.specs.law.world.declared.row.Stage.TheVariants as stages;
-ghost use Rattle.brc_count.specs.Closing.{Closes, HandsOne, HandsEach, Opens, stage_with, stage_opened};
+ghost use Rattle.brc_count.specs.Closing.{ClosesWords, HandsOne, HandsEach, ReopensWords, stage_with, stage_opened};
 
 use crate::holdings::Holdings;
 use crate::polling::join;
-use brc_biased::Home;
+use brc_biased::HasTable;
 use brc_table::ThreadSeat;
 use brc_words::FIRST_MORTAL;
 use std::alloc::Allocator;
 
-impl<H: Home<A>, A: Allocator> Holdings<H, A> {
+impl<H: HasTable<A>, A: Allocator> Holdings<H, A> {
     /// Closes the next of the thread's queue words; its entries are popped.
     fn close_word(&mut self, word: u32)
         requires inside { word < words_for self.old.heap.cells }
@@ -35,8 +35,8 @@ impl<H: Home<A>, A: Allocator> Holdings<H, A> {
         requires blank { word ≡ 0 → is_blank (popped_seen self.old) ≡ true }
         ensures heap { self.new.heap ≡ self.old.heap }
         ensures thread { self.new.seat.thread ≡ self.old.seat.thread }
-        ensures closes { (before : List Told) → Closes before word self.old.seat.log
-            → Closes before (word + 1) self.new.seat.log }
+        ensures closes { (before : List LogItem) → ClosesWords before word self.old.seat.log
+            → ClosesWords before (word + 1) self.new.seat.log }
         ensures stage { (part_seen self.old.heap.cells self.new.seat.log).row.stage ≡ stage_with
             (words_for self.old.heap.cells) (word + 1) }
         ensures unlocked { IsUnlocked self.new }
@@ -106,7 +106,7 @@ impl<H: Home<A>, A: Allocator> Holdings<H, A> {
         requires blank { is_blank (popped_seen self.old) ≡ true }
         ensures heap { self.new.heap ≡ self.old.heap }
         ensures thread { self.new.seat.thread ≡ self.old.seat.thread }
-        ensures closes { Closes self.old.seat.log (words_for self.old.heap.cells) self.new.seat.log }
+        ensures closes { ClosesWords self.old.seat.log (words_for self.old.heap.cells) self.new.seat.log }
         ensures stage { (part_seen self.old.heap.cells self.new.seat.log).row.stage
             ≡ stage_with (words_for self.old.heap.cells) (words_for self.old.heap.cells) }
         ensures unlocked { IsUnlocked self.new }
@@ -124,9 +124,9 @@ impl<H: Home<A>, A: Allocator> Holdings<H, A> {
             (words_for self.old.heap.cells) word }
         requires unlocked { IsUnlocked self.old }
         ensures same { self.new ≡ record self.old { seat = self.new.seat } }
-        ensures seat { Stays self.old.seat self.new.seat }
-        ensures opens { (before : List Told) → Opens before word self.old.seat.log
-            → Opens before (word + 1) self.new.seat.log }
+        ensures seat { IsSameSeat self.old.seat self.new.seat }
+        ensures opens { (before : List LogItem) → ReopensWords before word self.old.seat.log
+            → ReopensWords before (word + 1) self.new.seat.log }
         ensures stage { (part_seen self.old.heap.cells self.new.seat.log).row.stage ≡ stage_opened
             (words_for self.old.heap.cells) (word + 1) }
         ensures unlocked { IsUnlocked self.new }
@@ -139,8 +139,8 @@ impl<H: Home<A>, A: Allocator> Holdings<H, A> {
         requires stage { (part_seen self.old.heap.cells self.old.seat.log).row.stage ≡ stages.Opening 0 }
         requires unlocked { IsUnlocked self.old }
         ensures same { self.new ≡ record self.old { seat = self.new.seat } }
-        ensures seat { Stays self.old.seat self.new.seat }
-        ensures opens { Opens self.old.seat.log (words_for self.old.heap.cells) self.new.seat.log }
+        ensures seat { IsSameSeat self.old.seat self.new.seat }
+        ensures opens { ReopensWords self.old.seat.log (words_for self.old.heap.cells) self.new.seat.log }
         ensures stage { (part_seen self.old.heap.cells self.new.seat.log).row.stage
             ≡ stage_opened (words_for self.old.heap.cells) (words_for self.old.heap.cells) }
         ensures unlocked { IsUnlocked self.new }
@@ -161,7 +161,7 @@ impl<H: Home<A>, A: Allocator> Holdings<H, A> {
         requires some_thread { 0 < self.seat.thread }
         ensures seat { result ≡ self.seat }
         ensures table { result.table ≡ self.heap.table }
-        ensures leaves { Leaves self.heap.cells (view_of result) }
+        ensures leaves { HasLeft self.heap.cells (view_of result) }
         ensures bare { result.slots ≡ [] }
     {
         let Holdings {

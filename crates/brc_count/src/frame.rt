@@ -11,7 +11,7 @@ ghost use Rattle.brc_biased.specs.Bounded.{IsBounded};
 ghost use Rattle.brc_table.specs.law.steps.Joining.{next_thread, registrations, registering};
 ghost use Rattle.brc_table.specs.Seated.{Continues};
 ghost use Rattle.brc_table.specs.law.living.Living.{OwnLog};
-ghost use Rattle.brc_count.specs.Frames.{place_seen, handle_at, Owns, Given, Refused, ReleasedOf, IsAsBefore};
+ghost use Rattle.brc_count.specs.Frames.{place_seen, handle_at, Owns, GivenHandle, Refused, ReleasedOf, IsAsBefore};
 ghost use Rattle.brc_count.specs.Frames.{IsUnlocked, Turns, KeepsHandles, KeepsButStart, first_word, word_asked};
 ghost use Rattle.brc_count.specs.Frames.{ledger_seen};
 ghost use Rattle.brc_count.specs.Polling.{Polled};
@@ -23,11 +23,11 @@ ghost use Rattle.brc_table.specs.law.rule.Logs.{kind_in, entries_in};
 ghost use Rattle.brc_table.specs.Shown.{contents_of};
 
 use crate::closed::ClosedFrame;
-use crate::handed::Handed;
+use crate::handed::HandedBack;
 use crate::handle::Handle;
 use crate::holdings::Holdings;
 use crate::ledger::Ledger;
-use brc_biased::{Counter, Home, first_counts, no_bits};
+use brc_biased::{Counter, HasTable, first_counts, no_bits};
 use brc_table::RootSeat;
 use brc_table::block::Payload;
 use brc_table::law::world::Source;
@@ -37,12 +37,12 @@ use std::marker::Model;
 use std::snapshot::Snapshot;
 
 /// What a thread that is active holds, and the thread's number.
-pub struct Frame<H: Home<A>, A: Allocator> {
+pub struct Frame<H: HasTable<A>, A: Allocator> {
     pub(crate) holdings: Holdings<H, A>,
     pub(crate) thread: u32,
 }
 
-impl<H: Home<A>, A: Allocator> Model for Frame<H, A> {
+impl<H: HasTable<A>, A: Allocator> Model for Frame<H, A> {
     ghost use Rattle.brc_count.specs.Frames.{FrameSeen, Framing};
 
     ghost Value = { FrameSeen A };
@@ -52,7 +52,7 @@ impl<H: Home<A>, A: Allocator> Model for Frame<H, A> {
     ghost invariant = { λ f. Framing f.holdings f.thread };
 }
 
-impl<H: Home<A> + Drop, A: Allocator + Copy> Frame<H, A> {
+impl<H: HasTable<A> + Drop, A: Allocator + Copy> Frame<H, A> {
     #[tactic(auto, using(crate::proofs::Beginning::started_first, crate::proofs::Beginning::first_none, crate::proofs::Beginning::again_opening, crate::proofs::Leaving::stage_active))]
     /// The frame of the next thread, which is registered with it. If its number was used before, it opens its queue
     /// words. The memory for its counts, its owned bits and its popped words is had first: if it is missing, OutOfMemory
@@ -95,7 +95,7 @@ impl<H: Home<A> + Drop, A: Allocator + Copy> Frame<H, A> {
     }
 }
 
-impl<H: Home<A>, A: Allocator> Frame<H, A> {
+impl<H: HasTable<A>, A: Allocator> Frame<H, A> {
     /// Whose frame it is: the thread's number, from 1 to 64.
     pub fn thread(&self) -> u32
         ensures { result ≡ self.now.seat.thread }
@@ -178,7 +178,7 @@ impl<H: Home<A>, A: Allocator> Frame<H, A> {
         ensures heap { self.new.heap ≡ self.old.heap }
         ensures given { IfOk result (λ given. (c : ℕ) →
             place_seen self.old.heap.cells self.old.seat.log handle.now.place ≡ Some c →
-            Given self.old self.new (sources.Frame handle.now.place) c given) }
+            GivenHandle self.old self.new (sources.Frame handle.now.place) c given) }
         ensures refused { IfErr result (Refused self.old) }
         ensures unchanged { OnErr result (IsAsBefore self.old self.new) }
 
@@ -198,7 +198,7 @@ impl<H: Home<A>, A: Allocator> Frame<H, A> {
         requires immortal { cell < FIRST_MORTAL }
         requires unlocked { IsUnlocked self.old }
         ensures heap { self.new.heap ≡ self.old.heap }
-        ensures given { IfOk result (λ given. Given self.old self.new (sources.Immortal cell) cell given) }
+        ensures given { IfOk result (λ given. GivenHandle self.old self.new (sources.Immortal cell) cell given) }
         ensures refused { IfErr result (Refused self.old) }
         ensures unchanged { OnErr result (IsAsBefore self.old self.new) }
 
@@ -218,7 +218,7 @@ impl<H: Home<A>, A: Allocator> Frame<H, A> {
     pub fn globals(&mut self) -> Result<Handle<A>, Fault>
         requires unlocked { IsUnlocked self.old }
         ensures heap { self.new.heap ≡ self.old.heap }
-        ensures given { IfOk result (Given self.old self.new (sources.Immortal GLOBALS) GLOBALS) }
+        ensures given { IfOk result (GivenHandle self.old self.new (sources.Immortal GLOBALS) GLOBALS) }
         ensures refused { IfErr result (Refused self.old) }
         ensures unchanged { OnErr result (IsAsBefore self.old self.new) }
 
@@ -265,14 +265,18 @@ impl<H: Home<A>, A: Allocator> Frame<H, A> {
     /// no place is left; LedgerFull where the thread has made 2^47 objects since it was registered; OutOfMemory
     /// where the place or the block can't be had; HeapFull where all mortal cells were found taken. A container's payload is empty.
     #[inline(always)]
-    pub fn born(&mut self, alloc: A, payload: Payload<A>) -> Result<Handle<A>, Handed<Payload<A>>>
+    pub fn born(
+        &mut self,
+        alloc: A,
+        payload: Payload<A>,
+    ) -> Result<Handle<A>, HandedBack<Payload<A>>>
         requires unlocked { IsUnlocked self.old }
         requires mortal { is_mortal (kind_in (contents_of payload)) ≡ true }
         requires empty { entries_in (contents_of payload) ≡ [] }
         ensures heap { self.new.heap ≡ self.old.heap }
         ensures made { IfOk result (Made self.old self.new (contents_of payload)) }
         ensures refused { IfErr result (λ handed. RefusedMaking self.old self.new handed.fault) }
-        ensures back { IfErr result (λ handed. handed.back ≡ payload) }
+        ensures back { IfErr result (λ handed. handed.value ≡ payload) }
 
         ensures gains { IfOk result (Gains self.old self.new) }
         ensures keeps { OnErr result (Keeps self.old self.new) }
@@ -280,13 +284,13 @@ impl<H: Home<A>, A: Allocator> Frame<H, A> {
     {
         match self.holdings.born(alloc, payload) {
             Ok(place) => Ok(self.handle(place)),
-            Err((fault, back)) => Err(Handed { fault, back }),
+            Err((fault, back)) => Err(HandedBack { fault, value: back }),
         }
     }
 
     /// The reference goes, in at most `MOST_EVENTS` events whatever others do, with one lost exchange in the log; where
     /// the object ends, its block is on the front of the worklist (PEP 703, "Biased Reference Counting"). It waits for
-    /// nobody, unless its `Home` does to find the table.
+    /// nobody, unless its `HasTable` does to find the table.
     #[inline(always)]
     pub fn release(&mut self, handle: Handle<A>)
         requires owned { Owns self.old handle }
@@ -367,7 +371,7 @@ impl<H: Home<A>, A: Allocator> Frame<H, A> {
     }
 }
 
-impl<H: Home<A> + Drop, A: Allocator> Frame<H, A> {
+impl<H: HasTable<A> + Drop, A: Allocator> Frame<H, A> {
     /// The thread is given up without leaving: the memory of its dead blocks is given back, and their cells are never
     /// free again. Its seat is joined by nobody, so its heap answers Missing for good. It has no handle, so no reference
     /// is lost.

@@ -6,18 +6,18 @@ use brc_words::Fault;
 
 /// Why a call was refused, and what it had taken, as it was.
 #[derive(Debug, Drop)]
-pub struct Handed<T> {
+pub struct HandedBack<T> {
     pub fault: Fault,
-    pub back: T,
+    pub value: T,
 }
 
-impl<T> Handed<T> {
+impl<T> HandedBack<T> {
     /// Both parts, to be had one by one.
     #[inline(always)]
     pub fn parts(self) -> (Fault, T)
-        ensures { result ≡ (self.fault, self.back) }
+        ensures { result ≡ (self.fault, self.value) }
     {
-        let Handed { fault, back } = self;
+        let HandedBack { fault, value: back } = self;
         (fault, back)
     }
 }

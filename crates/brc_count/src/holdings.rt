@@ -12,14 +12,15 @@ ghost use Rattle.brc_biased.specs.Standing.{may_give_up};
 ghost use Rattle.brc_table.specs.law.rule.Seen.{part_seen};
 ghost use Rattle.brc_table.specs.Seated.{Continues};
 ghost use Rattle.brc_count.specs.Closing.{IsFirst};
-ghost use Rattle.brc_count.specs.Frames.{IsActive, MayGiveUp, SourceFits, SourceNames, place_seen, locked_place, Given};
+ghost use Rattle.brc_count.specs.Frames.{IsActive, MayGiveUp, SourceFits, SourceNames, place_seen, locked_place};
+ghost use Rattle.brc_count.specs.Frames.{GivenHandle};
 ghost use Rattle.brc_count.specs.Frames.{IsFull, Refused, ReleasedOf, handle_at, IsAsBefore, KeepsRest, ledger_seen};
 ghost use Rattle.brc_count.specs.Frames.{popped_seen, IsUnlocked, KeepsButStart, first_word, word_asked};
 
-use crate::held::Held;
+use crate::held::PlaceEntry;
 use crate::ledger::Ledger;
 use crate::start::ClaimStart;
-use brc_biased::{Counter, Home};
+use brc_biased::{Counter, HasTable};
 use brc_table::block::Worklist;
 use brc_table::law::world::{Dropped, Source};
 use brc_words::{Fault, MOST_PLACES};
@@ -29,16 +30,16 @@ use std::marker::Model;
 
 /// A thread's counter, the places of its frame, its dead blocks with the last that died in front, one word of popped
 /// entries for each of its queue words, what it has made and given back, and where its claims begin.
-pub(crate) struct Holdings<H: Home<A>, A: Allocator> {
+pub(crate) struct Holdings<H: HasTable<A>, A: Allocator> {
     pub(crate) counter: Counter<H, A>,
-    pub(crate) places: Slab<Held, A>,
+    pub(crate) places: Slab<PlaceEntry, A>,
     pub(crate) works: Worklist<A>,
     pub(crate) popped: Vec<u64, A>,
     pub(crate) ledger: Ledger,
     pub(crate) start: ClaimStart,
 }
 
-impl<H: Home<A>, A: Allocator> Model for Holdings<H, A> {
+impl<H: HasTable<A>, A: Allocator> Model for Holdings<H, A> {
     ghost use Rattle.std.specs.Prelude.{◌-◌};
     ghost use Rattle.slab.specs.Slab.{slab_len};
     ghost use Rattle.brc_count.specs.Frames.{FrameSeen, Holding};
@@ -59,7 +60,7 @@ impl<H: Home<A>, A: Allocator> Model for Holdings<H, A> {
     ghost invariant = { λ f. Holding A f.counter.heap f.counter.seat f.places f.works f.popped.items f.ledger };
 }
 
-impl<H: Home<A>, A: Allocator> Holdings<H, A> {
+impl<H: HasTable<A>, A: Allocator> Holdings<H, A> {
     #[tactic(auto, using(crate::proofs::Changes::opening))]
     /// Nothing is held yet.
     pub(crate) fn new(alloc: A, counter: Counter<H, A>, popped: Vec<u64, A>) -> Self
@@ -172,12 +173,12 @@ impl<H: Home<A>, A: Allocator> Holdings<H, A> {
         requires fits { SourceFits source self.old }
         requires named { SourceNames source cell self.old }
         ensures heap { self.new.heap ≡ self.old.heap }
-        ensures given { Given self.old self.new source cell (handle_at self.new result) }
+        ensures given { GivenHandle self.old self.new source cell (handle_at self.new result) }
         ensures popped { popped_seen self.new ≡ popped_seen self.old }
     {
         let place = self.places.vacant_key() as u32;
         let risen = self.counter.up(source, place, cell);
-        let _key = self.places.insert_reserved(Held { cell, risen });
+        let _key = self.places.insert_reserved(PlaceEntry { cell, risen });
         place
     }
 
@@ -206,7 +207,7 @@ impl<H: Home<A>, A: Allocator> Holdings<H, A> {
     }
 }
 
-impl<H: Home<A> + Drop, A: Allocator> Holdings<H, A> {
+impl<H: HasTable<A> + Drop, A: Allocator> Holdings<H, A> {
     /// Drops all of it.
     pub(crate) fn abandon(self) {
         let Holdings {

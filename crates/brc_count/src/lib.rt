@@ -22,9 +22,9 @@ mod work;
 
 pub use closed::ClosedFrame;
 pub use frame::Frame;
-pub use handed::Handed;
+pub use handed::HandedBack;
 pub use handle::Handle;
-pub use held::Held;
+pub use held::PlaceEntry;
 pub use ledger::Ledger;
 pub use resting::RestingFrame;
 pub use start::unasked_claims_take_the_lowest_cell;

@@ -14,17 +14,17 @@ ghost use Rattle.brc_table.specs.law.world.declared.event.Source.TheVariants as 
 ghost use Rattle.brc_table.specs.law.rule.Keys.{keys_in, KeyPut};
 ghost use Rattle.brc_table.specs.law.rule.Logs.{entries_in, kind_in};
 ghost use Rattle.brc_table.specs.Shown.{contents_of};
-ghost use Rattle.brc_count.specs.Frames.{Owns, handle_at, IsActive, Given, Refused, IsAsBefore, IsUnlocked};
+ghost use Rattle.brc_count.specs.Frames.{Owns, handle_at, IsActive, GivenHandle, Refused, IsAsBefore, IsUnlocked};
 ghost use Rattle.brc_count.specs.Frames.{popped_seen};
 ghost use Rattle.brc_count.specs.Locking.{IsLocked, cell_in, place_locked, cell_locked, contents_found, entries_found};
 ghost use Rattle.brc_count.specs.Locking.{keys_found, KeepsThread, KeepsFrame, ChangesPlace, KeepsLock, Began, Busy};
-ghost use Rattle.brc_count.specs.Locking.{Ended};
+ghost use Rattle.brc_count.specs.Locking.{UnlockedBy};
 
 use crate::frame::Frame;
 use crate::handle::Handle;
-use crate::held::Held;
+use crate::held::PlaceEntry;
 use crate::holdings::Holdings;
-use brc_biased::Home;
+use brc_biased::HasTable;
 use brc_table::block::Block;
 use brc_table::law::world::{Change, Source};
 use brc_words::Fault;
@@ -33,7 +33,7 @@ use std::alloc::Allocator;
 
 /// A place that is filled has this now.
 #[inline(always)]
-fn replace<A: Allocator>(places: &mut Slab<Held, A>, place: u32, held: Held)
+fn replace<A: Allocator>(places: &mut Slab<PlaceEntry, A>, place: u32, held: PlaceEntry)
     requires filled { is_some (get places.old place) ≡ true }
     ensures updates { Updates places.old places.new place (Some held) }
     ensures len { slab_len places.new ≡ slab_len places.old }
@@ -43,7 +43,7 @@ fn replace<A: Allocator>(places: &mut Slab<Held, A>, place: u32, held: Held)
     places[place as usize] = held;
 }
 
-impl<H: Home<A>, A: Allocator> Holdings<H, A> {
+impl<H: HasTable<A>, A: Allocator> Holdings<H, A> {
     /// Locks the object in a place, and answers its block; None where it is found locked.
     #[inline(always)]
     pub(crate) fn begin(&mut self, place: u32) -> Option<Block<A>>
@@ -73,7 +73,7 @@ impl<H: Home<A>, A: Allocator> Holdings<H, A> {
         requires room { 0 < self.old.spare }
         requires low { self.old.next < MOST_PLACES }
         ensures heap { self.new.heap ≡ self.old.heap }
-        ensures given { Given self.old self.new (sources.Entry index) cell
+        ensures given { GivenHandle self.old self.new (sources.Entry index) cell
             (handle_at self.new result) }
         ensures popped { popped_seen self.new ≡ popped_seen self.old }
         ensures lock { KeepsLock self.old self.new }
@@ -88,7 +88,7 @@ impl<H: Home<A>, A: Allocator> Holdings<H, A> {
         requires locked { IsLocked self.old }
         requires of_cell { cell_locked self.old ≡ Some block.0 }
         requires same { contents_of block.1 ≡ contents_found self.old }
-        ensures ended { Ended self.old self.new changes.Keep block }
+        ensures ended { UnlockedBy self.old self.new changes.Keep block }
         ensures frame { KeepsFrame self.old self.new }
     {
         self.counter.unlock(block, Change::Keep);
@@ -108,7 +108,7 @@ impl<H: Home<A>, A: Allocator> Holdings<H, A> {
         requires entries { (c : ℕ) → cell_in self.old place ≡ Some c →
             entries_in (contents_of block.1) ≡ entries_found self.old ++ c ∷ [] }
         requires keys { KeyPut (contents_found self.old) (contents_of block.1) }
-        ensures ended { Ended self.old self.new (changes.Put place) block }
+        ensures ended { UnlockedBy self.old self.new (changes.Put place) block }
         ensures places { ChangesPlace self.old self.new place None }
         ensures len { self.new.len + 1 ≡ self.old.len }
     {
@@ -131,14 +131,16 @@ impl<H: Home<A>, A: Allocator> Holdings<H, A> {
         requires keys { keys_in (contents_of block.1) ≡ remove (keys_found self.old) index }
         ensures next { result ≡ self.old.next }
         ensures vacant { cell_in self.old result ≡ None }
-        ensures ended { Ended self.old self.new (changes.Take index result) block }
+        ensures ended { UnlockedBy self.old self.new (changes.Take index result) block }
         ensures places { ChangesPlace self.old self.new result (Some cell) }
         ensures len { self.new.len ≡ self.old.len + 1 }
     {
         let place = self.places.vacant_key() as u32;
         self.counter.unlock(block, Change::Take { index, place });
         // Whether its state has risen wasn't looked at since the place has it, so its release will look.
-        let _key = self.places.insert_reserved(Held { cell, risen: false });
+        let _key = self
+            .places
+            .insert_reserved(PlaceEntry { cell, risen: false });
         place
     }
 
@@ -156,16 +158,16 @@ impl<H: Home<A>, A: Allocator> Holdings<H, A> {
         requires entries { (c : ℕ) → cell_in self.old place ≡ Some c →
             entries_in (contents_of block.1) ≡ slice_set (entries_found self.old) index c }
         requires keys { keys_in (contents_of block.1) ≡ keys_found self.old }
-        ensures ended { Ended self.old self.new (changes.Swap index place) block }
+        ensures ended { UnlockedBy self.old self.new (changes.Swap index place) block }
         ensures places { ChangesPlace self.old self.new place (Some cell) }
         ensures len { self.new.len ≡ self.old.len }
     {
         self.counter.unlock(block, Change::Swap { index, place });
-        replace(&mut self.places, place, Held { cell, risen: false });
+        replace(&mut self.places, place, PlaceEntry { cell, risen: false });
     }
 }
 
-impl<H: Home<A>, A: Allocator> Frame<H, A> {
+impl<H: HasTable<A>, A: Allocator> Frame<H, A> {
     /// Locks the handle's object and answers its block, which an `end` takes back; None where it is found locked.
     #[inline(always)]
     pub fn begin(&mut self, handle: &Handle<A>) -> Option<Block<A>>
@@ -200,7 +202,7 @@ impl<H: Home<A>, A: Allocator> Frame<H, A> {
         requires room { 0 < self.old.spare }
         requires low { self.old.next < MOST_PLACES }
         ensures heap { self.new.heap ≡ self.old.heap }
-        ensures given { Given self.old self.new (sources.Entry index) cell result }
+        ensures given { GivenHandle self.old self.new (sources.Entry index) cell result }
         ensures lock { KeepsLock self.old self.new }
     {
         let place = self.holdings.up_entry(index, cell);
@@ -213,7 +215,7 @@ impl<H: Home<A>, A: Allocator> Frame<H, A> {
         requires locked { IsLocked self.old }
         requires of_cell { cell_locked self.old ≡ Some block.0 }
         requires same { contents_of block.1 ≡ contents_found self.old }
-        ensures ended { Ended self.old self.new changes.Keep block }
+        ensures ended { UnlockedBy self.old self.new changes.Keep block }
         ensures frame { KeepsFrame self.old self.new }
     {
         self.holdings.end_keep(block);
@@ -232,7 +234,7 @@ impl<H: Home<A>, A: Allocator> Frame<H, A> {
         requires entries { (c : ℕ) → cell_in self.old handle.place ≡ Some c →
             entries_in (contents_of block.1) ≡ entries_found self.old ++ c ∷ [] }
         requires keys { KeyPut (contents_found self.old) (contents_of block.1) }
-        ensures ended { Ended self.old self.new (changes.Put handle.place) block }
+        ensures ended { UnlockedBy self.old self.new (changes.Put handle.place) block }
         ensures places { ChangesPlace self.old self.new handle.place None }
         ensures len { self.new.len + 1 ≡ self.old.len }
     {
@@ -256,7 +258,7 @@ impl<H: Home<A>, A: Allocator> Frame<H, A> {
         ensures thread { result.thread ≡ self.old.seat.thread }
         ensures next { result.place ≡ self.old.next }
         ensures vacant { cell_in self.old result.place ≡ None }
-        ensures ended { Ended self.old self.new (changes.Take index result.place) block }
+        ensures ended { UnlockedBy self.old self.new (changes.Take index result.place) block }
         ensures places { ChangesPlace self.old self.new result.place (Some cell) }
         ensures len { self.new.len ≡ self.old.len + 1 }
     {
@@ -285,7 +287,7 @@ impl<H: Home<A>, A: Allocator> Frame<H, A> {
             entries_in (contents_of block.1) ≡ slice_set (entries_found self.old) index c }
         requires keys { keys_in (contents_of block.1) ≡ keys_found self.old }
         ensures same { result ≡ handle }
-        ensures ended { Ended self.old self.new (changes.Swap index handle.place) block }
+        ensures ended { UnlockedBy self.old self.new (changes.Swap index handle.place) block }
         ensures places { ChangesPlace self.old self.new handle.place (Some cell) }
         ensures len { self.new.len ≡ self.old.len }
     {

@@ -8,14 +8,14 @@ ghost use Rattle.brc_table.specs.Shown.{contents_of};
 ghost use Rattle.brc_count.specs.Frames.{handle_at, IsActive, IsUnlocked, IsAsBefore, ledger_seen, popped_seen};
 ghost use Rattle.brc_count.specs.Making.{Made, FoundNone, RefusedMaking};
 
-use crate::held::Held;
+use crate::held::PlaceEntry;
 use crate::holdings::Holdings;
-use brc_biased::Home;
+use brc_biased::HasTable;
 use brc_table::block::{Block, Payload};
 use brc_words::{Fault, MOST_BIRTHS};
 use std::alloc::Allocator;
 
-impl<H: Home<A>, A: Allocator> Holdings<H, A> {
+impl<H: HasTable<A>, A: Allocator> Holdings<H, A> {
     /// Has a place and a block ready for a new object. The faults come in this order: FrameFull, LedgerFull,
     /// OutOfMemory.
     #[inline(always)]
@@ -67,7 +67,9 @@ impl<H: Home<A>, A: Allocator> Holdings<H, A> {
         let mut block = block;
         block.set_cell(cell);
         self.counter.bear(block, kind, place);
-        let _key = self.places.insert_reserved(Held { cell, risen: false });
+        let _key = self
+            .places
+            .insert_reserved(PlaceEntry { cell, risen: false });
         self.ledger.allocs += 1;
         Ok(place)
     }

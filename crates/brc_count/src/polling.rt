@@ -9,7 +9,7 @@ ghost use Rattle.brc_table.specs.law.world.Heap.{words_for};
 ghost use Rattle.brc_table.specs.law.world.Lists.{bit_of, word_at, without_bit, is_blank};
 ghost use Rattle.brc_table.specs.law.known.Items.{popped_told};
 ghost use Rattle.brc_table.specs.law.rule.declared.told.Moved.TheVariants as moves;
-ghost use Rattle.brc_table.specs.law.rule.declared.told.Told.TheVariants as told;
+ghost use Rattle.brc_table.specs.law.rule.declared.told.LogItem.TheVariants as told;
 ghost use Rattle.brc_table.specs.law.living.Living.{OwnLog};
 ghost use Rattle.brc_count.specs.Frames.{IsActive, MayGiveUp, IsUnlocked, KeepsHandles, popped_seen};
 ghost use Rattle.brc_table.specs.law.world.Steps.{is_left};
@@ -18,7 +18,7 @@ ghost use Rattle.brc_count.specs.Closing.{CountsDown};
 ghost use Rattle.brc_count.specs.Polling.{Deals, DealsBits, Drains, DrainsEach, DrainsNamed, Polled};
 
 use crate::holdings::Holdings;
-use brc_biased::{Home, strike};
+use brc_biased::{HasTable, strike};
 use std::alloc::Allocator;
 
 /// These bits of a word are popped besides.
@@ -54,7 +54,7 @@ fn past_named(words: u32, bit: u32) -> u32
     words.min(bit * 32 + 32)
 }
 
-impl<H: Home<A>, A: Allocator> Holdings<H, A> {
+impl<H: HasTable<A>, A: Allocator> Holdings<H, A> {
     /// How many queue words the thread has.
     pub(crate) fn words(&self) -> u32
         ensures words { result ≡ words_for self.now.heap.cells }
@@ -69,7 +69,7 @@ impl<H: Home<A>, A: Allocator> Holdings<H, A> {
         requires active { IsActive self.old }
         requires unlocked { IsUnlocked self.old }
         ensures keeps { KeepsHandles self.old self.new }
-        ensures told { self.new.seat.log ≡ told.Did steps.Wake result moves.Nothing ∷ self.old.seat.log }
+        ensures told { self.new.seat.log ≡ told.Stepped steps.Wake result moves.Nothing ∷ self.old.seat.log }
         ensures works { self.new.works ≡ self.old.works }
         ensures popped { popped_seen self.new ≡ popped_seen self.old }
         ensures own { OwnLog self.old.heap.cells self.old.seat.log }
@@ -83,7 +83,7 @@ impl<H: Home<A>, A: Allocator> Holdings<H, A> {
         requires active { IsActive self.old }
         requires unlocked { IsUnlocked self.old }
         ensures keeps { KeepsHandles self.old self.new }
-        ensures told { self.new.seat.log ≡ told.Did (steps.Drain word) result moves.Nothing ∷ self.old.seat.log }
+        ensures told { self.new.seat.log ≡ told.Stepped (steps.Drain word) result moves.Nothing ∷ self.old.seat.log }
         ensures works { self.new.works ≡ self.old.works }
         ensures popped { popped_seen self.new ≡ popped_told (Some word) result (popped_seen self.old) }
         ensures found { word_at (popped_seen self.old) word ≡ 0 → word_at (popped_seen self.new) word ≡ result }

@@ -5,11 +5,11 @@ ghost use Rattle.std.specs.Prelude.{◌≡◌, []};
 ghost use Rattle.brc_count.specs.Frames.{IsUnlocked};
 
 use crate::frame::Frame;
-use crate::held::Held;
+use crate::held::PlaceEntry;
 use crate::holdings::Holdings;
 use crate::ledger::Ledger;
 use crate::start::ClaimStart;
-use brc_biased::{Home, RestingCounter};
+use brc_biased::{HasTable, RestingCounter};
 use brc_table::block::Worklist;
 use slab::Slab;
 use std::alloc::Allocator;
@@ -19,7 +19,7 @@ use std::marker::Model;
 #[derive(Drop)]
 pub struct RestingFrame<A: Allocator> {
     counter: RestingCounter<A>,
-    places: Slab<Held, A>,
+    places: Slab<PlaceEntry, A>,
     popped: Vec<u64, A>,
     ledger: Ledger,
     start: ClaimStart,
@@ -36,7 +36,7 @@ impl<A: Allocator> Model for RestingFrame<A> {
     ghost invariant = { λ f. Rests A f.counter f.places f.popped.items f.ledger f.start f.thread };
 }
 
-impl<H: Home<A> + Drop, A: Allocator> Frame<H, A> {
+impl<H: HasTable<A> + Drop, A: Allocator> Frame<H, A> {
     /// The frame, away from its heap.
     pub fn rest(self) -> RestingFrame<A>
         requires idle { (self.len ≡ 0) × (self.works ≡ []) }
@@ -73,7 +73,7 @@ impl<A: Allocator> RestingFrame<A> {
     }
 
     /// The frame, at its heap again.
-    pub fn wake<H: Home<A>>(self, heap: H) -> Frame<H, A>
+    pub fn wake<H: HasTable<A>>(self, heap: H) -> Frame<H, A>
         requires heap { self.heap ≡ H.seen heap }
         ensures same { result ≡ self }
         ensures idle { (result.len ≡ 0) × (result.works ≡ []) }

@@ -6,11 +6,11 @@ ghost use Rattle.brc_table.specs.law.rule.Seen.{part_seen};
 ghost use Rattle.brc_count.specs.Frames.{MayGiveUp, Turned, Turns, KeepsHandles, popped_seen, IsUnlocked};
 
 use crate::holdings::Holdings;
-use brc_biased::Home;
+use brc_biased::HasTable;
 use brc_table::law::world::Dropped;
 use std::alloc::Allocator;
 
-impl<H: Home<A>, A: Allocator> Holdings<H, A> {
+impl<H: HasTable<A>, A: Allocator> Holdings<H, A> {
     /// One turn: the front block's last entry is released, or, if it has none, the block is given back; false where
     /// there is no block.
     #[inline(always)]

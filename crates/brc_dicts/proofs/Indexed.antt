@@ -6,7 +6,7 @@ use Rattle.brc_words.specs.declared.fault.Fault.{Fault}
 use Rattle.brc_words.specs.declared.fault.Fault.TheVariants as faults
 use Rattle.brc_words.specs.declared.key.Key.{Key}
 use Rattle.brc_words.specs.declared.kind.Kind.TheVariants as kinds
-use Rattle.brc_count.specs.block.Row.{Row}
+use Rattle.brc_count.specs.block.Row.{RowSeen}
 use Rattle.brc_count.specs.block.Pairs.{cells_in}
 use Rattle.brc_count.specs.block.Payload.{kind_of, entries_of}
 use Rattle.brc_count.specs.block.declared.payload.Payload.{Payload}
@@ -16,10 +16,10 @@ use Rattle.brc_plain.specs.Dicts.{pair_at}
 use Rattle.brc_count.specs.law.world.declared.event.Change.TheVariants.{Keep}
 use Rattle.brc_count.specs.table.Shown.{contents_of}
 use Rattle.brc_count.specs.Frames.{FrameSeen, Refused}
-use Rattle.brc_count.specs.Locking.{Ended}
+use Rattle.brc_count.specs.Locking.{UnlockedBy}
 use Rattle.brc_containers.specs.Changing.{RefusedEntry, RefusedPlace}
 use Rattle.brc_dicts.specs.Plain.{first_of, second_of, plain_key_at, plain_value_at}
-use Rattle.brc_dicts.specs.Indexing.{Reads, IsAt, IsPast, NoPair, MissesKey, MissesPair}
+use Rattle.brc_dicts.specs.Indexing.{ReadsUnlocked, IsAt, IsPast, NoPair, MissesKey, MissesPair}
 use Rattle.brc_dicts.proofs.Shown.{pairs_back}
 use Rattle.brc_dicts.proofs.Locked.{Stood, changes_since, refused_plainly, refused_for_want, refused_place}
 
@@ -32,12 +32,12 @@ cell_at pairs index key cell stands = slice_get-map (λ pair. pair.1) pairs inde
 module _ {A : Type 0} where
   -- ---- what the plain calls answer
 
-  key_is : (pairs : Row (Key A × ℕ)) (index : ℕ) → plain_key_at index (contents_of (payloads.Dict pairs))
+  key_is : (pairs : RowSeen (Key A × ℕ)) (index : ℕ) → plain_key_at index (contents_of (payloads.Dict pairs))
       ≡ leaving (contents_of (payloads.Dict pairs)) (first_of (pair_at pairs.items index))
   key_is pairs index = ap (λ ps. leaving (contents_of (payloads.Dict pairs)) (first_of (pair_at ps index)))
       (pairs_back pairs.items)
 
-  value_is : (pairs : Row (Key A × ℕ)) (index : ℕ) → plain_value_at A index (contents_of (payloads.Dict pairs))
+  value_is : (pairs : RowSeen (Key A × ℕ)) (index : ℕ) → plain_value_at A index (contents_of (payloads.Dict pairs))
       ≡ leaving (contents_of (payloads.Dict pairs)) (second_of (pair_at pairs.items index))
   value_is pairs index = ap (λ ps. leaving (contents_of (payloads.Dict pairs)) (second_of (pair_at ps index)))
       (pairs_back pairs.items)
@@ -123,8 +123,8 @@ module _ {A : Type 0} where
 
   pub reads_since : (before now new : FrameSeen A) (k index : ℕ) (block : ℕ × Payload A) (key : Key A)
       → Stood before now k block
-      → Ended now new Keep block → plain_key_at index (contents_of block.1) ≡ Ok (key, contents_of block.1)
-      → Reads before new k (plain_key_at index) key
+      → UnlockedBy now new Keep block → plain_key_at index (contents_of block.1) ≡ Ok (key, contents_of block.1)
+      → ReadsUnlocked before new k (plain_key_at index) key
   reads_since before now new k index block key was ended plain = record {
     found = contents_of block.1;
     looks = changes_since before now new k block block.1 Keep was ended;
@@ -133,7 +133,7 @@ module _ {A : Type 0} where
 
   pub key_refused : (before now new : FrameSeen A) (k index : ℕ) (block : ℕ × Payload A) (fault : Fault)
       → Stood before now k block
-      → Ended now new Keep block → MissesKey A (contents_of block.1) index fault
+      → UnlockedBy now new Keep block → MissesKey A (contents_of block.1) index fault
       → RefusedEntry before new k (plain_key_at {A = A} index) fault
   key_refused before now new k index block faults.Busy was ended why = absurd why
   key_refused before now new k index block faults.OutOfMemory was ended why = refused_for_want before now new k block
@@ -143,7 +143,7 @@ module _ {A : Type 0} where
 
   pub pair_refused : (before now new : FrameSeen A) (k index : ℕ) (block : ℕ × Payload A) (fault : Fault)
       → Stood before now k block
-      → Ended now new Keep block → (frame : FrameSeen A) → frame.len ≡ before.len
+      → UnlockedBy now new Keep block → (frame : FrameSeen A) → frame.len ≡ before.len
       → MissesPair frame (contents_of block.1) index fault
       → RefusedPlace before new k (plain_value_at A index) fault
   pair_refused before now new k index block faults.Busy was ended frame len why = absurd why

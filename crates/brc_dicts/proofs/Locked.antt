@@ -13,19 +13,20 @@ use Rattle.brc_count.specs.law.world.declared.event.Source.TheVariants as source
 use Rattle.brc_count.specs.law.world.declared.event.Step.TheVariants.{Unlock}
 use Rattle.brc_count.specs.law.rule.declared.contents.Contents.{Contents}
 use Rattle.brc_count.specs.law.rule.declared.told.Moved.TheVariants as moves
-use Rattle.brc_count.specs.law.rule.declared.told.Told.TheVariants.{Did}
+use Rattle.brc_count.specs.law.rule.declared.told.LogItem.TheVariants.{Stepped}
 use Rattle.brc_count.specs.law.rule.Logs.{entries_in}
 use Rattle.brc_count.specs.table.Shown.{contents_of}
-use Rattle.brc_count.specs.Frames.{FrameSeen, HandleSeen, Given, Refused, IsAsBefore}
-use Rattle.brc_count.specs.Locking.{IsLocked, Began, Ended, KeepsThread, KeepsFrame, ChangesPlace, cell_in}
+use Rattle.brc_count.specs.Frames.{FrameSeen, HandleSeen, GivenHandle, Refused, IsAsBefore}
+use Rattle.brc_count.specs.Locking.{IsLocked, Began, UnlockedBy, KeepsThread, KeepsFrame, ChangesPlace, cell_in}
 use Rattle.brc_count.specs.Locking.{contents_found, entries_found}
 use Rattle.brc_count.proofs.Refusing.{refused_alike}
-use Rattle.brc_containers.specs.Changing.{PlainCall, Changes, KeepsPlaces, Puts, Swaps, Takes, Shares, RefusedPlainly}
+use Rattle.brc_containers.specs.Changing.{PlainCall, Changes, KeepsAllPlaces, CallPuts, Swaps, CallTakes, Shares}
+use Rattle.brc_containers.specs.Changing.{RefusedPlainly}
 use Rattle.brc_containers.specs.Changing.{RefusedForWant, RefusedPlace}
 use Rattle.brc_lock.proofs.Kept.{thread_kept_on}
-use Rattle.brc_dicts.specs.Since.{HasLocked}
+use Rattle.brc_dicts.specs.Since.{JustLocked}
 use Rattle.brc_dicts.specs.Plain.{dict_of, plain_put}
-use Rattle.brc_dicts.specs.Putting.{RefusedRoom, RefusedPair}
+use Rattle.brc_dicts.specs.Putting.{RefusedRoomFor, RefusedPair}
 use Rattle.brc_dicts.specs.Seeking.{IsAbsent}
 use Rattle.brc_dicts.proofs.Shown.{entries_shown, put_full, put_may}
 use Rattle.brc_words.specs.declared.key.Key.{Key}
@@ -35,10 +36,10 @@ use Rattle.brc_dicts.proofs.Sharing.{given_keeps}
 pub record Stood {A : Type 0} (before now : FrameSeen A) (k : ℕ) (block : ℕ × Payload A) : Type 0 where
   pub began : Began before now k block
   pub keeps : KeepsThread before now
-  pub places : KeepsPlaces before now
+  pub places : KeepsAllPlaces before now
 
 module _ {A : Type 0} where
-  pub stood : (before now : FrameSeen A) (k : ℕ) (block : ℕ × Payload A) → HasLocked before now k block
+  pub stood : (before now : FrameSeen A) (k : ℕ) (block : ℕ × Payload A) → JustLocked before now k block
       → Stood before now k block
   stood before now k block since = record {
     began = since.began;
@@ -70,7 +71,7 @@ module _ {A : Type 0} where
     places = record { places = was.places.places; len = was.places.len; next = was.places.next };
   }
 
-  pub stood_placed : (before now mid : FrameSeen A) (k : ℕ) (block : ℕ × Payload A) → HasLocked before now k block
+  pub stood_placed : (before now mid : FrameSeen A) (k : ℕ) (block : ℕ × Payload A) → JustLocked before now k block
       → IsAsBefore now mid
       → Stood before mid k block
   stood_placed before now mid k block since same =
@@ -102,18 +103,18 @@ module _ {A : Type 0} where
 
   pub changes_since : (before now new : FrameSeen A) (k : ℕ) (block : ℕ × Payload A) (left : Payload A)
       (change : Change)
-      → Stood before now k block → Ended now new change (block.0, left)
+      → Stood before now k block → UnlockedBy now new change (block.0, left)
       → Changes before new k (contents_of block.1) change (contents_of left)
   changes_since before now new k block left change was ended = record {
     cell = block.0;
     of_place = was.began.cell;
-    events = ended.event ∙ ap (λ log. Did (Unlock change) 0 (moves.Put block.0 (contents_of left)) ∷ log)
+    events = ended.event ∙ ap (λ log. Stepped (Unlock change) 0 (moves.Put block.0 (contents_of left)) ∷ log)
         was.began.event;
     unlocked = ended.unlocked;
     keeps = thread_kept_on was.keeps ended.keeps;
   }
 
-  places_since : (before now new : FrameSeen A) (p : ℕ) (cell : Option ℕ) → KeepsPlaces before now
+  places_since : (before now new : FrameSeen A) (p : ℕ) (cell : Option ℕ) → KeepsAllPlaces before now
       → ChangesPlace now new p cell
       → ChangesPlace before new p cell
   places_since before now new p cell same places = record {
@@ -123,7 +124,7 @@ module _ {A : Type 0} where
 
   pub refused_plainly : {R : Type 0} (before now new : FrameSeen A) (k : ℕ) (block : ℕ × Payload A) (call : PlainCall R)
       (fault : Fault)
-      → Stood before now k block → Ended now new Keep block → call (contents_of block.1) ≡ Err fault
+      → Stood before now k block → UnlockedBy now new Keep block → call (contents_of block.1) ≡ Err fault
       → RefusedPlainly before new k call fault
   refused_plainly before now new k block call fault was ended plain = record {
     found = contents_of block.1;
@@ -133,7 +134,7 @@ module _ {A : Type 0} where
 
   pub refused_for_want : {R : Type 0} (before now new : FrameSeen A) (k : ℕ) (block : ℕ × Payload A)
       (call : PlainCall R)
-      → Stood before now k block → Ended now new Keep block → is_ok (call (contents_of block.1)) ≡ true
+      → Stood before now k block → UnlockedBy now new Keep block → is_ok (call (contents_of block.1)) ≡ true
       → RefusedForWant before new k call
   refused_for_want before now new k block call was ended plain = record {
     found = contents_of block.1;
@@ -155,11 +156,11 @@ module _ {A : Type 0} where
 
   pub takes_since : (before now new : FrameSeen A) (k : ℕ) (block : ℕ × Payload A) (left : Payload A)
       (call : PlainCall ℕ) (index cell : ℕ) (given : HandleSeen)
-      → Stood before now k block → Ended now new (Take index given.place) (block.0, left)
+      → Stood before now k block → UnlockedBy now new (Take index given.place) (block.0, left)
       → slice_get (entries_of block.1) index ≡ Some cell → call (contents_of block.1) ≡ Ok (cell, contents_of left)
       → given.heap ≡ now.heap → given.thread ≡ now.seat.thread → given.place ≡ now.next → cell_in now given.place ≡ None
       → ChangesPlace now new given.place (Some cell) → new.len ≡ now.len + 1
-      → Takes before new k call given
+      → CallTakes before new k call given
   takes_since before now new k block left call index cell given was ended entry plain heap thread next vacant places
       len = record {
         found = contents_of block.1;
@@ -179,8 +180,8 @@ module _ {A : Type 0} where
 
   abbrev pub shares_since : (before now shared new : FrameSeen A) (k : ℕ) (block : ℕ × Payload A) (call : PlainCall ℕ)
       (index cell : ℕ) (given : HandleSeen)
-      → Stood before now k block → Given now shared (sources.Entry index) cell given → shared.heap ≡ now.heap
-      → Ended shared new Keep block → KeepsFrame shared new
+      → Stood before now k block → GivenHandle now shared (sources.Entry index) cell given → shared.heap ≡ now.heap
+      → UnlockedBy shared new Keep block → KeepsFrame shared new
       → slice_get (entries_of block.1) index ≡ Some cell → call (contents_of block.1) ≡ Ok (cell, contents_of block.1)
       → Shares before new k call given
   shares_since before now shared new k block call index cell given was gives heap ended frame entry plain = record {
@@ -207,10 +208,10 @@ module _ {A : Type 0} where
 
   pub puts_since : {R : Type 0} (before now new : FrameSeen A) (k v : ℕ) (block : ℕ × Payload A) (left : Payload A)
       (call : ℕ → PlainCall R) (answer : R) (value : ℕ)
-      → Stood before now k block → Ended now new (Put v) (block.0, left)
+      → Stood before now k block → UnlockedBy now new (Put v) (block.0, left)
       → cell_in now v ≡ Some value → call value (contents_of block.1) ≡ Ok (answer, contents_of left)
       → ChangesPlace now new v None → new.len + 1 ≡ now.len
-      → Puts before new k v call answer
+      → CallPuts before new k v call answer
   puts_since before now new k v block left call answer value was ended of_value plain places len = record {
     value = value;
     of_value = sym (was.places.places v) ∙ of_value;
@@ -225,7 +226,7 @@ module _ {A : Type 0} where
   pub swaps_since : {R : Type 0} (before now new : FrameSeen A) (k v : ℕ) (block : ℕ × Payload A) (left : Payload A)
       (call : ℕ → PlainCall R) (answer : ℕ → R)
       (value index cell : ℕ)
-      → Stood before now k block → Ended now new (Swap index v) (block.0, left)
+      → Stood before now k block → UnlockedBy now new (Swap index v) (block.0, left)
       → cell_in now v ≡ Some value → slice_get (entries_of block.1) index ≡ Some cell
       → call value (contents_of block.1) ≡ Ok (answer cell, contents_of left)
       → ChangesPlace now new v (Some cell) → new.len ≡ now.len
@@ -253,10 +254,10 @@ same_cell same = cc
 module _ {A : Type 0} where
   -- what an unlocking put home is what was found
   pub ended_same : (now new : FrameSeen A) (change : Change) (block : ℕ × Payload A) (left : Payload A)
-      → Ended now new change (block.0, left)
-      → contents_of left ≡ contents_of block.1 → Ended now new change block
+      → UnlockedBy now new change (block.0, left)
+      → contents_of left ≡ contents_of block.1 → UnlockedBy now new change block
   ended_same now new change block left ended same = record {
-    event = ended.event ∙ ap (λ put. Did (Unlock change) 0 (moves.Put block.0 put) ∷ now.seat.log) same;
+    event = ended.event ∙ ap (λ put. Stepped (Unlock change) 0 (moves.Put block.0 put) ∷ now.seat.log) same;
     unlocked = ended.unlocked;
     keeps = ended.keeps;
   }
@@ -264,8 +265,8 @@ module _ {A : Type 0} where
   -- room for a new key was refused
   pub refused_append : (before now new : FrameSeen A) (k : ℕ) (block : ℕ × Payload A) (key : Key A) (value : ℕ)
       (fault : Fault)
-      → Stood before now k block → Ended now new Keep block → IsAbsent block.1 key
-      → RefusedRoom (length (entries_of block.1)) fault
+      → Stood before now k block → UnlockedBy now new Keep block → IsAbsent block.1 key
+      → RefusedRoomFor (length (entries_of block.1)) fault
       → RefusedPair before new k (plain_put key value) fault
   refused_append before now new k block key value faults.Full was ended absent full =
       refused_plainly before now new k block (plain_put key value) faults.Full was ended

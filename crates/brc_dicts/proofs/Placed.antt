@@ -4,25 +4,25 @@ use Rattle.std.specs.Option.{option_map}
 use Rattle.brc_words.specs.declared.fault.Fault.TheVariants as faults
 use Rattle.brc_words.specs.declared.key.Key.{Key}
 use Rattle.brc_words.specs.declared.kind.Kind.TheVariants as kinds
-use Rattle.brc_count.specs.block.Row.{Row}
+use Rattle.brc_count.specs.block.Row.{RowSeen}
 use Rattle.brc_count.specs.block.Payload.{kind_of}
 use Rattle.brc_count.specs.block.declared.payload.Payload.{Payload}
 use Rattle.brc_count.specs.block.declared.payload.Payload.TheVariants as payloads
 use Rattle.brc_plain.specs.Outcomes.{leaving, or_fault}
-use Rattle.brc_plain.specs.Dicts.{value_at, Stands}
+use Rattle.brc_plain.specs.Dicts.{value_at, IsFirstAt}
 use Rattle.brc_plain.proofs.Pairs.{none_apart}
 use Rattle.brc_count.specs.law.world.declared.event.Change.TheVariants.{Keep}
 use Rattle.brc_count.specs.table.Shown.{contents_of}
 use Rattle.brc_count.specs.Frames.{FrameSeen}
-use Rattle.brc_count.specs.Locking.{Ended}
+use Rattle.brc_count.specs.Locking.{UnlockedBy}
 use Rattle.brc_dicts.specs.Plain.{place_of, plain_place}
-use Rattle.brc_dicts.specs.Seeking.{IsThere, IsAbsent}
-use Rattle.brc_dicts.specs.Indexing.{Reads}
+use Rattle.brc_dicts.specs.Seeking.{HasKeyAt, IsAbsent}
+use Rattle.brc_dicts.specs.Indexing.{ReadsUnlocked}
 use Rattle.brc_dicts.proofs.Shown.{pairs_back}
 use Rattle.brc_dicts.proofs.Locked.{Stood, changes_since}
 
 module _ {A : Type 0} where
-  place_stands : (key : Key A) (pairs : List (Key A × ℕ)) (index : ℕ) → Stands key pairs index
+  place_stands : (key : Key A) (pairs : List (Key A × ℕ)) (index : ℕ) → IsFirstAt key pairs index
       → place_of key pairs ≡ Some index
   place_stands key [] index stands = absurd stands
   place_stands key (pair ∷ pairs) zero stands = rw stands refl
@@ -35,12 +35,12 @@ module _ {A : Type 0} where
       let (other, rest) = none_apart key pair pairs none in
       rw other (ap (option_map suc) (no_place key pairs rest))
 
-  place_is : (key : Key A) (pairs : Row (Key A × ℕ)) → plain_place key (contents_of (payloads.Dict pairs))
+  place_is : (key : Key A) (pairs : RowSeen (Key A × ℕ)) → plain_place key (contents_of (payloads.Dict pairs))
       ≡ leaving (contents_of (payloads.Dict pairs)) (or_fault faults.NoSuchKey (place_of key pairs.items))
   place_is key pairs = ap (λ ps. leaving (contents_of (payloads.Dict pairs)) (or_fault faults.NoSuchKey
       (place_of key ps))) (pairs_back pairs.items)
 
-  place_there : (key : Key A) (payload : Payload A) (index cell : ℕ) → IsThere payload key index cell
+  place_there : (key : Key A) (payload : Payload A) (index cell : ℕ) → HasKeyAt payload key index cell
       → plain_place key (contents_of payload) ≡ Ok (index, contents_of payload)
   place_there key payload index cell there =
       let before = there.pairs in
@@ -66,8 +66,8 @@ module _ {A : Type 0} where
 
   -- from the frame that the locking began from
   pub place_since : (before now new : FrameSeen A) (k index cell : ℕ) (block : ℕ × Payload A) (key : Key A)
-      → Stood before now k block → Ended now new Keep block → IsThere block.1 key index cell
-      → Reads before new k (plain_place key) index
+      → Stood before now k block → UnlockedBy now new Keep block → HasKeyAt block.1 key index cell
+      → ReadsUnlocked before new k (plain_place key) index
   place_since before now new k index cell block key was ended there = record {
     found = contents_of block.1;
     looks = changes_since before now new k block block.1 Keep was ended;

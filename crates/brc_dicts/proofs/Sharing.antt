@@ -6,17 +6,17 @@ use Rattle.brc_count.specs.law.world.declared.event.Source.{Source}
 use Rattle.brc_count.specs.law.world.declared.event.Step.TheVariants.{LocalUp, SharedUp}
 use Rattle.brc_count.specs.law.known.Items.{Part, part_by, meant}
 use Rattle.brc_count.specs.law.rule.declared.told.Moved.TheVariants.{Nothing}
-use Rattle.brc_count.specs.law.rule.declared.told.Told.{Told}
-use Rattle.brc_count.specs.law.rule.declared.told.Told.TheVariants.{Did}
+use Rattle.brc_count.specs.law.rule.declared.told.LogItem.{LogItem}
+use Rattle.brc_count.specs.law.rule.declared.told.LogItem.TheVariants.{Stepped}
 use Rattle.brc_count.specs.law.rule.Seen.{part_seen, counts_seen}
 use Rattle.brc_count.specs.table.Seated.{TableSeen}
-use Rattle.brc_count.specs.Frames.{FrameSeen, HandleSeen, Given, CountsUp}
+use Rattle.brc_count.specs.Frames.{FrameSeen, HandleSeen, GivenHandle, CountsUp}
 use Rattle.brc_count.specs.Locking.{KeepsThread}
 
 -- counting up is one step
-data OneUp (source : Source) (k : ℕ) (before log : List Told) : Type 0 where
-  OnLocal : (found : ℕ) → log ≡ Did (LocalUp source k) found Nothing ∷ before → OneUp source k before log
-  OnShared : (found : ℕ) → log ≡ Did (SharedUp source k) found Nothing ∷ before → OneUp source k before log
+data OneUp (source : Source) (k : ℕ) (before log : List LogItem) : Type 0 where
+  OnLocal : (found : ℕ) → log ≡ Stepped (LocalUp source k) found Nothing ∷ before → OneUp source k before log
+  OnShared : (found : ℕ) → log ≡ Stepped (SharedUp source k) found Nothing ∷ before → OneUp source k before log
 
 one_up : {A : Type 0} (old new : FrameSeen A) (source : Source) (k c : ℕ) → CountsUp old new source k c
     → OneUp source k old.seat.log new.seat.log
@@ -43,7 +43,7 @@ shared_pops_none : (n : ℕ) (source : Source) (k found : ℕ) (part : Part) (o 
 shared_pops_none n source k found part None = refl
 shared_pops_none n source k found part (Some c) = refl
 
-pops_none : (n : ℕ) (source : Source) (k : ℕ) (before log : List Told) → OneUp source k before log
+pops_none : (n : ℕ) (source : Source) (k : ℕ) (before log : List LogItem) → OneUp source k before log
     → (part_seen n log).popped ≡ (part_seen n before).popped
 pops_none n source k before log (OnLocal found told) = ap (λ l. (part_seen n l).popped) told
     ∙ local_pops_none n source k found (part_seen n before) (meant (part_seen n before) (LocalUp source k))
@@ -51,7 +51,7 @@ pops_none n source k before log (OnShared found told) = ap (λ l. (part_seen n l
     ∙ shared_pops_none n source k found (part_seen n before) (meant (part_seen n before) (SharedUp source k))
 
 pub given_keeps : {A : Type 0} (old new : FrameSeen A) (source : Source) (c : ℕ) (given : HandleSeen)
-    → Given old new source c given
+    → GivenHandle old new source c given
     → new.heap ≡ old.heap → KeepsThread old new
 given_keeps old new source c given gives heap = record {
   heap = heap;

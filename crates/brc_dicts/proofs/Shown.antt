@@ -11,7 +11,7 @@ use Rattle.brc_words.specs.declared.key.Key.{Key}
 use Rattle.brc_words.specs.declared.key.Key.TheVariants as keys
 use Rattle.brc_words.specs.declared.kind.Kind.TheVariants as kinds
 use Rattle.brc_words.specs.declared.limits.TheConstants.{MOST_ENTRIES}
-use Rattle.brc_count.specs.block.Row.{Row}
+use Rattle.brc_count.specs.block.Row.{RowSeen}
 use Rattle.brc_count.specs.block.Pairs.{keys_in, cells_in}
 use Rattle.brc_count.specs.block.Payload.{kind_of, entries_of, keys_of}
 use Rattle.brc_count.specs.block.declared.payload.Payload.{Payload}
@@ -21,7 +21,7 @@ use Rattle.brc_plain.specs.Dicts.{value_at, replaced, without}
 use Rattle.brc_count.specs.law.rule.Logs.{kind_in, entries_in}
 use Rattle.brc_count.specs.table.Shown.{contents_of, plain_key}
 use Rattle.brc_dicts.specs.Plain.{key_of, pairs_of, dict_of, leaving_dict, plain_put, plain_find, plain_del}
-use Rattle.brc_dicts.specs.Seeking.{IsThere, IsAbsent}
+use Rattle.brc_dicts.specs.Seeking.{HasKeyAt, IsAbsent}
 use Rattle.brc_dicts.proofs.Standing.{beside_is, replaced_keys, replaced_cells, without_keys, without_cells}
 use Rattle.brc_dicts.proofs.Standing.{same_columns}
 
@@ -44,7 +44,7 @@ module _ {A : Type 0} where
 
   -- what has a dictionary's kind is one
   pub dict_is : (payload : Payload A) → kind_of payload ≡ kinds.Dict
-      → (pairs : Row (Key A × ℕ)) × (payload ≡ payloads.Dict pairs)
+      → (pairs : RowSeen (Key A × ℕ)) × (payload ≡ payloads.Dict pairs)
   dict_is (payloads.Dict pairs) kind = (pairs, refl)
   dict_is (payloads.Truth true) kind = cc
   dict_is (payloads.Truth false) kind = cc
@@ -96,11 +96,11 @@ module _ {A : Type 0} where
 
   -- ---- what the calls answer on a block
 
-  plain_put_is : (key : Key A) (value : ℕ) (pairs : Row (Key A × ℕ))
+  plain_put_is : (key : Key A) (value : ℕ) (pairs : RowSeen (Key A × ℕ))
       → plain_put key value (contents_of (payloads.Dict pairs)) ≡ leaving_dict (dicts.put pairs.items key value)
   plain_put_is key value pairs = ap (λ ps. leaving_dict (dicts.put ps key value)) (pairs_back pairs.items)
 
-  pairs_long : (old : Payload A) (pairs : Row (Key A × ℕ)) → old ≡ payloads.Dict pairs
+  pairs_long : (old : Payload A) (pairs : RowSeen (Key A × ℕ)) → old ≡ payloads.Dict pairs
       → length (entries_of old) ≡ length pairs.items
   pairs_long old pairs is = ap (λ p. length (entries_of p)) is ∙ length-map pairs.items (λ (pair : Key A × ℕ). pair.1)
 
@@ -121,7 +121,7 @@ module _ {A : Type 0} where
       ∙ ap entries_of was) in
       ap contents_of is ∙ same_shown before.items after.items same_keys same_cells ∙ ap contents_of (sym was)
 
-  pub put_there : (key : Key A) (value : ℕ) (old new : Payload A) (index cell : ℕ) → IsThere old key index cell
+  pub put_there : (key : Key A) (value : ℕ) (old new : Payload A) (index cell : ℕ) → HasKeyAt old key index cell
       → kind_of new ≡ kind_of old → keys_of new ≡ keys_of old → entries_of new ≡ slice_set (entries_of old) index value
       → plain_put key value (contents_of old) ≡ Ok (Some cell, contents_of new)
   put_there key value old new index cell there kind keys entries =
@@ -186,7 +186,7 @@ module _ {A : Type 0} where
   put_wrong key value (payloads.Dict pairs) other = absurd (other refl)
   put_wrong key value _ other = refl
 
-  pub find_there : (key : Key A) (old : Payload A) (index cell : ℕ) → IsThere old key index cell
+  pub find_there : (key : Key A) (old : Payload A) (index cell : ℕ) → HasKeyAt old key index cell
       → plain_find key (contents_of old) ≡ Ok (cell, contents_of old)
   find_there key old index cell there =
       let before = there.pairs in
@@ -209,7 +209,7 @@ module _ {A : Type 0} where
   find_wrong key (payloads.Dict pairs) other = absurd (other refl)
   find_wrong key _ other = refl
 
-  pub del_there : (key : Key A) (old new : Payload A) (index cell : ℕ) → IsThere old key index cell
+  pub del_there : (key : Key A) (old new : Payload A) (index cell : ℕ) → HasKeyAt old key index cell
       → kind_of new ≡ kind_of old → keys_of new ≡ remove (keys_of old) index
       → entries_of new ≡ remove (entries_of old) index
       → plain_del key (contents_of old) ≡ Ok (cell, contents_of new)
@@ -229,7 +229,7 @@ module _ {A : Type 0} where
       ∙ ap (λ d. Ok (cell, d)) (same_shown after.items (without key before.items) same_keys same_cells
       ∙ ap contents_of (sym is))
 
-  pub del_may : (key : Key A) (old : Payload A) (index cell : ℕ) → IsThere old key index cell
+  pub del_may : (key : Key A) (old : Payload A) (index cell : ℕ) → HasKeyAt old key index cell
       → is_ok (plain_del key (contents_of old)) ≡ true
   del_may key old index cell there =
       let before = there.pairs in
@@ -253,16 +253,16 @@ module _ {A : Type 0} where
 
   -- ---- the entry that was found
 
-  pub entry_there : (old : Payload A) (key : Key A) (index cell : ℕ) → IsThere old key index cell
+  pub entry_there : (old : Payload A) (key : Key A) (index cell : ℕ) → HasKeyAt old key index cell
       → slice_get (entries_of old) index ≡ Some cell
   entry_there old key index cell there = ap (λ p. slice_get (entries_of p) index) there.is ∙ there.beside
 
-  pub entry_within : (old : Payload A) (key : Key A) (index cell : ℕ) → IsThere old key index cell
+  pub entry_within : (old : Payload A) (key : Key A) (index cell : ℕ) → HasKeyAt old key index cell
       → index < length (entries_of old)
   entry_within old key index cell there = slice_get_within (entries_of old) index cell
       (entry_there old key index cell there)
 
-  pub there_dict : (old : Payload A) (key : Key A) (index cell : ℕ) → IsThere old key index cell
+  pub there_dict : (old : Payload A) (key : Key A) (index cell : ℕ) → HasKeyAt old key index cell
       → kind_of old ≡ kinds.Dict
   there_dict old key index cell there = ap kind_of there.is
 

@@ -3,22 +3,23 @@ use Rattle.std.proofs.Common.{ℕ, Result, Ok, Err, ◌∙◌}
 use Rattle.std.specs.Result.{IfOk, IfErr}
 use Rattle.brc_words.specs.declared.fault.Fault.{Fault}
 use Rattle.brc_count.specs.block.declared.payload.Payload.{Payload}
-use Rattle.brc_count.specs.declared.handed.Handed.{Handed}
+use Rattle.brc_count.specs.declared.handed.HandedBack.{HandedBack}
 use Rattle.brc_count.specs.Frames.{FrameSeen}
 use Rattle.brc_count.specs.Locking.{KeepsThread, KeepsFrame}
 use Rattle.brc_lock.specs.Waiting.{BeginsLate}
 use Rattle.brc_lock.proofs.Kept.{thread_kept_on, frame_kept_on}
 use Rattle.brc_containers.specs.Called.{Looked, HandsOut, TakesIn}
-use Rattle.brc_containers.specs.Changing.{KeepsPlaces}
-use Rattle.brc_dicts.specs.Since.{HasLocked, Since}
+use Rattle.brc_containers.specs.Changing.{KeepsAllPlaces}
+use Rattle.brc_dicts.specs.Since.{JustLocked, Since}
 
 module _ {A : Type 0} where
   -- a locking that waited, from the frame that its lost tries left
   pub locked_late : (old now : FrameSeen A) (k : ℕ) (block : ℕ × Payload A) (late : BeginsLate old now k block)
-      → HasLocked late.mid now k block
+      → JustLocked late.mid now k block
   locked_late old now k block late = record { began = late.began; keeps = late.keeps; frame = late.frame }
 
-  places_on : {before now new : FrameSeen A} → KeepsFrame before now → KeepsPlaces now new → KeepsPlaces before new
+  places_on : {before now new : FrameSeen A} → KeepsFrame before now → KeepsAllPlaces now new
+      → KeepsAllPlaces before new
   places_on first second = record {
     places = λ j. second.places j ∙ first.places j;
     len = second.len ∙ first.len;
@@ -27,7 +28,7 @@ module _ {A : Type 0} where
 
   pub looked : {T : Type 0} (before now new : FrameSeen A) (k : ℕ) (block : ℕ × Payload A) (done : FrameSeen A → ℕ
       → T → Type 0)
-      (why : FrameSeen A → ℕ → Fault → Type 0) (result : Result T Fault) → HasLocked before now k block
+      (why : FrameSeen A → ℕ → Fault → Type 0) (result : Result T Fault) → JustLocked before now k block
       → KeepsThread now new → KeepsFrame now new
       → IfOk result (λ answer. Since now block (λ b j. done b j answer))
       → IfErr result (λ fault. Since now block (λ b j. why b j fault))
@@ -49,9 +50,9 @@ module _ {A : Type 0} where
 
   pub hands_out : {T : Type 0} (before now new : FrameSeen A) (k : ℕ) (block : ℕ × Payload A) (done : FrameSeen A → ℕ
       → T → Type 0)
-      (why : FrameSeen A → ℕ → Fault → Type 0) (result : Result T Fault) → HasLocked before now k block
+      (why : FrameSeen A → ℕ → Fault → Type 0) (result : Result T Fault) → JustLocked before now k block
       → KeepsThread now new
-      → IfOk result (λ given. Since now block (λ b j. done b j given)) → IfErr result (λ fault. KeepsPlaces now new)
+      → IfOk result (λ given. Since now block (λ b j. done b j given)) → IfErr result (λ fault. KeepsAllPlaces now new)
       → IfErr result (λ fault. Since now block (λ b j. why b j fault))
       → HandsOut before new (done before k) (why before k) result
   hands_out before now new k block done why (Ok given) since thread did places refused =
@@ -66,7 +67,7 @@ module _ {A : Type 0} where
 
   pub takes_in : {T V : Type 0} (before now new : FrameSeen A) (k : ℕ) (block : ℕ × Payload A) (done : FrameSeen A → ℕ
       → T → Type 0)
-      (why : FrameSeen A → ℕ → Fault → Type 0) (result : Result T (Handed V)) → HasLocked before now k block
+      (why : FrameSeen A → ℕ → Fault → Type 0) (result : Result T (HandedBack V)) → JustLocked before now k block
       → KeepsThread now new
       → IfOk result (λ answer. Since now block (λ b j. done b j answer)) → IfErr result (λ handed. KeepsFrame now new)
       → IfErr result (λ handed. Since now block (λ b j. why b j handed.fault))

@@ -5,7 +5,7 @@ use Rattle.brc_words.specs.declared.key.Key.{Key}
 use Rattle.brc_words.specs.Keys.{same_key, same_key-exact, same_key-itself}
 use Rattle.brc_count.specs.block.Pairs.{keys_in, cells_in}
 use Rattle.brc_count.proofs.block.Columns.{map-remove}
-use Rattle.brc_plain.specs.Dicts.{value_at, Stands, replaced, without}
+use Rattle.brc_plain.specs.Dicts.{value_at, IsFirstAt, replaced, without}
 use Rattle.brc_plain.proofs.Pairs.{none_apart, without_there}
 
 module _ {A : Type 0} where
@@ -18,7 +18,7 @@ module _ {A : Type 0} where
 
   -- the first index with the key is where it stands, and a key that is at no index stands beside nothing
   pub first_stands : (key : Key A) (pairs : List (Key A × ℕ)) (index : ℕ) → slice_get (keys_in pairs) index ≡ Some key
-      → All (λ other. other ≢ key) (take index (keys_in pairs)) → Stands key pairs index
+      → All (λ other. other ≢ key) (take index (keys_in pairs)) → IsFirstAt key pairs index
   first_stands key [] index at before = cc
   first_stands key (pair ∷ pairs) zero at before =
       let same : key ≡ pair.0 = cc in
@@ -54,33 +54,33 @@ module _ {A : Type 0} where
 
   -- ---- what stands there, and what is left
 
-  pub beside_is : (key : Key A) (pairs : List (Key A × ℕ)) (index cell : ℕ) → Stands key pairs index
+  pub beside_is : (key : Key A) (pairs : List (Key A × ℕ)) (index cell : ℕ) → IsFirstAt key pairs index
       → slice_get (cells_in pairs) index ≡ Some cell → value_at key pairs ≡ Some cell
   beside_is key [] index cell there beside = absurd there
   beside_is key (pair ∷ pairs) zero cell there beside = rw there beside
   beside_is key (pair ∷ pairs) (suc index) cell there beside =
       rw there.0 (beside_is key pairs index cell there.1 beside)
 
-  pub replaced_keys : (key : Key A) (value : ℕ) (pairs : List (Key A × ℕ)) (index : ℕ) → Stands key pairs index
+  pub replaced_keys : (key : Key A) (value : ℕ) (pairs : List (Key A × ℕ)) (index : ℕ) → IsFirstAt key pairs index
       → keys_in (replaced key value pairs) ≡ keys_in pairs
   replaced_keys key value [] index there = absurd there
   replaced_keys key value (pair ∷ pairs) zero there = rw there refl
   replaced_keys key value (pair ∷ pairs) (suc index) there =
       rw there.0 (ap (λ ks. pair.0 ∷ ks) (replaced_keys key value pairs index there.1))
 
-  pub replaced_cells : (key : Key A) (value : ℕ) (pairs : List (Key A × ℕ)) (index : ℕ) → Stands key pairs index
+  pub replaced_cells : (key : Key A) (value : ℕ) (pairs : List (Key A × ℕ)) (index : ℕ) → IsFirstAt key pairs index
       → cells_in (replaced key value pairs) ≡ slice_set (cells_in pairs) index value
   replaced_cells key value [] index there = absurd there
   replaced_cells key value (pair ∷ pairs) zero there = rw there refl
   replaced_cells key value (pair ∷ pairs) (suc index) there =
       rw there.0 (ap (λ cs. pair.1 ∷ cs) (replaced_cells key value pairs index there.1))
 
-  pub without_keys : (key : Key A) (pairs : List (Key A × ℕ)) (index : ℕ) → Stands key pairs index
+  pub without_keys : (key : Key A) (pairs : List (Key A × ℕ)) (index : ℕ) → IsFirstAt key pairs index
       → keys_in (without key pairs) ≡ remove (keys_in pairs) index
   without_keys key pairs index there = ap keys_in (without_there key pairs index there)
       ∙ map-remove (λ pair. pair.0) pairs index
 
-  pub without_cells : (key : Key A) (pairs : List (Key A × ℕ)) (index : ℕ) → Stands key pairs index
+  pub without_cells : (key : Key A) (pairs : List (Key A × ℕ)) (index : ℕ) → IsFirstAt key pairs index
       → cells_in (without key pairs) ≡ remove (cells_in pairs) index
   without_cells key pairs index there = ap cells_in (without_there key pairs index there)
       ∙ map-remove (λ pair. pair.1) pairs index

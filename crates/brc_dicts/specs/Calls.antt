@@ -2,11 +2,11 @@
 use Rattle.std.specs.Prelude.{ℕ, Option, Result}
 use Rattle.brc_words.specs.declared.fault.Fault.{Fault}
 use Rattle.brc_words.specs.declared.key.Key.{Key}
-use Rattle.brc_count.specs.declared.handed.Handed.{Handed}
+use Rattle.brc_count.specs.declared.handed.HandedBack.{HandedBack}
 use Rattle.brc_count.specs.Frames.{FrameSeen, HandleSeen}
 use Rattle.brc_containers.specs.Called.{Looked, HandsOut, TakesIn}
-use Rattle.brc_containers.specs.Changing.{Shares, Takes, RefusedEntry, RefusedPlace}
-use Rattle.brc_dicts.specs.Indexing.{Reads, SharesPair}
+use Rattle.brc_containers.specs.Changing.{Shares, CallTakes, RefusedEntry, RefusedPlace}
+use Rattle.brc_dicts.specs.Indexing.{ReadsUnlocked, SharesPair}
 use Rattle.brc_dicts.specs.Plain.{plain_find, plain_del, plain_place, plain_key_at, plain_value_at}
 use Rattle.brc_dicts.specs.Putting.{HasPut, RefusedPut}
 
@@ -14,7 +14,7 @@ module _ {A : Type 0} where
   -- The value goes beside the key, and the old one comes out. A refusal hands back what the call took: the key and the
   -- value, or the value alone where the key is lent.
   abbrev pub DictPut : {V : Type 0} → FrameSeen A → FrameSeen A → ℕ → Key A → HandleSeen
-      → Result (Option HandleSeen) (Handed V) → Type 0
+      → Result (Option HandleSeen) (HandedBack V) → Type 0
   DictPut old new k key value result = TakesIn old new (HasPut old new k key value)
       (RefusedPut old new k key value) result
 
@@ -25,17 +25,17 @@ module _ {A : Type 0} where
 
   -- the value beside the key comes out, and its pair goes
   abbrev pub DictDel : FrameSeen A → FrameSeen A → ℕ → Key A → Result HandleSeen Fault → Type 0
-  DictDel old new k key result = HandsOut old new (Takes old new k (plain_del key))
+  DictDel old new k key result = HandsOut old new (CallTakes old new k (plain_del key))
       (RefusedPlace old new k (plain_del key)) result
 
   -- at which place the key stands
   abbrev pub DictPlace : FrameSeen A → FrameSeen A → ℕ → Key A → Result ℕ Fault → Type 0
-  DictPlace old new k key result = Looked old new (Reads old new k (plain_place key))
+  DictPlace old new k key result = Looked old new (ReadsUnlocked old new k (plain_place key))
       (RefusedEntry old new k (plain_place key)) result
 
   -- the key at the place, of which memory for a copy may be missing
   abbrev pub DictKey : FrameSeen A → FrameSeen A → ℕ → ℕ → Result (Key A) Fault → Type 0
-  DictKey old new k index result = Looked old new (Reads old new k (plain_key_at index))
+  DictKey old new k index result = Looked old new (ReadsUnlocked old new k (plain_key_at index))
       (RefusedEntry old new k (plain_key_at {A = A} index)) result
 
   -- the key at the place, with a handle more to its value

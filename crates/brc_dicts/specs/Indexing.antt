@@ -6,7 +6,7 @@ use Rattle.brc_words.specs.declared.key.Key.{Key}
 use Rattle.brc_words.specs.declared.kind.Kind.TheVariants as kinds
 use Rattle.brc_count.specs.law.world.declared.event.Change.TheVariants.{Keep}
 use Rattle.brc_count.specs.law.rule.declared.contents.Contents.{Contents}
-use Rattle.brc_count.specs.block.Row.{Row}
+use Rattle.brc_count.specs.block.Row.{RowSeen}
 use Rattle.brc_count.specs.block.Payload.{kind_of}
 use Rattle.brc_count.specs.block.declared.payload.Payload.{Payload}
 use Rattle.brc_count.specs.block.declared.payload.Payload.TheVariants as payloads
@@ -15,7 +15,7 @@ use Rattle.brc_containers.specs.Changing.{PlainCall, Changes, Shares}
 use Rattle.brc_dicts.specs.Plain.{plain_key_at, plain_value_at}
 
 -- The object was looked at, and unlocked as it was found. The plain call answers so.
-pub record Reads {A R : Type 0} (old new : FrameSeen A) (k : ℕ) (call : PlainCall R) (answer : R) : Type 0 where
+pub record ReadsUnlocked {A R : Type 0} (old new : FrameSeen A) (k : ℕ) (call : PlainCall R) (answer : R) : Type 0 where
   pub found : Contents
   pub looks : Changes old new k found Keep found
   pub plain : call found ≡ Ok (answer, found)
@@ -23,13 +23,13 @@ pub record Reads {A R : Type 0} (old new : FrameSeen A) (k : ℕ) (call : PlainC
 module _ {A : Type 0} where
   -- it is a dictionary, in which this pair stands at the place
   pub record IsAt (payload : Payload A) (index : ℕ) (key : Key A) (cell : ℕ) : Type 0 where
-    pub pairs : Row (Key A × ℕ)
+    pub pairs : RowSeen (Key A × ℕ)
     pub is : payload ≡ payloads.Dict pairs
     pub stands : slice_get pairs.items index ≡ Some (key, cell)
 
   -- it is a dictionary with no more pairs than that
   pub record IsPast (payload : Payload A) (index : ℕ) : Type 0 where
-    pub pairs : Row (Key A × ℕ)
+    pub pairs : RowSeen (Key A × ℕ)
     pub is : payload ≡ payloads.Dict pairs
     pub past : slice_get pairs.items index ≡ None
 

@@ -8,21 +8,21 @@ use Rattle.brc_count.specs.law.world.declared.event.Change.TheVariants.{Keep}
 use Rattle.brc_count.specs.law.rule.declared.contents.Contents.{Contents}
 use Rattle.brc_count.specs.Frames.{FrameSeen, HandleSeen}
 use Rattle.brc_count.specs.Locking.{Busy, cell_in}
-use Rattle.brc_containers.specs.Changing.{PlainCall, Changes, Puts, Swaps, RefusedPlainly}
+use Rattle.brc_containers.specs.Changing.{PlainCall, Changes, CallPuts, Swaps, RefusedPlainly}
 use Rattle.brc_count.specs.Owned.{Keeps, Loses}
 use Rattle.brc_dicts.specs.Plain.{plain_put}
 
 -- room for one more is refused to a container of so many entries
-abbrev pub RefusedRoom : ℕ → Fault → Type 0
-RefusedRoom entries faults.Full = MOST_ENTRIES ≤ entries
-RefusedRoom entries faults.OutOfMemory = entries < MOST_ENTRIES
-RefusedRoom entries _ = ⊥
+abbrev pub RefusedRoomFor : ℕ → Fault → Type 0
+RefusedRoomFor entries faults.Full = MOST_ENTRIES ≤ entries
+RefusedRoomFor entries faults.OutOfMemory = entries < MOST_ENTRIES
+RefusedRoomFor entries _ = ⊥
 
 module _ {A : Type 0} where
   -- With a new key the reference of the value's handle went in. Beside a key that was there it was exchanged: the same
   -- handle has the old value's reference now.
   abbrev pub HasPut : FrameSeen A → FrameSeen A → ℕ → Key A → HandleSeen → Option HandleSeen → Type 0
-  HasPut old new k key value None = Puts old new k value.place (plain_put key) None
+  HasPut old new k key value None = CallPuts old new k value.place (plain_put key) None
   HasPut old new k key value (Some given) = (given ≡ value) × Swaps old new k value.place (plain_put key) Some
 
   -- with a new key the frame has the value's handle no more; else it owns what it owned

@@ -8,13 +8,13 @@ ghost use Rattle.brc_count.specs.Frames.{IsUnlocked, IsAsBefore, Owns};
 ghost use Rattle.brc_count.specs.Locking.{IsLocked, cell_locked, contents_found, KeepsThread, KeepsFrame};
 ghost use Rattle.brc_count.specs.Owned.{Keeps, Gains};
 ghost use Rattle.brc_containers.specs.Called.{Late};
-ghost use Rattle.brc_containers.specs.Changing.{KeepsPlaces, RefusedEntry, RefusedPlace};
+ghost use Rattle.brc_containers.specs.Changing.{KeepsAllPlaces, RefusedEntry, RefusedPlace};
 ghost use Rattle.brc_dicts.specs.Calls.{DictKey, DictPair};
-ghost use Rattle.brc_dicts.specs.Indexing.{IsAt, NoPair, Reads, SharesPair, MissesKey, MissesPair};
+ghost use Rattle.brc_dicts.specs.Indexing.{IsAt, NoPair, ReadsUnlocked, SharesPair, MissesKey, MissesPair};
 ghost use Rattle.brc_dicts.specs.Plain.{plain_key_at, plain_value_at};
 ghost use Rattle.brc_dicts.specs.Since.{Since};
 
-use brc_count::biased::Home;
+use brc_count::biased::HasTable;
 use brc_count::block::{Block, Payload};
 use brc_count::{Frame, Handle};
 use brc_lock::begin_late;
@@ -51,7 +51,7 @@ fn key_in<A: Allocator>(alloc: A, payload: &Payload<A>, index: usize) -> Result<
 }
 
 /// The key at the place of the dictionary that is locked, and its unlocking.
-fn key_locked<H: Home<A>, A: Allocator>(
+fn key_locked<H: HasTable<A>, A: Allocator>(
     alloc: A,
     frame: &mut Frame<H, A>,
     block: Block<A>,
@@ -64,7 +64,7 @@ fn key_locked<H: Home<A>, A: Allocator>(
     ensures frame { KeepsFrame frame.old frame.new }
     ensures unlocked { IsUnlocked frame.new }
     ensures reads { IfOk result (λ key. Since frame.old block
-        (λ before k. Reads before frame.new k (plain_key_at index) key)) }
+        (λ before k. ReadsUnlocked before frame.new k (plain_key_at index) key)) }
     ensures refused { IfErr result (λ fault. Since frame.old block
         (λ before k. RefusedEntry before frame.new k (plain_key_at {A = A} index) fault)) }
     ensures waits { IfErr result (λ fault. fault ≢ faults.Busy) }
@@ -76,7 +76,7 @@ fn key_locked<H: Home<A>, A: Allocator>(
 
 /// A copy of the key at the place, in the order in which the keys came. Busy where another thread has the dictionary
 /// locked, then WrongKind where the object is no dictionary, NoSuchPlace past its end, and OutOfMemory.
-pub fn try_dict_key<H: Home<A>, A: Allocator>(
+pub fn try_dict_key<H: HasTable<A>, A: Allocator>(
     alloc: A,
     frame: &mut Frame<H, A>,
     dict: &Handle<A>,
@@ -96,7 +96,7 @@ pub fn try_dict_key<H: Home<A>, A: Allocator>(
 
 /// A copy of the key at the place; WrongKind, NoSuchPlace and OutOfMemory as in `try_dict_key`. It waits while another
 /// thread has the dictionary locked.
-pub fn dict_key<H: Home<A>, A: Allocator>(
+pub fn dict_key<H: HasTable<A>, A: Allocator>(
     rt: &impl Wait,
     alloc: A,
     frame: &mut Frame<H, A>,
@@ -115,7 +115,7 @@ pub fn dict_key<H: Home<A>, A: Allocator>(
 }
 
 /// A copy of the key at the place, the cell beside it, and the next place of the frame made sure of.
-fn pair_and_place<H: Home<A>, A: Allocator>(
+fn pair_and_place<H: HasTable<A>, A: Allocator>(
     alloc: A,
     frame: &mut Frame<H, A>,
     block: &Block<A>,
@@ -139,7 +139,7 @@ fn pair_and_place<H: Home<A>, A: Allocator>(
 }
 
 /// The pair at the place of the dictionary that is locked, and its unlocking.
-fn pair_locked<H: Home<A>, A: Allocator>(
+fn pair_locked<H: HasTable<A>, A: Allocator>(
     alloc: A,
     frame: &mut Frame<H, A>,
     block: Block<A>,
@@ -153,7 +153,7 @@ fn pair_locked<H: Home<A>, A: Allocator>(
     ensures shares { IfOk result (λ pair. Since frame.old block
         (λ before k. SharesPair before frame.new k index pair)) }
     ensures gains { IfOk result (λ pair. Gains frame.old frame.new pair.1) }
-    ensures places { IfErr result (λ fault. KeepsPlaces frame.old frame.new) }
+    ensures places { IfErr result (λ fault. KeepsAllPlaces frame.old frame.new) }
     ensures refused { IfErr result (λ fault. Since frame.old block
         (λ before k. RefusedPlace before frame.new k (plain_value_at A index) fault)) }
     ensures waits { IfErr result (λ fault. fault ≢ faults.Busy) }
@@ -174,7 +174,7 @@ fn pair_locked<H: Home<A>, A: Allocator>(
 /// A copy of the key at the place, in the order in which the keys came, and a handle to the value beside it, counted up
 /// in one event while the dictionary is locked. Busy where another thread has it locked, then WrongKind where the
 /// object is no dictionary, NoSuchPlace past its end, FrameFull and OutOfMemory.
-pub fn try_dict_pair<H: Home<A>, A: Allocator>(
+pub fn try_dict_pair<H: HasTable<A>, A: Allocator>(
     alloc: A,
     frame: &mut Frame<H, A>,
     dict: &Handle<A>,
@@ -195,7 +195,7 @@ pub fn try_dict_pair<H: Home<A>, A: Allocator>(
 
 /// The pair at the place, with a handle to its value; WrongKind, NoSuchPlace, FrameFull and OutOfMemory as in
 /// `try_dict_pair`. It waits while another thread has the dictionary locked.
-pub fn dict_pair<H: Home<A>, A: Allocator>(
+pub fn dict_pair<H: HasTable<A>, A: Allocator>(
     rt: &impl Wait,
     alloc: A,
     frame: &mut Frame<H, A>,

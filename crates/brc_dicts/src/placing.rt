@@ -10,12 +10,12 @@ ghost use Rattle.brc_count.specs.Owned.{Keeps};
 ghost use Rattle.brc_containers.specs.Called.{Late};
 ghost use Rattle.brc_containers.specs.Changing.{RefusedEntry};
 ghost use Rattle.brc_dicts.specs.Calls.{DictPlace};
-ghost use Rattle.brc_dicts.specs.Indexing.{Reads};
+ghost use Rattle.brc_dicts.specs.Indexing.{ReadsUnlocked};
 ghost use Rattle.brc_dicts.specs.Plain.{plain_place};
 ghost use Rattle.brc_dicts.specs.Since.{Since};
 
 use crate::seeking::{Sought, seek};
-use brc_count::biased::Home;
+use brc_count::biased::HasTable;
 use brc_count::block::{Block, KeyRef};
 use brc_count::{Frame, Handle};
 use brc_lock::begin_late;
@@ -24,7 +24,7 @@ use std::alloc::Allocator;
 use std::sync::Wait;
 
 /// The place of the key in the dictionary that is locked, and its unlocking.
-fn place_locked<H: Home<A>, A: Allocator>(
+fn place_locked<H: HasTable<A>, A: Allocator>(
     frame: &mut Frame<H, A>,
     block: Block<A>,
     key: KeyRef<'_>,
@@ -36,7 +36,7 @@ fn place_locked<H: Home<A>, A: Allocator>(
     ensures frame { KeepsFrame frame.old frame.new }
     ensures unlocked { IsUnlocked frame.new }
     ensures reads { IfOk result (λ place. Since frame.old block
-        (λ before k. Reads before frame.new k (plain_place {A = A} (key_lent key.entry)) place)) }
+        (λ before k. ReadsUnlocked before frame.new k (plain_place {A = A} (key_lent key.entry)) place)) }
     ensures refused { IfErr result (λ fault. Since frame.old block
         (λ before k. RefusedEntry before frame.new k (plain_place {A = A} (key_lent key.entry)) fault)) }
     ensures waits { IfErr result (λ fault. fault ≢ faults.Busy) }
@@ -52,7 +52,7 @@ fn place_locked<H: Home<A>, A: Allocator>(
 
 /// At which place the key stands, for `dict_key` and `dict_pair`. Busy where another thread has the dictionary locked,
 /// then WrongKind where the object is no dictionary, and NoSuchKey. It takes no memory.
-pub fn try_dict_key_by<H: Home<A>, A: Allocator>(
+pub fn try_dict_key_by<H: HasTable<A>, A: Allocator>(
     frame: &mut Frame<H, A>,
     dict: &Handle<A>,
     key: KeyRef<'_>,
@@ -71,7 +71,7 @@ pub fn try_dict_key_by<H: Home<A>, A: Allocator>(
 
 /// At which place the key stands; WrongKind and NoSuchKey as in `try_dict_key_by`. It waits while another thread has the
 /// dictionary locked.
-pub fn dict_key_by<H: Home<A>, A: Allocator>(
+pub fn dict_key_by<H: HasTable<A>, A: Allocator>(
     rt: &impl Wait,
     frame: &mut Frame<H, A>,
     dict: &Handle<A>,

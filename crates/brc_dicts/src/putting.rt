@@ -12,14 +12,14 @@ ghost use Rattle.brc_count.specs.Locking.{IsLocked, cell_locked, place_locked, c
 ghost use Rattle.brc_count.specs.Owned.{Keeps};
 ghost use Rattle.brc_containers.specs.Called.{Late};
 ghost use Rattle.brc_dicts.specs.Calls.{DictPut};
-ghost use Rattle.brc_dicts.specs.Putting.{RefusedRoom, HasPut, OwnsPut, RefusedPut};
-ghost use Rattle.brc_dicts.specs.Seeking.{IsThere, IsAbsent};
+ghost use Rattle.brc_dicts.specs.Putting.{RefusedRoomFor, HasPut, OwnsPut, RefusedPut};
+ghost use Rattle.brc_dicts.specs.Seeking.{HasKeyAt, IsAbsent};
 ghost use Rattle.brc_dicts.specs.Since.{Since};
 
 use crate::seeking::{Sought, seek};
-use brc_count::biased::Home;
+use brc_count::biased::HasTable;
 use brc_count::block::{Block, KeyRef, Payload};
-use brc_count::{Frame, Handed, Handle};
+use brc_count::{Frame, HandedBack, Handle};
 use brc_lock::begin_late;
 use brc_words::{Fault, Key, MOST_ENTRIES};
 use std::alloc::Allocator;
@@ -35,7 +35,7 @@ fn make_room<A: Allocator + Copy>(payload: &mut Payload<A>) -> Result<(), Fault>
     ensures keys { keys_of payload.new ≡ keys_of payload.old }
     ensures room { OnOk result (0 < spare_of payload.new) }
     ensures few { OnOk result (length (entries_of payload.old) < MOST_ENTRIES) }
-    ensures refused { IfErr result (RefusedRoom (length (entries_of payload.old))) }
+    ensures refused { IfErr result (RefusedRoomFor (length (entries_of payload.old))) }
     ensures contents { contents_of payload.new ≡ contents_of payload.old }
 {
     if MOST_ENTRIES as usize <= payload.len() {
@@ -49,12 +49,12 @@ fn make_room<A: Allocator + Copy>(payload: &mut Payload<A>) -> Result<(), Fault>
 
 /// A new key goes into the dictionary that is locked, at the end, with the value.
 #[inline(never)]
-fn append_locked<H: Home<A>, A: Allocator + Copy>(
+fn append_locked<H: HasTable<A>, A: Allocator + Copy>(
     frame: &mut Frame<H, A>,
     mut block: Block<A>,
     key: Key<A>,
     value: Handle<A>,
-) -> Result<Option<Handle<A>>, Handed<(Key<A>, Handle<A>)>>
+) -> Result<Option<Handle<A>>, HandedBack<(Key<A>, Handle<A>)>>
     requires locked { IsLocked frame.old }
     requires of_cell { cell_locked frame.old ≡ Some block.0 }
     requires found { contents_found frame.old ≡ contents_of block.1 }
@@ -66,7 +66,7 @@ fn append_locked<H: Home<A>, A: Allocator + Copy>(
     ensures put { IfOk result (λ answer. Since frame.old block
         (λ before k. HasPut before frame.new k key value answer)) }
     ensures owns { IfOk result (OwnsPut frame.old frame.new value) }
-    ensures back { IfErr result (λ handed. handed.back ≡ (key, value)) }
+    ensures back { IfErr result (λ handed. handed.value ≡ (key, value)) }
     ensures frame { IfErr result (λ handed. KeepsFrame frame.old frame.new) }
     ensures refused { IfErr result (λ handed. Since frame.old block
         (λ before k. RefusedPut before frame.new k key value handed.fault)) }
@@ -75,9 +75,9 @@ fn append_locked<H: Home<A>, A: Allocator + Copy>(
     let cell = frame.cell(&value);
     if let Err(fault) = make_room(block.payload_mut()) {
         frame.end_keep(block);
-        return Err(Handed {
+        return Err(HandedBack {
             fault,
-            back: (key, value),
+            value: (key, value),
         });
     }
     block.payload_mut().put_pair_reserved(key, cell);
@@ -103,7 +103,7 @@ fn set_pair<A: Allocator>(payload: &mut Payload<A>, index: usize, cell: u32)
 /// The value goes beside a key that is there, in the dictionary that is locked; the answer is the old one. It takes no
 /// memory.
 #[inline(always)]
-fn replace_locked<H: Home<A>, A: Allocator>(
+fn replace_locked<H: HasTable<A>, A: Allocator>(
     frame: &mut Frame<H, A>,
     mut block: Block<A>,
     key: KeyRef<'_>,
@@ -116,7 +116,7 @@ fn replace_locked<H: Home<A>, A: Allocator>(
     requires found { contents_found frame.old ≡ contents_of block.1 }
     requires value_owned { Owns frame.old value }
     requires apart { place_locked frame.old ≢ Some value.place }
-    requires there { IsThere block.1 (key_lent key) index entry }
+    requires there { HasKeyAt block.1 (key_lent key) index entry }
     ensures thread { KeepsThread frame.old frame.new }
     ensures unlocked { IsUnlocked frame.new }
     ensures put { Since frame.old block
@@ -131,12 +131,12 @@ fn replace_locked<H: Home<A>, A: Allocator>(
 
 /// A put into the dictionary that is locked, and its unlocking.
 #[inline(always)]
-fn put_locked<H: Home<A>, A: Allocator + Copy>(
+fn put_locked<H: HasTable<A>, A: Allocator + Copy>(
     frame: &mut Frame<H, A>,
     block: Block<A>,
     key: Key<A>,
     value: Handle<A>,
-) -> Result<Option<Handle<A>>, Handed<(Key<A>, Handle<A>)>>
+) -> Result<Option<Handle<A>>, HandedBack<(Key<A>, Handle<A>)>>
     requires locked { IsLocked frame.old }
     requires of_cell { cell_locked frame.old ≡ Some block.0 }
     requires found { contents_found frame.old ≡ contents_of block.1 }
@@ -147,7 +147,7 @@ fn put_locked<H: Home<A>, A: Allocator + Copy>(
     ensures put { IfOk result (λ answer. Since frame.old block
         (λ before k. HasPut before frame.new k key value answer)) }
     ensures owns { IfOk result (OwnsPut frame.old frame.new value) }
-    ensures back { IfErr result (λ handed. handed.back ≡ (key, value)) }
+    ensures back { IfErr result (λ handed. handed.value ≡ (key, value)) }
     ensures frame { IfErr result (λ handed. KeepsFrame frame.old frame.new) }
     ensures refused { IfErr result (λ handed. Since frame.old block
         (λ before k. RefusedPut before frame.new k key value handed.fault)) }
@@ -163,9 +163,9 @@ fn put_locked<H: Home<A>, A: Allocator + Copy>(
         Sought::Absent => append_locked(frame, block, key, value),
         Sought::WrongKind => {
             frame.end_keep(block);
-            Err(Handed {
+            Err(HandedBack {
                 fault: Fault::WrongKind,
-                back: (key, value),
+                value: (key, value),
             })
         }
     }
@@ -174,7 +174,7 @@ fn put_locked<H: Home<A>, A: Allocator + Copy>(
 /// A copy of a key that goes into a dictionary: Full where that has as many pairs as it may, then OutOfMemory.
 fn copy_for<A: Allocator>(alloc: A, payload: &Payload<A>, key: KeyRef<'_>) -> Result<Key<A>, Fault>
     ensures copy { IfOk result (λ copy. copy ≡ key_lent key.entry) }
-    ensures refused { IfErr result (RefusedRoom (length (entries_of payload.now))) }
+    ensures refused { IfErr result (RefusedRoomFor (length (entries_of payload.now))) }
 {
     if payload.len() >= MOST_ENTRIES as usize {
         return Err(Fault::Full);
@@ -187,13 +187,13 @@ fn copy_for<A: Allocator>(alloc: A, payload: &Payload<A>, key: KeyRef<'_>) -> Re
 
 /// A copy of the key, which is new, goes into the dictionary that is locked, at the end, with the value.
 #[inline(never)]
-fn append_copy<H: Home<A>, A: Allocator + Copy>(
+fn append_copy<H: HasTable<A>, A: Allocator + Copy>(
     alloc: A,
     frame: &mut Frame<H, A>,
     block: Block<A>,
     key: KeyRef<'_>,
     value: Handle<A>,
-) -> Result<Option<Handle<A>>, Handed<Handle<A>>>
+) -> Result<Option<Handle<A>>, HandedBack<Handle<A>>>
     requires locked { IsLocked frame.old }
     requires of_cell { cell_locked frame.old ≡ Some block.0 }
     requires found { contents_found frame.old ≡ contents_of block.1 }
@@ -205,7 +205,7 @@ fn append_copy<H: Home<A>, A: Allocator + Copy>(
     ensures put { IfOk result (λ answer. Since frame.old block
         (λ before k. HasPut before frame.new k (key_lent key.entry) value answer)) }
     ensures owns { IfOk result (OwnsPut frame.old frame.new value) }
-    ensures back { IfErr result (λ handed. handed.back ≡ value) }
+    ensures back { IfErr result (λ handed. handed.value ≡ value) }
     ensures frame { IfErr result (λ handed. KeepsFrame frame.old frame.new) }
     ensures refused { IfErr result (λ handed. Since frame.old block
         (λ before k. RefusedPut before frame.new k (key_lent key.entry) value handed.fault)) }
@@ -215,28 +215,28 @@ fn append_copy<H: Home<A>, A: Allocator + Copy>(
         Ok(copy) => match append_locked(frame, block, copy, value) {
             Ok(answer) => Ok(answer),
             Err(
-                Handed {
+                HandedBack {
                     fault,
-                    back: (_copy, back),
+                    value: (_copy, back),
                 },
-            ) => Err(Handed { fault, back }),
+            ) => Err(HandedBack { fault, value: back }),
         },
         Err(fault) => {
             frame.end_keep(block);
-            Err(Handed { fault, back: value })
+            Err(HandedBack { fault, value })
         }
     }
 }
 
 /// A put by a key that is lent, into the dictionary that is locked, and its unlocking.
 #[inline(always)]
-fn set_locked<H: Home<A>, A: Allocator + Copy>(
+fn set_locked<H: HasTable<A>, A: Allocator + Copy>(
     alloc: A,
     frame: &mut Frame<H, A>,
     block: Block<A>,
     key: KeyRef<'_>,
     value: Handle<A>,
-) -> Result<Option<Handle<A>>, Handed<Handle<A>>>
+) -> Result<Option<Handle<A>>, HandedBack<Handle<A>>>
     requires locked { IsLocked frame.old }
     requires of_cell { cell_locked frame.old ≡ Some block.0 }
     requires found { contents_found frame.old ≡ contents_of block.1 }
@@ -247,7 +247,7 @@ fn set_locked<H: Home<A>, A: Allocator + Copy>(
     ensures put { IfOk result (λ answer. Since frame.old block
         (λ before k. HasPut before frame.new k (key_lent key.entry) value answer)) }
     ensures owns { IfOk result (OwnsPut frame.old frame.new value) }
-    ensures back { IfErr result (λ handed. handed.back ≡ value) }
+    ensures back { IfErr result (λ handed. handed.value ≡ value) }
     ensures frame { IfErr result (λ handed. KeepsFrame frame.old frame.new) }
     ensures refused { IfErr result (λ handed. Since frame.old block
         (λ before k. RefusedPut before frame.new k (key_lent key.entry) value handed.fault)) }
@@ -261,9 +261,9 @@ fn set_locked<H: Home<A>, A: Allocator + Copy>(
         Sought::Absent => append_copy(alloc, frame, block, key, value),
         Sought::WrongKind => {
             frame.end_keep(block);
-            Err(Handed {
+            Err(HandedBack {
                 fault: Fault::WrongKind,
-                back: value,
+                value,
             })
         }
     }
@@ -274,12 +274,12 @@ fn set_locked<H: Home<A>, A: Allocator + Copy>(
 /// WrongKind where the object is no dictionary, Full where a new key is the 1,048,577th, and OutOfMemory for a new key;
 /// a refusal hands key and value back.
 #[inline(always)]
-pub fn try_dict_put<H: Home<A>, A: Allocator + Copy>(
+pub fn try_dict_put<H: HasTable<A>, A: Allocator + Copy>(
     frame: &mut Frame<H, A>,
     dict: &Handle<A>,
     key: Key<A>,
     value: Handle<A>,
-) -> Result<Option<Handle<A>>, Handed<(Key<A>, Handle<A>)>>
+) -> Result<Option<Handle<A>>, HandedBack<(Key<A>, Handle<A>)>>
     requires owned { Owns frame.old dict.now }
     requires value_owned { Owns frame.old value }
     requires apart { value.place ≢ dict.now.place }
@@ -288,12 +288,12 @@ pub fn try_dict_put<H: Home<A>, A: Allocator + Copy>(
     ensures owns { IfOk result (OwnsPut frame.old frame.new value) }
     ensures keeps { OnErr result (Keeps frame.old frame.new) }
     ensures unlocked { IsUnlocked frame.new }
-    ensures back { IfErr result (λ handed. handed.back ≡ (key, value)) }
+    ensures back { IfErr result (λ handed. handed.value ≡ (key, value)) }
 {
     let Some(block) = frame.begin(dict) else {
-        return Err(Handed {
+        return Err(HandedBack {
             fault: Fault::Busy,
-            back: (key, value),
+            value: (key, value),
         });
     };
     put_locked(frame, block, key, value)
@@ -302,13 +302,13 @@ pub fn try_dict_put<H: Home<A>, A: Allocator + Copy>(
 /// Puts the value beside the key, as `try_dict_put` does; WrongKind, Full and OutOfMemory as there. It waits while
 /// another thread has the dictionary locked.
 #[inline(always)]
-pub fn dict_put<H: Home<A>, A: Allocator + Copy>(
+pub fn dict_put<H: HasTable<A>, A: Allocator + Copy>(
     rt: &impl Wait,
     frame: &mut Frame<H, A>,
     dict: &Handle<A>,
     key: Key<A>,
     value: Handle<A>,
-) -> Result<Option<Handle<A>>, Handed<(Key<A>, Handle<A>)>>
+) -> Result<Option<Handle<A>>, HandedBack<(Key<A>, Handle<A>)>>
     requires owned { Owns frame.old dict.now }
     requires value_owned { Owns frame.old value }
     requires apart { value.place ≢ dict.now.place }
@@ -317,7 +317,7 @@ pub fn dict_put<H: Home<A>, A: Allocator + Copy>(
     ensures owns { IfOk result (OwnsPut frame.old frame.new value) }
     ensures keeps { OnErr result (Keeps frame.old frame.new) }
     ensures unlocked { IsUnlocked frame.new }
-    ensures back { IfErr result (λ handed. handed.back ≡ (key, value)) }
+    ensures back { IfErr result (λ handed. handed.value ≡ (key, value)) }
     ensures waited { IfErr result (λ handed. handed.fault ≢ faults.Busy) }
 {
     let block = begin_late(rt, frame, dict);
@@ -328,13 +328,13 @@ pub fn dict_put<H: Home<A>, A: Allocator + Copy>(
 /// new. Busy where another thread has the dictionary locked, then WrongKind where the object is no dictionary, Full where
 /// a new key is the 1,048,577th, and OutOfMemory for a new key or its copy; a refusal hands the value back.
 #[inline(always)]
-pub fn try_dict_set<H: Home<A>, A: Allocator + Copy>(
+pub fn try_dict_set<H: HasTable<A>, A: Allocator + Copy>(
     alloc: A,
     frame: &mut Frame<H, A>,
     dict: &Handle<A>,
     key: KeyRef<'_>,
     value: Handle<A>,
-) -> Result<Option<Handle<A>>, Handed<Handle<A>>>
+) -> Result<Option<Handle<A>>, HandedBack<Handle<A>>>
     requires owned { Owns frame.old dict.now }
     requires value_owned { Owns frame.old value }
     requires apart { value.place ≢ dict.now.place }
@@ -343,12 +343,12 @@ pub fn try_dict_set<H: Home<A>, A: Allocator + Copy>(
     ensures owns { IfOk result (OwnsPut frame.old frame.new value) }
     ensures keeps { OnErr result (Keeps frame.old frame.new) }
     ensures unlocked { IsUnlocked frame.new }
-    ensures back { IfErr result (λ handed. handed.back ≡ value) }
+    ensures back { IfErr result (λ handed. handed.value ≡ value) }
 {
     let Some(block) = frame.begin(dict) else {
-        return Err(Handed {
+        return Err(HandedBack {
             fault: Fault::Busy,
-            back: value,
+            value,
         });
     };
     set_locked(alloc, frame, block, key, value)
@@ -357,14 +357,14 @@ pub fn try_dict_set<H: Home<A>, A: Allocator + Copy>(
 /// Puts the value beside the key, as `try_dict_set` does; WrongKind, Full and OutOfMemory as there. It waits while
 /// another thread has the dictionary locked.
 #[inline(always)]
-pub fn dict_set<H: Home<A>, A: Allocator + Copy>(
+pub fn dict_set<H: HasTable<A>, A: Allocator + Copy>(
     rt: &impl Wait,
     alloc: A,
     frame: &mut Frame<H, A>,
     dict: &Handle<A>,
     key: KeyRef<'_>,
     value: Handle<A>,
-) -> Result<Option<Handle<A>>, Handed<Handle<A>>>
+) -> Result<Option<Handle<A>>, HandedBack<Handle<A>>>
     requires owned { Owns frame.old dict.now }
     requires value_owned { Owns frame.old value }
     requires apart { value.place ≢ dict.now.place }
@@ -373,7 +373,7 @@ pub fn dict_set<H: Home<A>, A: Allocator + Copy>(
     ensures owns { IfOk result (OwnsPut frame.old frame.new value) }
     ensures keeps { OnErr result (Keeps frame.old frame.new) }
     ensures unlocked { IsUnlocked frame.new }
-    ensures back { IfErr result (λ handed. handed.back ≡ value) }
+    ensures back { IfErr result (λ handed. handed.value ≡ value) }
     ensures waited { IfErr result (λ handed. handed.fault ≢ faults.Busy) }
 {
     let block = begin_late(rt, frame, dict);

@@ -8,13 +8,13 @@ ghost use Rattle.brc_count.specs.Frames.{IsUnlocked, Owns};
 ghost use Rattle.brc_count.specs.Locking.{IsLocked, cell_locked, contents_found, KeepsThread};
 ghost use Rattle.brc_count.specs.Owned.{Keeps, Gains};
 ghost use Rattle.brc_containers.specs.Called.{Late};
-ghost use Rattle.brc_containers.specs.Changing.{KeepsPlaces, Shares, Takes, RefusedPlace};
+ghost use Rattle.brc_containers.specs.Changing.{KeepsAllPlaces, Shares, CallTakes, RefusedPlace};
 ghost use Rattle.brc_dicts.specs.Calls.{DictFind, DictDel};
 ghost use Rattle.brc_dicts.specs.Plain.{plain_find, plain_del};
 ghost use Rattle.brc_dicts.specs.Since.{Since};
 
 use crate::seeking::{Sought, seek};
-use brc_count::biased::Home;
+use brc_count::biased::HasTable;
 use brc_count::block::{Block, KeyRef};
 use brc_count::{Frame, Handle};
 use brc_lock::begin_late;
@@ -24,7 +24,7 @@ use std::sync::Wait;
 
 /// A find in the dictionary that is locked, and its unlocking.
 #[inline(always)]
-fn find_locked<H: Home<A>, A: Allocator>(
+fn find_locked<H: HasTable<A>, A: Allocator>(
     frame: &mut Frame<H, A>,
     block: Block<A>,
     key: KeyRef<'_>,
@@ -37,7 +37,7 @@ fn find_locked<H: Home<A>, A: Allocator>(
     ensures shares { IfOk result (λ given. Since frame.old block
         (λ before k. Shares before frame.new k (plain_find {A = A} (key_lent key.entry)) given)) }
     ensures gains { IfOk result (Gains frame.old frame.new) }
-    ensures places { IfErr result (λ fault. KeepsPlaces frame.old frame.new) }
+    ensures places { IfErr result (λ fault. KeepsAllPlaces frame.old frame.new) }
     ensures refused { IfErr result (λ fault. Since frame.old block
         (λ before k. RefusedPlace before frame.new k (plain_find {A = A} (key_lent key.entry)) fault)) }
     ensures waits { IfErr result (λ fault. fault ≢ faults.Busy) }
@@ -64,7 +64,7 @@ fn find_locked<H: Home<A>, A: Allocator>(
 
 /// As `try_dict_find`, by a key that is lent.
 #[inline(always)]
-pub fn try_dict_find_by<H: Home<A>, A: Allocator>(
+pub fn try_dict_find_by<H: HasTable<A>, A: Allocator>(
     frame: &mut Frame<H, A>,
     dict: &Handle<A>,
     key: KeyRef<'_>,
@@ -85,7 +85,7 @@ pub fn try_dict_find_by<H: Home<A>, A: Allocator>(
 /// A handle to the value beside the key, counted up in one event while the dictionary is locked. Busy where another
 /// thread has it locked, then WrongKind where the object is no dictionary, NoSuchKey, FrameFull and OutOfMemory.
 #[inline(always)]
-pub fn try_dict_find<H: Home<A>, A: Allocator>(
+pub fn try_dict_find<H: HasTable<A>, A: Allocator>(
     frame: &mut Frame<H, A>,
     dict: &Handle<A>,
     key: &Key<A>,
@@ -102,7 +102,7 @@ pub fn try_dict_find<H: Home<A>, A: Allocator>(
 
 /// As `dict_find`, by a key that is lent.
 #[inline(always)]
-pub fn dict_find_by<H: Home<A>, A: Allocator>(
+pub fn dict_find_by<H: HasTable<A>, A: Allocator>(
     rt: &impl Wait,
     frame: &mut Frame<H, A>,
     dict: &Handle<A>,
@@ -123,7 +123,7 @@ pub fn dict_find_by<H: Home<A>, A: Allocator>(
 /// A handle to the value beside the key; WrongKind, NoSuchKey, FrameFull and OutOfMemory as in `try_dict_find`. It
 /// waits while another thread has the dictionary locked.
 #[inline(always)]
-pub fn dict_find<H: Home<A>, A: Allocator>(
+pub fn dict_find<H: HasTable<A>, A: Allocator>(
     rt: &impl Wait,
     frame: &mut Frame<H, A>,
     dict: &Handle<A>,
@@ -141,7 +141,7 @@ pub fn dict_find<H: Home<A>, A: Allocator>(
 }
 
 /// A deletion in the dictionary that is locked, and its unlocking.
-fn del_locked<H: Home<A>, A: Allocator>(
+fn del_locked<H: HasTable<A>, A: Allocator>(
     frame: &mut Frame<H, A>,
     mut block: Block<A>,
     key: KeyRef<'_>,
@@ -152,9 +152,9 @@ fn del_locked<H: Home<A>, A: Allocator>(
     ensures thread { KeepsThread frame.old frame.new }
     ensures unlocked { IsUnlocked frame.new }
     ensures takes { IfOk result (λ given. Since frame.old block
-        (λ before k. Takes before frame.new k (plain_del {A = A} (key_lent key.entry)) given)) }
+        (λ before k. CallTakes before frame.new k (plain_del {A = A} (key_lent key.entry)) given)) }
     ensures gains { IfOk result (Gains frame.old frame.new) }
-    ensures places { IfErr result (λ fault. KeepsPlaces frame.old frame.new) }
+    ensures places { IfErr result (λ fault. KeepsAllPlaces frame.old frame.new) }
     ensures refused { IfErr result (λ fault. Since frame.old block
         (λ before k. RefusedPlace before frame.new k (plain_del {A = A} (key_lent key.entry)) fault)) }
     ensures waits { IfErr result (λ fault. fault ≢ faults.Busy) }
@@ -180,7 +180,7 @@ fn del_locked<H: Home<A>, A: Allocator>(
 }
 
 /// As `try_dict_del`, by a key that is lent.
-pub fn try_dict_del_by<H: Home<A>, A: Allocator>(
+pub fn try_dict_del_by<H: HasTable<A>, A: Allocator>(
     frame: &mut Frame<H, A>,
     dict: &Handle<A>,
     key: KeyRef<'_>,
@@ -200,7 +200,7 @@ pub fn try_dict_del_by<H: Home<A>, A: Allocator>(
 
 /// The value beside the key, whose pair goes; later ones close up. Busy where another thread has the dictionary locked,
 /// then WrongKind where the object is no dictionary, NoSuchKey, FrameFull and OutOfMemory.
-pub fn try_dict_del<H: Home<A>, A: Allocator>(
+pub fn try_dict_del<H: HasTable<A>, A: Allocator>(
     frame: &mut Frame<H, A>,
     dict: &Handle<A>,
     key: &Key<A>,
@@ -216,7 +216,7 @@ pub fn try_dict_del<H: Home<A>, A: Allocator>(
 }
 
 /// As `dict_del`, by a key that is lent.
-pub fn dict_del_by<H: Home<A>, A: Allocator>(
+pub fn dict_del_by<H: HasTable<A>, A: Allocator>(
     rt: &impl Wait,
     frame: &mut Frame<H, A>,
     dict: &Handle<A>,
@@ -236,7 +236,7 @@ pub fn dict_del_by<H: Home<A>, A: Allocator>(
 
 /// The value beside the key, whose pair goes; WrongKind, NoSuchKey, FrameFull and OutOfMemory as in `try_dict_del`. It
 /// waits while another thread has the dictionary locked.
-pub fn dict_del<H: Home<A>, A: Allocator>(
+pub fn dict_del<H: HasTable<A>, A: Allocator>(
     rt: &impl Wait,
     frame: &mut Frame<H, A>,
     dict: &Handle<A>,

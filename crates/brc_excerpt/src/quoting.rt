@@ -2,7 +2,7 @@
 
 ghost use Rattle.std.specs.Prelude.{◌≡◌, ◌≤◌, ◌+◌, ◌<◌, ◌++◌};
 ghost use Rattle.arrayvec.specs.ArrayVec.{array_vec_len};
-ghost use Rattle.brc_text.specs.Puts.{Puts};
+ghost use Rattle.brc_text.specs.Puts.{PutsText};
 ghost use Rattle.brc_excerpt.specs.Excerpts.{is_printable, digit_of, shown, quoted};
 
 use crate::excerpt::Excerpt;
@@ -53,7 +53,7 @@ fn add_shown(text: &mut QuotedText, byte: u8)
 
 /// Writes the excerpt between quotes. It is put together on the stack and written at once.
 pub fn put_quoted<W: Write>(writer: &mut W, excerpt: &Excerpt) -> Result<(), Fault>
-    ensures { Puts (W.contents writer.old) (W.contents writer.new) result (quoted excerpt.now) }
+    ensures { PutsText (W.contents writer.old) (W.contents writer.new) result (quoted excerpt.now) }
 {
     let bytes = excerpt.bytes();
     let mut text = QuotedText::new();

@@ -13,7 +13,7 @@ use Rattle.brc_text.specs.Puts.{PutsUpTo}
 use Rattle.brc_graph.specs.declared.drawn.Drawn.{Drawn}
 use Rattle.brc_graph.specs.declared.undrawn.Undrawn.{Undrawn}
 use Rattle.brc_graph.specs.declared.undrawn.Undrawn.TheVariants as undrawn
-use Rattle.brc_graph.specs.Reading.{graph_at, Refuses}
+use Rattle.brc_graph.specs.Reading.{graph_at, RefusesGraph}
 use Rattle.brc_graph.specs.Pictures.{graph_text}
 use Rattle.brc_graph.specs.Draws.{undrawn_of, IsHalfDrawn, Draws}
 
@@ -58,7 +58,7 @@ not_read input old fault (inr memory) =
     subst P (sym memory) (Keeps-refl old)
 
 pub no_graph : (input old : Option (List ℕ)) (bytes : List ℕ) (refused : Undrawn)
-    → IfSome input (λ all. bytes ≡ take (MOST_INPUT + 1) all) → Refuses refused (graph_at {A = Global} bytes)
+    → IfSome input (λ all. bytes ≡ take (MOST_INPUT + 1) all) → RefusesGraph refused (graph_at {A = Global} bytes)
     → Draws input old old (Err refused)
 no_graph input old bytes undrawn.OutOfMemory is h = Keeps-refl old
 no_graph input old bytes (undrawn.BadLine line) is h = (Keeps-refl old, bad input bytes line is h)

@@ -28,8 +28,8 @@ use Rattle.brc_graph.specs.declared.drawn.Drawn.TheVariants as drawn
 use Rattle.brc_graph.specs.declared.first_word.FirstWord.{FirstWord}
 use Rattle.brc_graph.specs.declared.first_word.FirstWord.TheVariants as words
 use Rattle.brc_graph.specs.declared.line.TheConstants.{KINDS}
-use Rattle.brc_graph.specs.declared.part.Part.{Part}
-use Rattle.brc_graph.specs.declared.part.Part.TheVariants as parts
+use Rattle.brc_graph.specs.declared.part.TextPart.{TextPart}
+use Rattle.brc_graph.specs.declared.part.TextPart.TheVariants as parts
 use Rattle.brc_graph.specs.FirstWords.{first_word, first_word_at}
 use Rattle.brc_graph.specs.Operands.{within, word_among, ahead}
 use Rattle.brc_graph.specs.Cells.{cells_from}
@@ -158,7 +158,7 @@ ledger_first ledger live remains cycles =
     append_assoc (codes "ledger" ++ (32 ∷ ledger_rest ledger live)) (10 ∷ []) (remains_text remains ++ cycles_text cycles)
 
 module _ {A : Type 0} where
-  worded_again : (part next : Part) (word : FirstWord) (rest : List ℕ) (shown : Drawn A)
+  worded_again : (part next : TextPart) (word : FirstWord) (rest : List ℕ) (shown : Drawn A)
       → lacks 32 (first_word word) ≡ true → first_word_at (first_word word) ≡ Some word
       → after part word ≡ Some next → drawn_at word rest ≡ Some shown
       → worded_at part (first_word word ++ (32 ∷ rest)) ≡ Some (next, shown)
@@ -174,7 +174,7 @@ module _ {A : Type 0} where
       worded_again parts.Remains parts.Remains words.Remain (remain_rest remain) (remain_drawn remain) refl refl refl
       (rw (remain_again remain is) refl)
 
-  cycle_step : (part : Part) (cell : ℕ) (cells : List ℕ) → may_be_printed part ≡ false
+  cycle_step : (part : TextPart) (cell : ℕ) (cells : List ℕ) → may_be_printed part ≡ false
       → after part words.Cycle ≡ Some parts.Cycles → AreOfHeap (cell ∷ cells)
       → step_at {A = A} part (codes "cycle" ++ (32 ∷ (decimal cell ++ spaced_numbers cells)))
       ≡ Some (parts.Cycles, cycle_drawn (cell ∷ cells))
@@ -184,7 +184,7 @@ module _ {A : Type 0} where
       (cycle_drawn (cell ∷ cells)) refl refl stands
       (rw (cells_again MOST_CELLS [] cell cells is.few is.each) refl))
 
-  ledger_step : (part : Part) (ledger : Ledger) (live : ℕ) → may_be_printed part ≡ true
+  ledger_step : (part : TextPart) (ledger : Ledger) (live : ℕ) → may_be_printed part ≡ true
       → after part words.Ledger ≡ Some parts.Remains
       → ledger.allocs < 2 ^ 64 → ledger.frees < 2 ^ 64 → live < 2 ^ 64
       → step_at {A = A} part (codes "ledger" ++ (32 ∷ ledger_rest ledger live))
@@ -200,14 +200,14 @@ module _ {A : Type 0} where
       (rw (ledger_again ledger live allocs frees lives) refl)
       )
 
-  printed_step : (part : Part) (line : List ℕ) → may_be_printed part ≡ true → is_printed line ≡ true
+  printed_step : (part : TextPart) (line : List ℕ) → may_be_printed part ≡ true → is_printed line ≡ true
       → step_at {A = A} part line ≡ Some (parts.Printed, drawn.Nothing)
   unfolding step_at
   printed_step part line may named = rw (may, named) refl
 
   -- ---- one line after another
 
-  line_again : (part next : Part) (before : List (Drawn A)) (shown : Drawn A) (number : ℕ) (line more : List ℕ)
+  line_again : (part next : TextPart) (before : List (Drawn A)) (shown : Drawn A) (number : ℕ) (line more : List ℕ)
       → lacks 10 line ≡ true → step_at part line ≡ Some (next, shown)
       → walk part before number (pieces (line ++ (10 ∷ more))) ≡ walk next (before ++ (shown ∷ [])) (number + 1)
       (pieces more)
@@ -216,12 +216,13 @@ module _ {A : Type 0} where
       ap (walk part before number) (pieces_line line more lack)
       ∙ ap (onward number (λ step. walk step.0 (before ++ (step.1 ∷ [])) (number + 1) (pieces more))) steps
 
-  no_more : (part : Part) (before : List (Drawn A)) (number : ℕ) → is_whole part ≡ true
+  no_more : (part : TextPart) (before : List (Drawn A)) (number : ℕ) → is_whole part ≡ true
       → walk part before number (pieces []) ≡ Ok before
   unfolding walk pieces
   no_more part before number whole = rw whole refl
 
-  cycles_again : (part : Part) (before : List (Drawn A)) (number : ℕ) (cycles : List (List ℕ)) → may_be_printed part ≡ false
+  cycles_again : (part : TextPart) (before : List (Drawn A)) (number : ℕ) (cycles : List (List ℕ))
+      → may_be_printed part ≡ false
       → after part words.Cycle ≡ Some parts.Cycles → is_whole part ≡ true → AllByRecursion AreOfHeap cycles
       → walk part before number (pieces (cycles_text cycles)) ≡ Ok (before ++ map cycle_drawn cycles)
   cycles_again part before number [] bare stands whole all =
@@ -261,7 +262,7 @@ module _ {A : Type 0} where
       ∙ ap (λ (l : List (Drawn A)). Ok l)
       (append_assoc before (shown ∷ []) (map remain_drawn remains ++ map cycle_drawn cycles))
 
-  printed_again : (part : Part) (before : List (Drawn A)) (number : ℕ) (printed : List (List ℕ)) (ledger : Ledger)
+  printed_again : (part : TextPart) (before : List (Drawn A)) (number : ℕ) (printed : List (List ℕ)) (ledger : Ledger)
       (live : ℕ) (remains : List Remain) (cycles : List (List ℕ))
       → may_be_printed part ≡ true → after part words.Ledger ≡ Some parts.Remains
       → AllByRecursion IsPrinted printed → IsHeapReport ledger live remains cycles

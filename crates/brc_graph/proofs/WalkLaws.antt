@@ -6,12 +6,12 @@ use Rattle.brc_words.specs.declared.limits.TheConstants.{MOST_INPUT}
 use Rattle.brc_text.specs.Lines.{cut, pieces}
 use Rattle.brc_text.proofs.LineLaws.{pieces_ended, pieces_open, cut_shorter}
 use Rattle.brc_graph.specs.declared.drawn.Drawn.{Drawn}
-use Rattle.brc_graph.specs.declared.part.Part.{Part}
-use Rattle.brc_graph.specs.declared.part.Part.TheVariants as parts
+use Rattle.brc_graph.specs.declared.part.TextPart.{TextPart}
+use Rattle.brc_graph.specs.declared.part.TextPart.TheVariants as parts
 use Rattle.brc_graph.specs.declared.undrawn.Undrawn.{Undrawn}
 use Rattle.brc_graph.specs.Lines.{step_at}
 use Rattle.brc_graph.specs.Parts.{is_whole}
-use Rattle.brc_graph.specs.Reading.{onward, walk, graph_at, Refuses}
+use Rattle.brc_graph.specs.Reading.{onward, walk, graph_at, RefusesGraph}
 
 pub no_piece : (text : List ℕ) → length text ≡ 0 → pieces text ≡ []
 unfolding pieces
@@ -23,13 +23,13 @@ line_shorter text rest e = cut_shorter 10 text rest e
 
 module _ {A : Type 0} where
   -- no line feed ends the line
-  pub open_turn : (part : Part) (before : List (Drawn A)) (number : ℕ) (text : List ℕ) → 0 < length text
+  pub open_turn : (part : TextPart) (before : List (Drawn A)) (number : ℕ) (text : List ℕ) → 0 < length text
       → (cut 10 text).1 ≡ None
       → walk part before number (pieces text) ≡ Err number
   unfolding walk
   open_turn part before number text some open' = ap (walk part before number) (pieces_open text some open')
 
-  pub bad_turn : (part : Part) (before : List (Drawn A)) (number : ℕ) (text line rest : List ℕ)
+  pub bad_turn : (part : TextPart) (before : List (Drawn A)) (number : ℕ) (text line rest : List ℕ)
       → line ≡ (cut 10 text).0 → (cut 10 text).1 ≡ Some rest → step_at {A = A} part line ≡ None
       → walk part before number (pieces text) ≡ Err number
   unfolding walk
@@ -38,7 +38,8 @@ module _ {A : Type 0} where
       ∙ ap (onward number (λ step. walk step.0 (before ++ step.1 ∷ []) (number + 1) (pieces rest)))
       (ap (step_at part) (sym is) ∙ bad)
 
-  pub good_turn : (part next : Part) (before : List (Drawn A)) (shown : Drawn A) (number : ℕ) (text line rest : List ℕ)
+  pub good_turn : (part next : TextPart) (before : List (Drawn A)) (shown : Drawn A) (number : ℕ)
+      (text line rest : List ℕ)
       → line ≡ (cut 10 text).0 → (cut 10 text).1 ≡ Some rest → step_at part line ≡ Some (next, shown)
       → walk part before number (pieces text) ≡ walk next (before ++ shown ∷ []) (number + 1) (pieces rest)
   unfolding walk
@@ -48,14 +49,14 @@ module _ {A : Type 0} where
       (ap (step_at part) (sym is) ∙ good)
 
   -- the text ends here, and may
-  pub whole_turn : (part : Part) (before : List (Drawn A)) (number : ℕ) (text : List ℕ) → length text ≡ 0
+  pub whole_turn : (part : TextPart) (before : List (Drawn A)) (number : ℕ) (text : List ℕ) → length text ≡ 0
       → is_whole part ≡ true
       → walk part before number (pieces text) ≡ Ok before
   unfolding walk
   whole_turn part before number text none whole = ap (walk part before number) (no_piece text none) ∙ rw whole refl
 
   -- it ends here, and may not
-  pub early_turn : (part : Part) (before : List (Drawn A)) (number : ℕ) (text : List ℕ) → length text ≡ 0
+  pub early_turn : (part : TextPart) (before : List (Drawn A)) (number : ℕ) (text : List ℕ) → length text ≡ 0
       → is_whole part ≡ false
       → walk part before number (pieces text) ≡ Err number
   unfolding walk
@@ -72,5 +73,6 @@ module _ {A : Type 0} where
   unfolding graph_at
   short_text text short = rw (le-ltb MOST_INPUT (length text) short) refl
 
-pub refused_same : {X : Type 0} (refused : Undrawn) (a b : Result X ℕ) → a ≡ b → Refuses refused a → Refuses refused b
-refused_same refused a b e h = subst (Refuses refused) e h
+pub refused_same : {X : Type 0} (refused : Undrawn) (a b : Result X ℕ) → a ≡ b → RefusesGraph refused a
+    → RefusesGraph refused b
+refused_same refused a b e h = subst (RefusesGraph refused) e h

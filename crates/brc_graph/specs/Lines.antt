@@ -12,8 +12,8 @@ use Rattle.brc_graph.specs.declared.drawn.Drawn.{Drawn}
 use Rattle.brc_graph.specs.declared.drawn.Drawn.TheVariants as drawn
 use Rattle.brc_graph.specs.declared.first_word.FirstWord.{FirstWord}
 use Rattle.brc_graph.specs.declared.first_word.FirstWord.TheVariants as words
-use Rattle.brc_graph.specs.declared.part.Part.{Part}
-use Rattle.brc_graph.specs.declared.part.Part.TheVariants as parts
+use Rattle.brc_graph.specs.declared.part.TextPart.{TextPart}
+use Rattle.brc_graph.specs.declared.part.TextPart.TheVariants as parts
 use Rattle.brc_graph.specs.FirstWords.{first_word_at}
 use Rattle.brc_graph.specs.Operands.{within, word_among, local_at, count_at, ahead}
 use Rattle.brc_graph.specs.Cells.{cells_at}
@@ -132,7 +132,7 @@ module _ {A : Type 0} where
   drawn_at word rest = plain_at word rest
 
   -- by the first word: it may stand here, and what stands behind it has its form
-  unfoldable pub worded_at : Part → List ℕ → Option (Part × Drawn A)
+  unfoldable pub worded_at : TextPart → List ℕ → Option (TextPart × Drawn A)
   worded_at part line = do
     rest ← (cut 32 line).1
     word ← first_word_at (cut 32 line).0
@@ -141,6 +141,6 @@ module _ {A : Type 0} where
     Some (next, shown)
 
   -- where the next line stands, and what is drawn for this one: nothing for what a section printed
-  unfoldable pub step_at : Part → List ℕ → Option (Part × Drawn A)
+  unfoldable pub step_at : TextPart → List ℕ → Option (TextPart × Drawn A)
   step_at part line =
       if may_be_printed part && is_printed line then Some (parts.Printed, drawn.Nothing) else worded_at part line

@@ -4,8 +4,8 @@ use Rattle.std.specs.Prelude.{Result, Ok, Err}
 use Rattle.brc_words.specs.declared.limits.TheConstants.{MOST_INPUT}
 use Rattle.brc_text.specs.Lines.{pieces}
 use Rattle.brc_graph.specs.declared.drawn.Drawn.{Drawn}
-use Rattle.brc_graph.specs.declared.part.Part.{Part}
-use Rattle.brc_graph.specs.declared.part.Part.TheVariants as parts
+use Rattle.brc_graph.specs.declared.part.TextPart.{TextPart}
+use Rattle.brc_graph.specs.declared.part.TextPart.TheVariants as parts
 use Rattle.brc_graph.specs.declared.undrawn.Undrawn.{Undrawn}
 use Rattle.brc_graph.specs.declared.undrawn.Undrawn.TheVariants as undrawn
 use Rattle.brc_graph.specs.Lines.{step_at}
@@ -13,17 +13,17 @@ use Rattle.brc_graph.specs.Parts.{is_whole}
 
 module _ {A : Type 0} where
   -- a line that no line feed ends can't stand anywhere
-  abbrev pub ended_step : Part → List ℕ × Bool → Option (Part × Drawn A)
+  abbrev pub ended_step : TextPart → List ℕ × Bool → Option (TextPart × Drawn A)
   ended_step part piece = if piece.1 then step_at part piece.0 else None
 
   -- the line that can't stand there is told; else the others are read where the next line stands
-  abbrev pub onward : ℕ → (Part × Drawn A → Result (List (Drawn A)) ℕ) → Option (Part × Drawn A)
+  abbrev pub onward : ℕ → (TextPart × Drawn A → Result (List (Drawn A)) ℕ) → Option (TextPart × Drawn A)
       → Result (List (Drawn A)) ℕ
   onward number others None = Err number
   onward number others (Some step) = others step
 
   -- what is drawn for the lines, of which the first has this number, behind what was drawn before
-  unfoldable pub walk : Part → List (Drawn A) → ℕ → List (List ℕ × Bool) → Result (List (Drawn A)) ℕ
+  unfoldable pub walk : TextPart → List (Drawn A) → ℕ → List (List ℕ × Bool) → Result (List (Drawn A)) ℕ
   walk part before number [] = if is_whole part then Ok before else Err number
   walk part before number (piece ∷ others) =
       onward number (λ step. walk step.0 (before ++ step.1 ∷ []) (number + 1) others) (ended_step part piece)
@@ -36,12 +36,12 @@ module _ {A : Type 0} where
 -- ---- what a reader answers
 
 -- a bad line is told, and memory may run out
-abbrev pub Refuses : {X : Type 0} → Undrawn → Result X ℕ → Type 0
-Refuses undrawn.OutOfMemory read = Unit {0}
-Refuses (undrawn.BadLine bad) read = read ≡ Err bad
-Refuses undrawn.Io read = ⊥
+abbrev pub RefusesGraph : {X : Type 0} → Undrawn → Result X ℕ → Type 0
+RefusesGraph undrawn.OutOfMemory read = Unit {0}
+RefusesGraph (undrawn.BadLine bad) read = read ≡ Err bad
+RefusesGraph undrawn.Io read = ⊥
 
 -- the answer, seen by view, is what the text has
-abbrev pub Gives : {X Y : Type 0} → (Y → X) → Result Y Undrawn → Result X ℕ → Type 0
-Gives view (Ok answer) read = read ≡ Ok (view answer)
-Gives view (Err refused) read = Refuses refused read
+abbrev pub ReadsGraph : {X Y : Type 0} → (Y → X) → Result Y Undrawn → Result X ℕ → Type 0
+ReadsGraph view (Ok answer) read = read ≡ Ok (view answer)
+ReadsGraph view (Err refused) read = RefusesGraph refused read

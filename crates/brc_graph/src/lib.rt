@@ -14,14 +14,14 @@ mod line;
 mod names;
 mod operands;
 mod part;
+mod picture_writing;
 mod reading;
 mod undrawn;
 mod whole;
-mod writing;
 
 pub use drawn::{Drawn, Graph};
 pub use laws::reports_are_read;
+pub use picture_writing::write_graph;
 pub use reading::read_graph;
 pub use undrawn::Undrawn;
 pub use whole::draw;
-pub use writing::write_graph;

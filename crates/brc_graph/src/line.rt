@@ -14,7 +14,7 @@ use crate::operands::{
     any_ahead, count_ahead, count_of, local_ahead, number_ahead, number_within, word_ahead,
     word_among,
 };
-use crate::part::{Part, after, may_be_printed};
+use crate::part::{TextPart, after, may_be_printed};
 use crate::undrawn::Undrawn;
 use brc_text::{Keyword, number_of};
 use brc_words::{FEWEST_CELLS, FIRST_MORTAL, MOST_CELLS, MOST_LOCAL, MOST_THREADS};
@@ -353,14 +353,14 @@ fn drawn_of<A: Allocator>(
 #[tactic(auto, unfolding(crate::specs::Lines::step_at, crate::specs::Lines::worded_at))]
 pub(crate) fn step<A: Allocator>(
     alloc: A,
-    part: Part,
+    part: TextPart,
     line: &[u8],
-) -> Result<Option<(Part, Drawn<A>)>, Undrawn>
+) -> Result<Option<(TextPart, Drawn<A>)>, Undrawn>
     ensures read { IfOk result (λ step. step ≡ step_at part line.now) }
     ensures refused { IfErr result (λ undrawn. undrawn ≡ OutOfMemory) }
 {
     if may_be_printed(part) && is_printed(line) {
-        return Ok(Some((Part::Printed, Drawn::Nothing)));
+        return Ok(Some((TextPart::Printed, Drawn::Nothing)));
     }
     let (first, Some(rest)) = cut(line, b' ') else {
         return Ok(None);

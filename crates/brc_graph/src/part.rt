@@ -7,7 +7,7 @@ use crate::first_word::FirstWord;
 
 /// Where in a text a line stands: by the lines above it.
 #[derive(Clone, Copy, Debug, PartialEq, Eq)]
-pub(crate) enum Part {
+pub(crate) enum TextPart {
     /// There is none.
     Start,
     /// What sections printed.
@@ -25,64 +25,64 @@ pub(crate) enum Part {
 }
 
 /// Where the next line stands, if one with this first word may stand here.
-pub(crate) fn after(part: Part, word: FirstWord) -> Option<Part>
+pub(crate) fn after(part: TextPart, word: FirstWord) -> Option<TextPart>
     ensures { result ≡ after part word }
 {
     match part {
-        Part::Start => match word {
-            FirstWord::Edition => Some(Part::Edition),
-            FirstWord::World => Some(Part::World),
-            FirstWord::Ledger => Some(Part::Remains),
+        TextPart::Start => match word {
+            FirstWord::Edition => Some(TextPart::Edition),
+            FirstWord::World => Some(TextPart::World),
+            FirstWord::Ledger => Some(TextPart::Remains),
             _ => None,
         },
-        Part::Printed => match word {
-            FirstWord::Ledger => Some(Part::Remains),
+        TextPart::Printed => match word {
+            FirstWord::Ledger => Some(TextPart::Remains),
             _ => None,
         },
-        Part::Remains => match word {
-            FirstWord::Remain => Some(Part::Remains),
-            FirstWord::Cycle => Some(Part::Cycles),
+        TextPart::Remains => match word {
+            FirstWord::Remain => Some(TextPart::Remains),
+            FirstWord::Cycle => Some(TextPart::Cycles),
             _ => None,
         },
-        Part::Cycles => match word {
-            FirstWord::Cycle => Some(Part::Cycles),
+        TextPart::Cycles => match word {
+            FirstWord::Cycle => Some(TextPart::Cycles),
             _ => None,
         },
-        Part::Edition => match word {
-            FirstWord::World => Some(Part::World),
+        TextPart::Edition => match word {
+            FirstWord::World => Some(TextPart::World),
             _ => None,
         },
-        Part::World => match word {
-            FirstWord::Ledger => Some(Part::Ended),
+        TextPart::World => match word {
+            FirstWord::Ledger => Some(TextPart::Ended),
             FirstWord::Remain => None,
             FirstWord::Cycle => None,
             FirstWord::Edition => None,
             FirstWord::World => None,
-            _ => Some(Part::World),
+            _ => Some(TextPart::World),
         },
-        Part::Ended => None,
+        TextPart::Ended => None,
     }
 }
 
 /// Whether a line that a section printed may stand here.
-pub(crate) fn may_be_printed(part: Part) -> bool
+pub(crate) fn may_be_printed(part: TextPart) -> bool
     ensures { result ≡ may_be_printed part }
 {
     match part {
-        Part::Start => true,
-        Part::Printed => true,
+        TextPart::Start => true,
+        TextPart::Printed => true,
         _ => false,
     }
 }
 
 /// Whether a text may end here.
-pub(crate) fn is_whole(part: Part) -> bool
+pub(crate) fn is_whole(part: TextPart) -> bool
     ensures { result ≡ is_whole part }
 {
     match part {
-        Part::Remains => true,
-        Part::Cycles => true,
-        Part::Ended => true,
+        TextPart::Remains => true,
+        TextPart::Cycles => true,
+        TextPart::Ended => true,
         _ => false,
     }
 }

@@ -3,13 +3,13 @@
 ghost use Rattle.std.specs.Prelude.{◌≡◌, ◌≤◌, [], length, Some, None, MatchOption};
 ghost use Rattle.brc_words.specs.declared.limits.TheConstants.{MOST_INPUT};
 ghost use Rattle.brc_text.specs.Lines.{cut, pieces};
-ghost use Rattle.brc_graph.specs.declared.part.Part.TheVariants.{Start};
-ghost use Rattle.brc_graph.specs.Reading.{walk, graph_at, Gives};
+ghost use Rattle.brc_graph.specs.declared.part.TextPart.TheVariants.{Start};
+ghost use Rattle.brc_graph.specs.Reading.{walk, graph_at, ReadsGraph};
 
 use crate::cutting::cut;
 use crate::drawn::{Drawn, Graph};
 use crate::line::step;
-use crate::part::{Part, is_whole};
+use crate::part::{TextPart, is_whole};
 use crate::undrawn::Undrawn;
 use brc_words::MOST_INPUT;
 use std::alloc::Allocator;
@@ -29,10 +29,10 @@ fn ended_line(text: &[u8]) -> Option<(&[u8], &[u8])>
 fn drawn_of_text<A: Allocator + Copy>(alloc: A, text: &[u8]) -> Result<Vec<Drawn<A>, A>, Undrawn>
     requires { length text.now ≤ MOST_INPUT }
 
-    ensures { Gives (λ drawn. drawn.items) result (walk Start [] 1 (pieces text.now)) }
+    ensures { ReadsGraph (λ drawn. drawn.items) result (walk Start [] 1 (pieces text.now)) }
 {
     let mut drawn = Vec::new(alloc);
-    let mut part = Part::Start;
+    let mut part = TextPart::Start;
     let mut number: u32 = 1;
     let mut rest = text;
     while !rest.is_empty() {
@@ -57,7 +57,7 @@ fn drawn_of_text<A: Allocator + Copy>(alloc: A, text: &[u8]) -> Result<Vec<Drawn
 /// first line that can't stand there, counted from 1 (0 for a text of more than 16,777,216 bytes, the line behind the
 /// last one for a text that ends too early), and want of memory.
 pub fn read_graph<A: Allocator + Copy>(alloc: A, text: &[u8]) -> Result<Graph<A>, Undrawn>
-    ensures { Gives (λ graph. graph.drawn.items) result (graph_at text.now) }
+    ensures { ReadsGraph (λ graph. graph.drawn.items) result (graph_at text.now) }
 {
     if text.len() > MOST_INPUT {
         return Err(Undrawn::BadLine(0));

@@ -3,9 +3,9 @@
 ghost use Rattle.std.specs.Prelude.{◌≡◌};
 ghost use Rattle.brc_graph.specs.Draws.{Draws, undrawn_of};
 
+use crate::picture_writing::write_graph;
 use crate::reading::read_graph;
 use crate::undrawn::Undrawn;
-use crate::writing::write_graph;
 use brc_input::read_input;
 use brc_words::Fault;
 use std::alloc::Global;

@@ -2,7 +2,7 @@
 use Rattle.std.specs.Prelude.{◌≡◌, ◌≢◌, ◌+◌, ℕ, List, [], ◌∷◌, ◌++◌, Option, Some, None, IfSome, ◌⊎◌}
 use Rattle.std.proofs.Common.{get_or}
 use Rattle.brc_count.specs.law.world.declared.event.Source.TheVariants as sources
-use Rattle.brc_count.specs.Frames.{FrameSeen, HandleSeen, Owns, Given, place_seen}
+use Rattle.brc_count.specs.Frames.{FrameSeen, HandleSeen, Owns, GivenHandle, place_seen}
 
 -- the handle in a place of the list, if one is there
 abbrev pub slot : List (Option HandleSeen) → ℕ → Option HandleSeen
@@ -72,4 +72,4 @@ module _ {A : Type 0} where
     pub pushed : after ≡ before ++ Some given ∷ []
     pub counted : (h : HandleSeen) (c : ℕ) → slot before i ≡ Some h
         → place_seen old.heap.cells old.seat.log h.place ≡ Some c
-        → Given old new (sources.Frame h.place) c given
+        → GivenHandle old new (sources.Frame h.place) c given

@@ -6,7 +6,7 @@ ghost use Rattle.std.specs.Option.{option_copied};
 ghost use Rattle.brc_words.specs.declared.fault.Fault.TheVariants.{OutOfMemory};
 ghost use Rattle.brc_handles.specs.Handles.{slot, IsApart, IsBare, ComesIn, ComesOut, Exchanges};
 
-use brc_count::{Handed, Handle};
+use brc_count::{HandedBack, Handle};
 use brc_words::Fault;
 use std::alloc::{AllocError, Allocator, Global};
 use std::marker::Model;
@@ -73,18 +73,18 @@ impl<A: Allocator> Handles<A> {
     /// A handle more, in a new place after all others. OutOfMemory where the place can't be had: the handle is handed
     /// back.
     #[inline(always)]
-    pub fn push(&mut self, handle: Handle<A>) -> Result<(), Handed<Handle<A>>>
+    pub fn push(&mut self, handle: Handle<A>) -> Result<(), HandedBack<Handle<A>>>
         requires apart { IsApart handle self.old }
         ensures pushed { OnOk result (self.new ≡ self.old ++ Some handle ∷ []) }
         ensures comes { OnOk result (ComesIn self.old self.new handle) }
         ensures refused { IfErr result (λ handed. handed.fault ≡ OutOfMemory) }
-        ensures back { IfErr result (λ handed. handed.back ≡ handle) }
+        ensures back { IfErr result (λ handed. handed.value ≡ handle) }
         ensures unchanged { OnErr result (self.new ≡ self.old) }
     {
         if self.slots.reserve(1).is_err() {
-            return Err(Handed {
+            return Err(HandedBack {
                 fault: Fault::OutOfMemory,
-                back: handle,
+                value: handle,
             });
         }
         self.slots.push_reserved(Some(handle));

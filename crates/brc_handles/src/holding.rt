@@ -10,7 +10,7 @@ ghost use Rattle.brc_handles.specs.Handles.{slot, filled, IsApart, OwnsEach, Com
 ghost use Rattle.brc_handles.specs.Standing.{Stands, Besides};
 
 use crate::handles::Handles;
-use brc_count::biased::Home;
+use brc_count::biased::HasTable;
 use brc_count::{Frame, Handle};
 use brc_words::Fault;
 use std::alloc::Allocator;
@@ -18,7 +18,7 @@ use std::alloc::Allocator;
 impl<A: Allocator> Handles<A> {
     /// A handle more, in a new place after all others. OutOfMemory where the place can't be had: the handle is
     /// released.
-    pub fn keep<H: Home<A>>(
+    pub fn keep<H: HasTable<A>>(
         &mut self,
         frame: &mut Frame<H, A>,
         handle: Handle<A>,
@@ -45,7 +45,7 @@ impl<A: Allocator> Handles<A> {
         match self.push(handle) {
             Ok(()) => Ok(()),
             Err(handed) => {
-                frame.release(handed.back);
+                frame.release(handed.value);
                 Err(handed.fault)
             }
         }
@@ -54,7 +54,11 @@ impl<A: Allocator> Handles<A> {
     /// One more reference to the object of the handle in this place, in a new place after all others. FrameFull and
     /// OutOfMemory as `Frame::retain` answers them; OutOfMemory too where the place here can't be had: then the
     /// reference goes again.
-    pub fn retain<H: Home<A>>(&mut self, frame: &mut Frame<H, A>, index: usize) -> Result<(), Fault>
+    pub fn retain<H: HasTable<A>>(
+        &mut self,
+        frame: &mut Frame<H, A>,
+        index: usize,
+    ) -> Result<(), Fault>
         requires each { OwnsEach frame.old self.old }
         requires there { IsSome (slot self.old index) }
         requires unlocked { IsUnlocked frame.old }
@@ -83,7 +87,7 @@ impl<A: Allocator> Handles<A> {
 
     /// The reference of this place goes, if one is there; the place is empty then. It takes no memory, as
     /// `Frame::release`.
-    pub fn release<H: Home<A>>(&mut self, frame: &mut Frame<H, A>, index: usize)
+    pub fn release<H: HasTable<A>>(&mut self, frame: &mut Frame<H, A>, index: usize)
         requires each { OwnsEach frame.old self.old }
         requires inside { index < length self.old }
         requires unlocked { IsUnlocked frame.old }
@@ -104,7 +108,7 @@ impl<A: Allocator> Handles<A> {
     }
 
     /// All of them are released, by rising number: the thread only lets go. It takes no memory, and waits for nobody.
-    pub fn release_all<H: Home<A>>(self, frame: &mut Frame<H, A>)
+    pub fn release_all<H: HasTable<A>>(self, frame: &mut Frame<H, A>)
         requires each { OwnsEach frame.old self }
         requires unlocked { IsUnlocked frame.old }
 

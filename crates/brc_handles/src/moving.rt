@@ -10,15 +10,19 @@ ghost use Rattle.brc_handles.specs.Handles.{slot, filled, IsApart, OwnsEach, Swa
 ghost use Rattle.brc_handles.specs.Standing.{Stands, Besides};
 
 use crate::handles::Handles;
-use brc_count::biased::Home;
-use brc_count::{Frame, Handed, Handle};
+use brc_count::biased::HasTable;
+use brc_count::{Frame, HandedBack, Handle};
 use brc_words::Fault;
 use std::alloc::Allocator;
 
 impl<A: Allocator> Handles<A> {
     /// The handle out of this place, which is empty then; None where it was empty before, or there is no such place.
     #[inline(always)]
-    pub fn take_out<H: Home<A>>(&mut self, frame: &Frame<H, A>, index: usize) -> Option<Handle<A>>
+    pub fn take_out<H: HasTable<A>>(
+        &mut self,
+        frame: &Frame<H, A>,
+        index: usize,
+    ) -> Option<Handle<A>>
         requires each { OwnsEach frame.now self.old }
 
         ensures stands { (others : ℕ) → Stands others frame.now self.old
@@ -42,12 +46,12 @@ impl<A: Allocator> Handles<A> {
     /// The handle into this place. The answer is what was there: a handle, or nothing. NoSuchPlace where there is no
     /// such place: the handle is handed back.
     #[inline(always)]
-    pub fn put_in<H: Home<A>>(
+    pub fn put_in<H: HasTable<A>>(
         &mut self,
         frame: &Frame<H, A>,
         index: usize,
         handle: Handle<A>,
-    ) -> Result<Option<Handle<A>>, Handed<Handle<A>>>
+    ) -> Result<Option<Handle<A>>, HandedBack<Handle<A>>>
         requires each { OwnsEach frame.now self.old }
         requires owned { Owns frame.now handle }
         requires apart { IsApart handle self.old }
@@ -66,13 +70,13 @@ impl<A: Allocator> Handles<A> {
         ensures set { OnOk result (self.new ≡ slice_set self.old index (Some handle)) }
         ensures refused { IfErr result (λ handed. handed.fault ≡ NoSuchPlace) }
         ensures past { OnErr result (length self.old ≤ index) }
-        ensures back { IfErr result (λ handed. handed.back ≡ handle) }
+        ensures back { IfErr result (λ handed. handed.value ≡ handle) }
         ensures unchanged { OnErr result (self.new ≡ self.old) }
     {
         if index >= self.len() {
-            return Err(Handed {
+            return Err(HandedBack {
                 fault: Fault::NoSuchPlace,
-                back: handle,
+                value: handle,
             });
         }
         Ok(self.put(index, handle))
@@ -80,7 +84,7 @@ impl<A: Allocator> Handles<A> {
 
     /// The last place goes. The answer is what was in it: a handle, or nothing. None where there is no place.
     #[inline(always)]
-    pub fn pop_out<H: Home<A>>(&mut self, frame: &Frame<H, A>) -> Option<Option<Handle<A>>>
+    pub fn pop_out<H: HasTable<A>>(&mut self, frame: &Frame<H, A>) -> Option<Option<Handle<A>>>
         requires each { OwnsEach frame.now self.old }
 
         ensures stands { (others : ℕ) → Stands others frame.now self.old → IfSome result (λ last.
@@ -102,7 +106,7 @@ impl<A: Allocator> Handles<A> {
 
     /// Each of two places has then what the other had. NoSuchPlace where one of them isn't there: nothing is changed.
     #[inline(always)]
-    pub fn swap<H: Home<A>>(
+    pub fn swap<H: HasTable<A>>(
         &mut self,
         frame: &Frame<H, A>,
         one: usize,

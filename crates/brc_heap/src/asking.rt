@@ -6,13 +6,13 @@ ghost use Rattle.brc_count.specs.Frames.{Owns};
 ghost use Rattle.brc_count.specs.Locking.{cell_in};
 ghost use Rattle.brc_things.specs.Makers.{truth_cell};
 
-use brc_count::biased::Home;
+use brc_count::biased::HasTable;
 use brc_count::{Frame, Handle};
 use brc_words::Fault;
 use std::alloc::Allocator;
 
 /// Whether the two handles are references to one object.
-pub fn is_same<H: Home<A>, A: Allocator>(
+pub fn same_object<H: HasTable<A>, A: Allocator>(
     frame: &Frame<H, A>,
     one: &Handle<A>,
     other: &Handle<A>,
@@ -26,7 +26,7 @@ pub fn is_same<H: Home<A>, A: Allocator>(
 }
 
 /// Whether the object is True or False; WrongKind for any other. There is one of each, an immortal, so nothing is read.
-pub fn truth_of<H: Home<A>, A: Allocator>(
+pub fn truth_of<H: HasTable<A>, A: Allocator>(
     frame: &Frame<H, A>,
     handle: &Handle<A>,
 ) -> Result<bool, Fault>

@@ -4,9 +4,10 @@
 //! Each thread has a `Mutator`, and works over its frame: objects are made (`new_int`, `new_list`, ..), retained and
 //! released, and lists, dictionaries and mailboxes read and changed under their locks. A `Handle` is a reference; it
 //! must be given back, by `Frame::release` or by a call that takes it. `Handles` keeps many. A thread ends by
-//! `Mutator::retire`, `end` or `depart`; what it owns is handed over, and once the root gathers it its number is given
-//! again. `Shared` is a heap by a count, with its root at a desk, for threads that can't name a lifetime. A heap ends by `close_or_end`, with a report of what is left or why there is none; by `close`, which hands heap
-//! and root back if a thread isn't gathered; or by `take_apart` and `give_back`.
+//! `Mutator::settle_and_leave`, `settle_and_join` or `leave_without_waiting`; what it owns is handed over, and once the
+//! root gathers it its number is given again. `Shared` is a heap by a count, with its root at a desk, for threads that
+//! can't name a lifetime. A heap ends by `close_or_end`, with a report of what is left or why there is none; by
+//! `close`, which hands heap and root back if a thread isn't gathered; or by `take_apart` and `give_back`.
 //!
 //! What contracts of a client cite stands in `specs/Words.antt`: which handles a frame owns before and after a call.
 #![tactic(auto)]
@@ -14,7 +15,7 @@
 mod asking;
 mod fixed;
 
-pub use asking::{is_same, truth_of};
+pub use asking::{same_object, truth_of};
 
 // the heap and its threads
 pub use brc_close::{CloseFault, NoReport, close, close_or_end};
@@ -29,7 +30,7 @@ pub use brc_shared::{NotClosed, RootCounts, Shared, Stays};
 pub use fixed::SharedMutator;
 
 // references
-pub use brc_count::{Handed, Handle};
+pub use brc_count::{HandedBack, Handle};
 pub use brc_handles::Handles;
 pub use fixed::Frame;
 
@@ -54,3 +55,7 @@ pub use brc_lists::{
 
 // plain values
 pub use brc_words::{Fault, GLOBALS, Key, Kind, Text};
+
+// names of before, for one version
+pub use asking::same_object as is_same;
+pub use brc_count::HandedBack as Handed;

@@ -2,6 +2,6 @@
 //! many.
 #![tactic(auto)]
 
-mod reading;
+mod whole_input;
 
-pub use reading::read_input;
+pub use whole_input::read_input;

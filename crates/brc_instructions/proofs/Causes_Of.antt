@@ -6,8 +6,8 @@ use Rattle.brc_words.specs.declared.fault.Fault.TheVariants as faults
 use Rattle.brc_words.specs.declared.key.Key.{Key}
 use Rattle.brc_words.specs.declared.limits.TheConstants.{MOST_PLACES, MOST_BIRTHS}
 use Rattle.brc_count.specs.law.rule.declared.contents.Contents.{Contents}
-use Rattle.brc_count.specs.law.rule.declared.told.Told.{Told}
-use Rattle.brc_count.specs.declared.handed.Handed.{Handed}
+use Rattle.brc_count.specs.law.rule.declared.told.LogItem.{LogItem}
+use Rattle.brc_count.specs.declared.handed.HandedBack.{HandedBack}
 use Rattle.brc_count.specs.Frames.{FrameSeen, HandleSeen, Owns, Refused, IsAsBefore, ledger_seen}
 use Rattle.brc_count.specs.Locking.{cell_in}
 use Rattle.brc_count.specs.Making.{RefusedMaking}
@@ -29,7 +29,7 @@ use Rattle.brc_instructions.proofs.Follows_Of.{cell_still}
 
 -- ---- a search among more items
 
-none_from : (n : ℕ) (old mid new : List Told) → IsLater old mid → NoneWasFree n mid new → NoneWasFree n old new
+none_from : (n : ℕ) (old mid new : List LogItem) → IsLater old mid → NoneWasFree n mid new → NoneWasFree n old new
 none_from n old mid new later none = record {
   before = none.before;
   after = none.after;
@@ -38,7 +38,7 @@ none_from n old mid new later none = record {
   ended = none.ended;
 }
 
-none_on : (n : ℕ) (old mid new : List Told) → NoneWasFree n old mid → IsLater mid new → NoneWasFree n old new
+none_on : (n : ℕ) (old mid new : List LogItem) → NoneWasFree n old mid → IsLater mid new → NoneWasFree n old new
 none_on n old mid new none later = record {
   before = none.before;
   after = none.after;
@@ -181,7 +181,7 @@ module _ {A : Type 0} where
   pair_room mid new k call fault needs why = plainly call fault needs why
 
   pub puts_room : (old new : FrameSeen A) (k : ℕ) (value : HandleSeen) (call : ℕ → PlainCall (Unit {0}))
-      (result : Result (Unit {0}) (Handed HandleSeen)) → ((c : ℕ) → NeedsNoRoom (call c)) → Owns old value
+      (result : Result (Unit {0}) (HandedBack HandleSeen)) → ((c : ℕ) → NeedsNoRoom (call c)) → Owns old value
       → Late old k (λ mid. PutsValue mid new k value.place call result)
       → IfErr result (λ handed. WantsNoRoom handed.fault)
   puts_room old new k value call (Ok done) needs owns late = tt
@@ -191,7 +191,7 @@ module _ {A : Type 0} where
       entry_room late.0 new k (call at.0) handed.fault (needs at.0) (late.2.refused at.0 at.1)
 
   pub swaps_room : (old new : FrameSeen A) (k : ℕ) (value : HandleSeen) (call : ℕ → PlainCall ℕ)
-      (result : Result HandleSeen (Handed HandleSeen)) → ((c : ℕ) → NeedsNoRoom (call c)) → Owns old value
+      (result : Result HandleSeen (HandedBack HandleSeen)) → ((c : ℕ) → NeedsNoRoom (call c)) → Owns old value
       → Late old k (λ mid. SwapsValue mid new k value.place call result)
       → IfErr result (λ handed. WantsNoRoom handed.fault)
   swaps_room old new k value call (Ok given) needs owns late = tt
@@ -201,7 +201,7 @@ module _ {A : Type 0} where
       call_room late.0 new k (call at.0) handed.fault (needs at.0) (late.2.refused at.0 at.1)
 
   pub pair_put_room : {V : Type 0} (old new : FrameSeen A) (k : ℕ) (key : Key A) (value : HandleSeen)
-      (handed : Handed V) → ((c : ℕ) → NeedsNoRoom (plain_put key c)) → Owns old value
+      (handed : HandedBack V) → ((c : ℕ) → NeedsNoRoom (plain_put key c)) → Owns old value
       → Late old k (λ mid. DictPut mid new k key value (Err handed))
       → WantsNoRoom handed.fault
   pair_put_room old new k key value handed needs owns late =

@@ -5,10 +5,10 @@ use Rattle.std.specs.Prelude.{IfSome}
 use Rattle.brc_words.specs.declared.fault.Fault.{Fault}
 use Rattle.brc_words.specs.declared.fault.Fault.TheVariants as faults
 use Rattle.brc_words.specs.declared.key.Key.{Key}
-use Rattle.brc_script.specs.declared.instruction.Instruction.TheVariants as does
+use Rattle.brc_script.specs.declared.instruction.Instruction.TheVariants as instructions
 use Rattle.brc_count.specs.law.rule.declared.contents.Contents.{Contents}
 use Rattle.brc_count.specs.law.rule.declared.contents.Contents.TheVariants as contents
-use Rattle.brc_count.specs.declared.handed.Handed.{Handed}
+use Rattle.brc_count.specs.declared.handed.HandedBack.{HandedBack}
 use Rattle.brc_count.specs.Frames.{FrameSeen, HandleSeen, Owns, IsAsBefore, ReleasedOf, place_seen}
 use Rattle.brc_count.specs.Locking.{Busy, cell_in}
 use Rattle.brc_count.specs.Making.{Made, RefusedMaking}
@@ -32,7 +32,7 @@ use Rattle.brc_count.specs.law.living.Quiet.{Quietly}
 use Rattle.brc_count.proofs.law.living.Earlier.{own_earlier, later_same, later_one, later_both, later_is, quietly_later}
 use Rattle.law_isolation.specs.Means.{Means, MeansBesides}
 use Rattle.law_isolation.specs.Goes.{is_want}
-use Rattle.law_isolation.specs.Calls.{with_objects, Comes, GivesOne}
+use Rattle.law_isolation.specs.Calls.{with_objects, ComesAsMeant, GivesOne}
 use Rattle.law_isolation.specs.Asked.{asking, AsksNone, AsksOne}
 use Rattle.law_isolation.proofs.Later_Calls.{later_waits, later_changes, later_given, later_made, later_shares}
 use Rattle.law_isolation.proofs.Asked_Of.{asks, called_of, emptied, asks_emptied, set_twice, put_back}
@@ -118,14 +118,14 @@ module _ {A : Type 0} where
   later_shared old new k call (Err fault) is = later_refused_place old new k call fault is.refused
 
   later_puts : (old new : FrameSeen A) (k v c : ℕ) (call : ℕ → PlainCall (Unit {0}))
-      (result : Result (Unit {0}) (Handed HandleSeen)) → cell_in old v ≡ Some c
+      (result : Result (Unit {0}) (HandedBack HandleSeen)) → cell_in old v ≡ Some c
       → PutsValue old new k v call result → IsLater old.seat.log new.seat.log
   later_puts old new k v c call (Ok done) at is = later_changes is.did.changes
   later_puts old new k v c call (Err handed) at is = later_refused_entry old new k (call c) handed.fault
       (is.refused c at)
 
   later_swaps : (old new : FrameSeen A) (k v c : ℕ) (call : ℕ → PlainCall ℕ)
-      (result : Result HandleSeen (Handed HandleSeen)) → cell_in old v ≡ Some c
+      (result : Result HandleSeen (HandedBack HandleSeen)) → cell_in old v ≡ Some c
       → SwapsValue old new k v call result → IsLater old.seat.log new.seat.log
   later_swaps old new k v c call (Ok given) at is = later_changes is.did.changes
   later_swaps old new k v c call (Err handed) at is = later_refused_call old new k (call c) handed.fault
@@ -151,7 +151,7 @@ module _ {A : Type 0} where
       (later_shared late.0 new k call result late.2)
 
   pub late_puts : (old new : FrameSeen A) (k : ℕ) (value : HandleSeen) (call : ℕ → PlainCall (Unit {0}))
-      (result : Result (Unit {0}) (Handed HandleSeen)) → Owns old value
+      (result : Result (Unit {0}) (HandedBack HandleSeen)) → Owns old value
       → Late old k (λ mid. PutsValue mid new k value.place call result) → IsLater old.seat.log new.seat.log
   late_puts old new k value call result owns late =
       let at : (c : ℕ) × (cell_in late.0 value.place ≡ Some c) = cell_still old k value
@@ -160,7 +160,7 @@ module _ {A : Type 0} where
       (later_puts late.0 new k value.place at.0 call result at.1 late.2)
 
   pub late_swaps : (old new : FrameSeen A) (k : ℕ) (value : HandleSeen) (call : ℕ → PlainCall ℕ)
-      (result : Result HandleSeen (Handed HandleSeen)) → Owns old value
+      (result : Result HandleSeen (HandedBack HandleSeen)) → Owns old value
       → Late old k (λ mid. SwapsValue mid new k value.place call result) → IsLater old.seat.log new.seat.log
   late_swaps old new k value call result owns late =
       let at : (c : ℕ) × (cell_in late.0 value.place ≡ Some c) = cell_still old k value
@@ -175,7 +175,7 @@ module _ {A : Type 0} where
   later_refused_pair old new k call fault why = later_changes why.looks
 
   later_pair_put : {V : Type 0} (old new : FrameSeen A) (k : ℕ) (key : Key A) (value : HandleSeen) (c : ℕ)
-      (result : Result (Option HandleSeen) (Handed V)) → cell_in old value.place ≡ Some c
+      (result : Result (Option HandleSeen) (HandedBack V)) → cell_in old value.place ≡ Some c
       → DictPut old new k key value result → IsLater old.seat.log new.seat.log
   later_pair_put old new k key value c (Ok None) at is = later_changes is.did.changes
   later_pair_put old new k key value c (Ok (Some given)) at is = later_changes is.did.1.changes
@@ -183,7 +183,7 @@ module _ {A : Type 0} where
       later_refused_pair old new k (plain_put key c) handed.fault (is.refused c at)
 
   pub late_pair_put : {V : Type 0} (old new : FrameSeen A) (k : ℕ) (key : Key A) (value : HandleSeen)
-      (result : Result (Option HandleSeen) (Handed V)) → Owns old value
+      (result : Result (Option HandleSeen) (HandedBack V)) → Owns old value
       → Late old k (λ mid. DictPut mid new k key value result) → IsLater old.seat.log new.seat.log
   late_pair_put old new k key value result owns late =
       let at : (c : ℕ) × (cell_in late.0 value.place ≡ Some c) = cell_still old k value
@@ -246,7 +246,7 @@ module _ {A : Type 0} where
       → (reference : Reference) × (slice_index_or s.registers from None ≡ Some reference) × MeansBesides base mid before
       s given reference
       → OwnLog new.heap.cells new.seat.log → HoldsInto mid new before now to given
-      → Led base new now (after (does.Copy to from) s)
+      → Led base new now (after (instructions.Copy to from) s)
   copies base mid new before now s to from given more own holds = (
     with_register to (Some more.0) s,
     ap (λ (r : Result Reference Fault). r >>= λ reference. Ok (with_register to (Some reference) s))
@@ -258,7 +258,7 @@ module _ {A : Type 0} where
       (gone : HandleSeen) (c : ℕ)
       → Means base old before s → slot before from ≡ Some gone → now ≡ slice_set before from None → IsApart gone now
       → ReleasedOf old new gone.place c → new.heap ≡ old.heap → OwnLog new.heap.cells new.seat.log
-      → Led base new now (after (does.Drop from) s)
+      → Led base new now (after (instructions.Drop from) s)
   drops base old new before now s from gone c means had is apart released same own =
       let emptied_now : (reference : Reference) × (slice_index_or s.registers from None ≡ Some reference)
       × Means base new now (with_register from None s) =
@@ -280,13 +280,13 @@ module _ {A : Type 0} where
     own_mid = own_before mid new same_new quiet own
 
     pub makes_int : (number : ℤ) → Answered old mid (small_cell number) (contents.Int number) given
-        → Led base new now (after (does.Int to number) s)
+        → Led base new now (after (instructions.Int to number) s)
     makes_int number answered =
         let made = means_integer base old mid before s given means same own_mid number answered in
         (_, refl, subst (Means base new now) (integer_held number to s) (holds base _ _ own made))
 
     pub makes_text : (bytes : List ℕ) → Made old mid (contents.Text bytes) given
-        → Led base new now (after (does.Text to bytes) s)
+        → Led base new now (after (instructions.Text to bytes) s)
     makes_text bytes made = (
       _,
       refl,
@@ -326,7 +326,7 @@ module _ {A : Type 0} where
     )
 
     pub called_refused : (frame : FrameSeen A) (registers : List (Option HandleSeen)) (s : State A) (fault : Fault)
-        → Comes call container s (Err fault) × Means base frame registers s
+        → ComesAsMeant call container s (Err fault) × Means base frame registers s
         → Left base frame registers s (called call container to s) fault
     called_refused frame registers s fault refused = (
       called_of call container to s (Err fault) (asks refused.0),

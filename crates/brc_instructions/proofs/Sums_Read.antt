@@ -4,7 +4,7 @@ use Rattle.std.proofs.Common.{Bor, Result, Ok, Err, slice_index_or, refl, sym, a
 use Rattle.brc_words.specs.declared.fault.Fault.{Fault}
 use Rattle.brc_words.specs.declared.fault.Fault.TheVariants as faults
 use Rattle.brc_plain.specs.Outcomes.{or_fault}
-use Rattle.brc_script.specs.declared.instruction.Instruction.TheVariants as does
+use Rattle.brc_script.specs.declared.instruction.Instruction.TheVariants as instructions
 use Rattle.brc_meaning.specs.declared.reference.Reference.{Reference}
 use Rattle.brc_meaning.specs.declared.object.Object.{Object}
 use Rattle.brc_meaning.specs.declared.state.State.{State}
@@ -128,7 +128,7 @@ module _ {A : Type 0} (s : State A) where
       by (Ok number) (Ok more) = refl
 
   pub adds : (to first second : ℕ) (outcome : Result ℤ Fault) → summed first second s ≡ outcome
-      → after (does.Add to first second) s ≡ (outcome >>= λ sum. Ok (with_integer sum to s))
+      → after (instructions.Add to first second) s ≡ (outcome >>= λ sum. Ok (with_integer sum to s))
   adds to first second outcome is =
       joined (slice_index_or s.registers first None) (slice_index_or s.registers second None) to
       ∙ ap (λ (r : Result ℤ Fault). r >>= λ sum. Ok (with_integer sum to s)) is
@@ -142,7 +142,7 @@ module _ {A : Type 0} (s : State A) where
   counted (Some a) to = refl
 
   pub counts : (to container : ℕ) (outcome : Result ℕ Fault) → read entries_in container s ≡ outcome
-      → after (does.Len to container) s ≡ (outcome >>= λ entries. Ok (with_integer (pos entries) to s))
+      → after (instructions.Len to container) s ≡ (outcome >>= λ entries. Ok (with_integer (pos entries) to s))
   counts to container outcome is =
       counted (slice_index_or s.registers container None) to
       ∙ ap (λ (r : Result ℕ Fault). r >>= λ entries. Ok (with_integer (pos entries) to s)) is

@@ -2,7 +2,7 @@
 use Rattle.std.specs.Prelude.{ℕ, [], Option, Result}
 use Rattle.brc_words.specs.declared.fault.Fault.{Fault}
 use Rattle.brc_script.specs.declared.instruction.Instruction.{Instruction}
-use Rattle.brc_script.specs.declared.instruction.Instruction.TheVariants as does
+use Rattle.brc_script.specs.declared.instruction.Instruction.TheVariants as instructions
 use Rattle.brc_count.specs.law.rule.declared.contents.Contents.{Contents}
 use Rattle.brc_count.specs.law.rule.declared.contents.Contents.TheVariants as contents
 use Rattle.brc_meaning.specs.declared.call.Call.TheVariants as calls
@@ -12,10 +12,10 @@ use Rattle.brc_meaning.specs.declared.reference.Reference.{Reference}
 use Rattle.brc_meaning.specs.Objects.{object_call, keyed_call}
 use Rattle.brc_instructions.specs.declared.making.Empty.{Empty}
 use Rattle.brc_instructions.specs.declared.making.Empty.TheVariants as empties
-use Rattle.brc_instructions.specs.declared.giving.Giving.{Giving}
-use Rattle.brc_instructions.specs.declared.giving.Giving.TheVariants as givings
-use Rattle.brc_instructions.specs.declared.taking.Taking.{Taking}
-use Rattle.brc_instructions.specs.declared.taking.Taking.TheVariants as takings
+use Rattle.brc_instructions.specs.declared.taking_out.TakingOut.{TakingOut}
+use Rattle.brc_instructions.specs.declared.taking_out.TakingOut.TheVariants as givings
+use Rattle.brc_instructions.specs.declared.putting_in.Putting.{Putting}
+use Rattle.brc_instructions.specs.declared.putting_in.Putting.TheVariants as takings
 
 -- what an empty container holds
 abbrev pub contents_of : Empty → Contents
@@ -25,34 +25,34 @@ contents_of empties.Mailbox = contents.Mailbox []
 
 module _ {A : Type 0} where
   abbrev pub makes : Empty → ℕ → Instruction A
-  makes empties.List to = does.List to
-  makes empties.Dict to = does.Dict to
-  makes empties.Mailbox to = does.Mailbox to
+  makes empties.List to = instructions.List to
+  makes empties.Dict to = instructions.Dict to
+  makes empties.Mailbox to = instructions.Mailbox to
 
   -- what the object that gives comes to
-  abbrev pub given_by : Giving A → Object A → Result (Option Reference × Object A) Fault
+  abbrev pub given_by : TakingOut A → Object A → Result (Option Reference × Object A) Fault
   given_by givings.Pop = object_call calls.Pop
   given_by (givings.Get index) = object_call (calls.Get index)
   given_by givings.Receive = object_call calls.Receive
   given_by (givings.Find key) = keyed_call key.now keyed.Find
   given_by (givings.Delete key) = keyed_call key.now keyed.Delete
 
-  abbrev pub gives : Giving A → ℕ → ℕ → Instruction A
-  gives givings.Pop to container = does.Pop to container
-  gives (givings.Get index) to container = does.Get to container index
-  gives givings.Receive to container = does.Receive to container
-  gives (givings.Find key) to container = does.Find to container key.now
-  gives (givings.Delete key) to container = does.Delete to container key.now
+  abbrev pub gives : TakingOut A → ℕ → ℕ → Instruction A
+  gives givings.Pop to container = instructions.Pop to container
+  gives (givings.Get index) to container = instructions.Get to container index
+  gives givings.Receive to container = instructions.Receive to container
+  gives (givings.Find key) to container = instructions.Find to container key.now
+  gives (givings.Delete key) to container = instructions.Delete to container key.now
 
   -- what the object that takes comes to
-  abbrev pub taken_by : Taking A → Reference → Object A → Result (Option Reference × Object A) Fault
+  abbrev pub taken_by : Putting A → Reference → Object A → Result (Option Reference × Object A) Fault
   taken_by takings.Push reference = object_call (calls.Push reference)
   taken_by (takings.Set index) reference = object_call (calls.Set index reference)
   taken_by takings.Send reference = object_call (calls.Send reference)
   taken_by (takings.Put key) reference = keyed_call key.now (keyed.Put reference)
 
-  abbrev pub takes : Taking A → ℕ → ℕ → Instruction A
-  takes takings.Push container value = does.Push container value
-  takes (takings.Set index) container value = does.Set container index value
-  takes takings.Send container value = does.Send container value
-  takes (takings.Put key) container value = does.Put container key.now value
+  abbrev pub takes : Putting A → ℕ → ℕ → Instruction A
+  takes takings.Push container value = instructions.Push container value
+  takes (takings.Set index) container value = instructions.Set container index value
+  takes takings.Send container value = instructions.Send container value
+  takes (takings.Put key) container value = instructions.Put container key.now value

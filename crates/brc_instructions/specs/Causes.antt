@@ -3,16 +3,16 @@ use Rattle.std.specs.Prelude.{◌≡◌, ◌≤◌, ℕ, Bool, true, false, List
 use Rattle.brc_words.specs.declared.fault.Fault.{Fault}
 use Rattle.brc_words.specs.declared.fault.Fault.TheVariants as faults
 use Rattle.brc_words.specs.declared.limits.TheConstants.{MOST_PLACES, MOST_BIRTHS}
-use Rattle.brc_count.specs.law.rule.declared.told.Told.{Told}
+use Rattle.brc_count.specs.law.rule.declared.told.LogItem.{LogItem}
 use Rattle.brc_count.specs.biased.Seeking.{PassesOver}
 use Rattle.brc_count.specs.Frames.{FrameSeen, ledger_seen}
 use Rattle.brc_count.specs.law.living.Later.{IsLater}
 
 -- Between these two logs, in a heap of n cells, there was a search for a free cell, in which the thread only looked at
 -- free words: of each mortal cell it has a note that it wasn't free.
-pub record NoneWasFree (n : ℕ) (old new : List Told) : Type 0 where
-  pub before : List Told
-  pub after : List Told
+pub record NoneWasFree (n : ℕ) (old new : List LogItem) : Type 0 where
+  pub before : List LogItem
+  pub after : List LogItem
   pub began : IsLater old before
   pub searched : PassesOver before n after
   pub ended : IsLater after new

@@ -3,7 +3,7 @@ use Rattle.std.specs.Prelude.{◌≡◌, ℕ, true, false, List, [], ◌∷◌, 
 use Rattle.std.specs.Prelude.{MatchResult}
 use Rattle.std.specs.Fmt.{signed_decimal}
 use Rattle.brc_words.specs.declared.fault.Fault.{Fault}
-use Rattle.brc_script.specs.declared.instruction.Instruction.TheVariants as does
+use Rattle.brc_script.specs.declared.instruction.Instruction.TheVariants as instructions
 use Rattle.brc_count.specs.Frames.{FrameSeen, HandleSeen}
 use Rattle.brc_meaning.specs.declared.state.State.{State}
 use Rattle.brc_meaning.specs.Objects.{text_in}
@@ -39,8 +39,9 @@ module _ {A : Type 0} where
   -- `print` shows what it is meant to print; or it is refused as it is meant to be, unless something was wanting
   abbrev pub PrintsAs : ℕ → FrameSeen A → List (Option HandleSeen) → ℕ → State A → Result (Shown A) Fault → Type 0
   PrintsAs base frame registers from s result = MatchResult result
-      (λ shown. (after (does.Print from) s ≡ Ok (with_line (text_shown shown) s)) × Means base frame registers s)
-      (λ fault. is_want fault ≡ false → (after (does.Print from) s ≡ Err fault) × Means base frame registers s)
+      (λ shown. (after (instructions.Print from) s ≡ Ok (with_line (text_shown shown) s))
+      × Means base frame registers s)
+      (λ fault. is_want fault ≡ false → (after (instructions.Print from) s ≡ Err fault) × Means base frame registers s)
 
   -- from any state that frame and registers meant
   abbrev pub PrintsFrom : ℕ → Reading (Shown A) A

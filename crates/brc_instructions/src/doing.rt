@@ -4,11 +4,11 @@ ghost use Rattle.std.specs.Prelude.{◌≡◌, ◌≢◌, IfErr};
 ghost use Rattle.brc_words.specs.declared.fault.Fault.TheVariants as faults;
 ghost use Rattle.brc_count.specs.law.living.Later.{IsLater};
 ghost use Rattle.brc_instructions.specs.Doing.{Refusing, Telling};
-ghost use Rattle.brc_instructions.specs.Registers.{Stands};
+ghost use Rattle.brc_instructions.specs.Registers.{OwnsRegisters};
 
 use crate::registers::Registers;
 use brc_count::Frame;
-use brc_count::biased::Home;
+use brc_count::biased::HasTable;
 use brc_words::Fault;
 use std::alloc::Allocator;
 use std::sync::Wait;
@@ -17,7 +17,7 @@ use std::sync::Wait;
 pub type Done = Result<(), Fault>;
 
 /// An instruction that prints nothing, with its registers and what else its line has.
-pub trait Does<R: Wait, H: Home<A>, A: Allocator + Copy> {
+pub trait Execute<R: Wait, H: HasTable<A>, A: Allocator + Copy> {
     // where it leads, by its plain meaning
     ghost follows: { Self → Telling A };
 
@@ -27,8 +27,8 @@ pub trait Does<R: Wait, H: Home<A>, A: Allocator + Copy> {
     /// Does it. Before and afterwards the frame has the handle of each register that isn't empty, and no other. It waits
     /// while another thread has an object locked, so it never answers Busy.
     fn act(&self, rt: &R, alloc: A, frame: &mut Frame<H, A>, registers: &mut Registers<A>) -> Done
-        requires stands { Stands frame.old registers.old }
-        ensures stands { Stands frame.new registers.new }
+        requires stands { OwnsRegisters frame.old registers.old }
+        ensures stands { OwnsRegisters frame.new registers.new }
         ensures heap { frame.new.heap ≡ frame.old.heap }
         ensures waits { IfErr result (λ fault. fault ≢ faults.Busy) }
         ensures later { IsLater frame.old.seat.log frame.new.seat.log }

@@ -5,22 +5,22 @@ ghost use Rattle.brc_words.specs.declared.fault.Fault.TheVariants as faults;
 ghost use Rattle.brc_count.specs.Frames.{IsUnlocked};
 ghost use Rattle.brc_count.specs.Owned.{Keeps, Gains};
 ghost use Rattle.brc_count.specs.law.living.Later.{IsLater};
-ghost use Rattle.brc_instructions.specs.Registers.{Stands, Besides};
+ghost use Rattle.brc_instructions.specs.Registers.{OwnsRegisters, OwnsRegistersBeside};
 
-use crate::giving::{Giving, given};
 use crate::registers::Registers;
-use brc_count::biased::Home;
-use brc_count::{Frame, Handed, Handle};
+use crate::taking_out::{TakingOut, take_out};
+use brc_count::biased::HasTable;
+use brc_count::{Frame, HandedBack, Handle};
 use brc_heap::dict_put;
 use brc_words::{Fault, GLOBALS, Key};
 use std::alloc::Allocator;
 use std::sync::Wait;
 
 /// What the globals give.
-pub(crate) fn given_by_globals<R: Wait, H: Home<A>, A: Allocator>(
+pub(crate) fn given_by_globals<R: Wait, H: HasTable<A>, A: Allocator>(
     rt: &R,
     frame: &mut Frame<H, A>,
-    giving: &Giving<'_, A>,
+    giving: &TakingOut<'_, A>,
 ) -> Result<Handle<A>, Fault>
     requires unlocked { IsUnlocked frame.old }
     ensures gains { IfOk result (Gains frame.old frame.new) }
@@ -30,30 +30,33 @@ pub(crate) fn given_by_globals<R: Wait, H: Home<A>, A: Allocator>(
     ensures later { IsLater frame.old.seat.log frame.new.seat.log }
 {
     let globals = frame.immortal(GLOBALS)?;
-    let found = given(rt, frame, &globals, giving);
+    let found = take_out(rt, frame, &globals, giving);
     frame.release(globals);
     found
 }
 
 /// The handle goes under the name, and what had it comes out; or the handle is handed back.
-pub(crate) fn taken_by_globals<R: Wait, H: Home<A>, A: Allocator + Copy>(
+pub(crate) fn taken_by_globals<R: Wait, H: HasTable<A>, A: Allocator + Copy>(
     rt: &R,
     frame: &mut Frame<H, A>,
     registers: &Registers<A>,
     name: Key<A>,
     given: Handle<A>,
-) -> Result<Option<Handle<A>>, Handed<Handle<A>>>
-    requires besides { Besides frame.old registers.now given }
+) -> Result<Option<Handle<A>>, HandedBack<Handle<A>>>
+    requires besides { OwnsRegistersBeside frame.old registers.now given }
     ensures old { IfOk result (λ answer. MatchOption answer
-        (Stands frame.new registers.now) (Besides frame.new registers.now)) }
-    ensures back { IfErr result (λ handed. Besides frame.new registers.now handed.back) }
+        (OwnsRegisters frame.new registers.now) (OwnsRegistersBeside frame.new registers.now)) }
+    ensures back { IfErr result (λ handed. OwnsRegistersBeside frame.new registers.now handed.value) }
     ensures heap { frame.new.heap ≡ frame.old.heap }
     ensures waits { IfErr result (λ handed. handed.fault ≢ faults.Busy) }
     ensures later { IsLater frame.old.seat.log frame.new.seat.log }
 {
     let globals = match frame.immortal(GLOBALS) {
         Ok(globals) => globals,
-        Err(fault) => return Err(Handed { fault, back: given }),
+        Err(fault) => return Err(HandedBack {
+            fault,
+            value: given,
+        }),
     };
     match dict_put(rt, frame, &globals, name, given) {
         Ok(old) => {
@@ -61,13 +64,13 @@ pub(crate) fn taken_by_globals<R: Wait, H: Home<A>, A: Allocator + Copy>(
             Ok(old)
         }
         Err(
-            Handed {
+            HandedBack {
                 fault,
-                back: (_name, back),
+                value: (_name, back),
             },
         ) => {
             frame.release(globals);
-            Err(Handed { fault, back })
+            Err(HandedBack { fault, value: back })
         }
     }
 }

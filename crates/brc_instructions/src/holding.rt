@@ -7,24 +7,24 @@ ghost use Rattle.brc_count.specs.law.living.Living.{OwnLog};
 ghost use Rattle.brc_count.specs.law.living.Quiet.{Quietly};
 ghost use Rattle.brc_meaning.specs.States.{with_register};
 ghost use Rattle.law_isolation.specs.Means.{Means, MeansBesides};
-ghost use Rattle.brc_instructions.specs.Registers.{Stands, Besides};
+ghost use Rattle.brc_instructions.specs.Registers.{OwnsRegisters, OwnsRegistersBeside};
 
 use crate::registers::Registers;
-use brc_count::biased::Home;
+use brc_count::biased::HasTable;
 use brc_count::{Frame, Handle};
 use brc_script::Register;
 use std::alloc::Allocator;
 
 /// The register has this handle from now on; what it had is released.
 #[inline(always)]
-pub(crate) fn hold<H: Home<A>, A: Allocator>(
+pub(crate) fn hold<H: HasTable<A>, A: Allocator>(
     frame: &mut Frame<H, A>,
     registers: &mut Registers<A>,
     to: Register,
     handle: Handle<A>,
 )
-    requires besides { Besides frame.old registers.old handle }
-    ensures stands { Stands frame.new registers.new }
+    requires besides { OwnsRegistersBeside frame.old registers.old handle }
+    ensures stands { OwnsRegisters frame.new registers.new }
     ensures heap { frame.new.heap ≡ frame.old.heap }
     ensures quiet { Quietly frame.old.seat.log frame.new.seat.log }
     ensures means { (base : ℕ) (s : state A) (reference : reference) → OwnLog frame.new.heap.cells frame.new.seat.log

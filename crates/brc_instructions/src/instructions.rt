@@ -1,21 +1,21 @@
 //! The instructions: what each is by its plain meaning, and how it is done.
 
 ghost use Rattle.std.specs.Prelude.{◌≢◌, ⊤};
-ghost use Rattle.brc_script.specs.declared.instruction.Instruction.TheVariants as does;
+ghost use Rattle.brc_script.specs.declared.instruction.Instruction.TheVariants as instructions;
 ghost use Rattle.law_isolation.specs.Asked.{Follows};
 ghost use Rattle.brc_instructions.specs.Calls.{gives, makes, takes};
 ghost use Rattle.brc_instructions.specs.Causes.{Caused, WantsNoRoom};
 
-use crate::doing::{Does, Done};
-use crate::giving::{Giving, given};
+use crate::doing::{Done, Execute};
 use crate::globals::{given_by_globals, taken_by_globals};
 use crate::holding::hold;
 use crate::making::{Empty, new_empty};
-use crate::reading::{Reads, Sum};
+use crate::object_reading::{Reads, Sum};
+use crate::putting_in::{Putting, put_in};
 use crate::registers::Registers;
-use crate::taking::{Taking, taken};
+use crate::taking_out::{TakingOut, take_out};
 use brc_count::Frame;
-use brc_count::biased::Home;
+use brc_count::biased::HasTable;
 use brc_heap::{len_of, new_int, new_text};
 use brc_script::Register;
 use brc_words::{Fault, Key, Text};
@@ -29,8 +29,8 @@ pub struct MakeInt {
     pub number: i64,
 }
 
-impl<R: Wait, H: Home<A>, A: Allocator + Copy> Does<R, H, A> for MakeInt {
-    ghost follows = { λ it old new before now. Follows old new before now (does.Int it.to it.number) };
+impl<R: Wait, H: HasTable<A>, A: Allocator + Copy> Execute<R, H, A> for MakeInt {
+    ghost follows = { λ it old new before now. Follows old new before now (instructions.Int it.to it.number) };
 
     ghost why = { λ _. Caused };
 
@@ -55,8 +55,8 @@ pub struct MakeText<'t, A: Allocator> {
     pub text: &'t Text<A>,
 }
 
-impl<'t, R: Wait, H: Home<A>, A: Allocator + Copy> Does<R, H, A> for MakeText<'t, A> {
-    ghost follows = { λ it old new before now. Follows old new before now (does.Text it.to it.text.now) };
+impl<'t, R: Wait, H: HasTable<A>, A: Allocator + Copy> Execute<R, H, A> for MakeText<'t, A> {
+    ghost follows = { λ it old new before now. Follows old new before now (instructions.Text it.to it.text.now) };
 
     ghost why = { λ _. Caused };
 
@@ -85,7 +85,7 @@ pub struct MakeEmpty {
     pub empty: Empty,
 }
 
-impl<R: Wait, H: Home<A>, A: Allocator + Copy> Does<R, H, A> for MakeEmpty {
+impl<R: Wait, H: HasTable<A>, A: Allocator + Copy> Execute<R, H, A> for MakeEmpty {
     ghost follows = { λ it old new before now. Follows old new before now (makes it.empty it.to) };
 
     ghost why = { λ _. Caused };
@@ -110,8 +110,8 @@ pub struct CopyHeld {
     pub from: Register,
 }
 
-impl<R: Wait, H: Home<A>, A: Allocator + Copy> Does<R, H, A> for CopyHeld {
-    ghost follows = { λ it old new before now. Follows old new before now (does.Copy it.to it.from) };
+impl<R: Wait, H: HasTable<A>, A: Allocator + Copy> Execute<R, H, A> for CopyHeld {
+    ghost follows = { λ it old new before now. Follows old new before now (instructions.Copy it.to it.from) };
 
     ghost why = { λ _. Caused };
 
@@ -137,8 +137,8 @@ pub struct DropHeld {
     pub from: Register,
 }
 
-impl<R: Wait, H: Home<A>, A: Allocator + Copy> Does<R, H, A> for DropHeld {
-    ghost follows = { λ it old new before now. Follows old new before now (does.Drop it.from) };
+impl<R: Wait, H: HasTable<A>, A: Allocator + Copy> Execute<R, H, A> for DropHeld {
+    ghost follows = { λ it old new before now. Follows old new before now (instructions.Drop it.from) };
 
     ghost why = { λ _ _ _. WantsNoRoom };
 
@@ -160,13 +160,13 @@ impl<R: Wait, H: Home<A>, A: Allocator + Copy> Does<R, H, A> for DropHeld {
 /// `pop`, `get`, `find`, `del`, and `recv` where it doesn't wait for a letter: what the container gives goes into a
 /// register.
 #[derive(Drop)]
-pub struct Give<'k, A: Allocator> {
+pub struct TakeOut<'k, A: Allocator> {
     pub to: Register,
     pub container: Register,
-    pub giving: Giving<'k, A>,
+    pub giving: TakingOut<'k, A>,
 }
 
-impl<'k, R: Wait, H: Home<A>, A: Allocator + Copy> Does<R, H, A> for Give<'k, A> {
+impl<'k, R: Wait, H: HasTable<A>, A: Allocator + Copy> Execute<R, H, A> for TakeOut<'k, A> {
     ghost follows = { λ it old new before now. Follows old new before now (gives it.giving it.to it.container) };
 
     ghost why = { λ _. Caused };
@@ -182,7 +182,7 @@ impl<'k, R: Wait, H: Home<A>, A: Allocator + Copy> Does<R, H, A> for Give<'k, A>
         let Some(object) = registers.get(self.container) else {
             return Err(Fault::NoSuchPlace);
         };
-        let reference = given(rt, frame, object, &self.giving)?;
+        let reference = take_out(rt, frame, object, &self.giving)?;
         hold(frame, registers, self.to, reference);
         Ok(())
     }
@@ -191,13 +191,13 @@ impl<'k, R: Wait, H: Home<A>, A: Allocator + Copy> Does<R, H, A> for Give<'k, A>
 /// `push`, `set`, `send` and `put`: the container takes the value's reference, and the value's register has what was
 /// there, or is empty. Of one register it isn't told.
 #[derive(Drop)]
-pub struct Take<'k, A: Allocator> {
+pub struct PutIn<'k, A: Allocator> {
     pub container: Register,
     pub value: Register,
-    pub taking: Taking<'k, A>,
+    pub taking: Putting<'k, A>,
 }
 
-impl<'k, R: Wait, H: Home<A>, A: Allocator + Copy> Does<R, H, A> for Take<'k, A> {
+impl<'k, R: Wait, H: HasTable<A>, A: Allocator + Copy> Execute<R, H, A> for PutIn<'k, A> {
     ghost follows = { λ it old new before now result. it.container ≢ it.value
         → Follows old new before now (takes it.taking it.container it.value) result };
 
@@ -208,7 +208,7 @@ impl<'k, R: Wait, H: Home<A>, A: Allocator + Copy> Does<R, H, A> for Take<'k, A>
         let Some(given) = registers.take(self.value) else {
             return Err(Fault::NoSuchPlace);
         };
-        match taken(
+        match put_in(
             rt,
             alloc,
             frame,
@@ -223,7 +223,7 @@ impl<'k, R: Wait, H: Home<A>, A: Allocator + Copy> Does<R, H, A> for Take<'k, A>
                 Ok(())
             }
             Err(handed) => {
-                hold(frame, registers, self.value, handed.back);
+                hold(frame, registers, self.value, handed.value);
                 Err(handed.fault)
             }
         }
@@ -237,8 +237,8 @@ pub struct Len {
     pub container: Register,
 }
 
-impl<R: Wait, H: Home<A>, A: Allocator + Copy> Does<R, H, A> for Len {
-    ghost follows = { λ it old new before now. Follows old new before now (does.Len it.to it.container) };
+impl<R: Wait, H: HasTable<A>, A: Allocator + Copy> Execute<R, H, A> for Len {
+    ghost follows = { λ it old new before now. Follows old new before now (instructions.Len it.to it.container) };
 
     ghost why = { λ _. Caused };
 
@@ -266,8 +266,8 @@ pub struct Add {
     pub second: Register,
 }
 
-impl<R: Wait, H: Home<A>, A: Allocator + Copy> Does<R, H, A> for Add {
-    ghost follows = { λ it old new before now. Follows old new before now (does.Add it.to it.first it.second) };
+impl<R: Wait, H: HasTable<A>, A: Allocator + Copy> Execute<R, H, A> for Add {
+    ghost follows = { λ it old new before now. Follows old new before now (instructions.Add it.to it.first it.second) };
 
     ghost why = { λ _. Caused };
 
@@ -290,7 +290,7 @@ pub struct Share<'k, A: Allocator> {
     pub value: Register,
 }
 
-impl<'k, R: Wait, H: Home<A>, A: Allocator + Copy> Does<R, H, A> for Share<'k, A> {
+impl<'k, R: Wait, H: HasTable<A>, A: Allocator + Copy> Execute<R, H, A> for Share<'k, A> {
     ghost follows = { λ _ _ _ _ _ _. ⊤ };
 
     ghost why = { λ _ _ _ _. ⊤ };
@@ -310,7 +310,7 @@ impl<'k, R: Wait, H: Home<A>, A: Allocator + Copy> Does<R, H, A> for Share<'k, A
                 Ok(())
             }
             Err(handed) => {
-                hold(frame, registers, self.value, handed.back);
+                hold(frame, registers, self.value, handed.value);
                 Err(handed.fault)
             }
         }
@@ -318,14 +318,14 @@ impl<'k, R: Wait, H: Home<A>, A: Allocator + Copy> Does<R, H, A> for Share<'k, A
 }
 
 /// `fetch`, where it doesn't wait, and `unshare`: what the globals give goes into a register. Of the former the name
-/// stays (`Giving::Find`), of the latter it goes (`Giving::Delete`).
+/// stays (`TakingOut::Find`), of the latter it goes (`TakingOut::Delete`).
 #[derive(Drop)]
-pub struct GiveGlobal<'k, A: Allocator> {
+pub struct TakeOutGlobal<'k, A: Allocator> {
     pub to: Register,
-    pub giving: Giving<'k, A>,
+    pub giving: TakingOut<'k, A>,
 }
 
-impl<'k, R: Wait, H: Home<A>, A: Allocator + Copy> Does<R, H, A> for GiveGlobal<'k, A> {
+impl<'k, R: Wait, H: HasTable<A>, A: Allocator + Copy> Execute<R, H, A> for TakeOutGlobal<'k, A> {
     ghost follows = { λ _ _ _ _ _ _. ⊤ };
 
     ghost why = { λ _ _ _ _. ⊤ };

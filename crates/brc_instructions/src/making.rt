@@ -6,7 +6,7 @@ ghost use Rattle.brc_count.specs.Making.{Made, RefusedMaking};
 ghost use Rattle.brc_count.specs.Owned.{Keeps, Gains};
 ghost use Rattle.brc_instructions.specs.Calls.{contents_of};
 
-use brc_count::biased::Home;
+use brc_count::biased::HasTable;
 use brc_count::{Frame, Handle};
 use brc_heap::{new_dict, new_list, new_mailbox};
 use brc_words::Fault;
@@ -22,7 +22,7 @@ pub enum Empty {
 
 /// A new container of this kind.
 #[inline(always)]
-pub(crate) fn new_empty<H: Home<A>, A: Allocator + Copy>(
+pub(crate) fn new_empty<H: HasTable<A>, A: Allocator + Copy>(
     alloc: A,
     frame: &mut Frame<H, A>,
     empty: Empty,

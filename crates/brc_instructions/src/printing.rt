@@ -14,7 +14,7 @@ ghost use Rattle.brc_instructions.specs.Causes.{WantsNoRoom};
 ghost use Rattle.brc_instructions.specs.Printing.{ShownAs};
 
 use crate::shown::Shown;
-use brc_count::biased::Home;
+use brc_count::biased::HasTable;
 use brc_count::{Frame, Handle};
 use brc_heap::{int_of, kind_of, len_of, text_of};
 use brc_words::{Fault, Kind};
@@ -23,7 +23,7 @@ use std::sync::Wait;
 
 /// What the object shows. Its kind is read first, which never changes. None, False and True are made by no instruction,
 /// and are the wrong kind.
-pub(crate) fn show<R: Wait, H: Home<A>, A: Allocator>(
+pub(crate) fn show<R: Wait, H: HasTable<A>, A: Allocator>(
     rt: &R,
     alloc: A,
     frame: &mut Frame<H, A>,

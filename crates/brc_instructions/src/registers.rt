@@ -7,7 +7,7 @@ ghost use Rattle.brc_count.specs.Frames.{IsUnlocked};
 ghost use Rattle.brc_count.specs.law.living.Quiet.{Quietly};
 ghost use Rattle.brc_handles.specs.Handles.{slot, filled, IsApart, IsBare, OwnsEach, ComesIn, ComesOut, Exchanges};
 
-use brc_count::biased::Home;
+use brc_count::biased::HasTable;
 use brc_count::{Frame, Handle};
 use brc_handles::Handles;
 use brc_script::{REGISTERS, Register};
@@ -78,7 +78,7 @@ impl<A: Allocator> Registers<A> {
     }
 
     /// All that they have is released, from r0 to r15.
-    pub fn release_all<H: Home<A>>(self, frame: &mut Frame<H, A>)
+    pub fn release_all<H: HasTable<A>>(self, frame: &mut Frame<H, A>)
         requires each { OwnsEach frame.old self }
         requires unlocked { IsUnlocked frame.old }
         ensures count { frame.new.len + filled self ≡ frame.old.len }

@@ -10,16 +10,17 @@ use Rattle.brc_count.specs.law.world.declared.event.Change.TheVariants.{Keep, Pu
 use Rattle.brc_count.specs.law.world.declared.event.Step.TheVariants.{Lock, Unlock}
 use Rattle.brc_count.specs.law.rule.declared.contents.Contents.{Contents}
 use Rattle.brc_count.specs.law.rule.declared.told.Moved.TheVariants as moves
-use Rattle.brc_count.specs.law.rule.declared.told.Told.{Told}
-use Rattle.brc_count.specs.law.rule.declared.told.Told.TheVariants.{Did}
+use Rattle.brc_count.specs.law.rule.declared.told.LogItem.{LogItem}
+use Rattle.brc_count.specs.law.rule.declared.told.LogItem.TheVariants.{Stepped}
 use Rattle.brc_count.specs.table.Seated.{SeatSeen}
 use Rattle.brc_count.specs.table.Shown.{contents_of}
-use Rattle.brc_count.specs.declared.handed.Handed.{Handed}
+use Rattle.brc_count.specs.declared.handed.HandedBack.{HandedBack}
 use Rattle.brc_count.specs.Frames.{FrameSeen, HandleSeen}
 use Rattle.brc_count.specs.Locking.{Began, KeepsThread, KeepsFrame, ChangesPlace, contents_found}
 use Rattle.brc_count.proofs.Refusing.{refused_alike}
 use Rattle.brc_containers.specs.Called.{HandsOut}
-use Rattle.brc_containers.specs.Changing.{PlainCall, Changes, KeepsPlaces, Puts, Swaps, Takes, Shares, RefusedPlainly}
+use Rattle.brc_containers.specs.Changing.{PlainCall, Changes, KeepsAllPlaces, CallPuts, Swaps, CallTakes, Shares}
+use Rattle.brc_containers.specs.Changing.{RefusedPlainly}
 use Rattle.brc_containers.specs.Changing.{RefusedForWant, RefusedCall, RefusedEntry, RefusedPlace}
 use Rattle.brc_lock.proofs.Kept.{thread_kept_on, frame_kept_on}
 use Rattle.brc_lists.specs.Calls.{PutsValue, SwapsValue, TakesEntry, SharesEntry}
@@ -39,7 +40,8 @@ module _ {A : Type 0} where
     others = λ j other. changes.others j other ∙ frame.places j;
   }
 
-  places_after : (old locked new : FrameSeen A) → KeepsFrame old locked → KeepsPlaces locked new → KeepsPlaces old new
+  places_after : (old locked new : FrameSeen A) → KeepsFrame old locked → KeepsAllPlaces locked new
+      → KeepsAllPlaces old new
   places_after old locked new frame places = record {
     places = λ k. places.places k ∙ frame.places k;
     len = places.len ∙ frame.len;
@@ -53,13 +55,15 @@ module _ {A : Type 0} where
       → Changes old new k (contents_found locked) change put
   began_ends old locked new k block change put began thread ends =
       let cell : ends.block.0 ≡ block.0 = some_is (sym ends.locks_cell ∙ began.locks_cell) in
-      let unlocks : Contents → ℕ → List Told → List Told = λ p c log. Did (Unlock change) 0 (moves.Put c p) ∷ log in
+      let unlocks : Contents → ℕ → List LogItem
+      → List LogItem = λ p c log. Stepped (Unlock change) 0 (moves.Put c p) ∷ log in
       record {
         cell = block.0;
         of_place = began.cell;
         events = ends.ended.event ∙ ap (λ c. unlocks (contents_of ends.block.1) c locked.seat.log) cell
             ∙ ap (λ p. unlocks p block.0 locked.seat.log) ends.holds
-            ∙ ap (unlocks put block.0) (began.event ∙ ap (λ p. Did (Lock k) 0 (moves.Found block.0 p) ∷ old.seat.log)
+            ∙ ap (unlocks put block.0)
+            (began.event ∙ ap (λ p. Stepped (Lock k) 0 (moves.Found block.0 p) ∷ old.seat.log)
             (sym began.found));
         unlocked = ends.ended.unlocked;
         keeps = thread_kept_on thread ends.ended.keeps;
@@ -70,7 +74,8 @@ module _ {A : Type 0} where
 module _ {A R : Type 0} where
   puts_all : (old locked new : FrameSeen A) (k v : ℕ) (block : ℕ × Payload A) (call : ℕ → PlainCall R) (answer : R)
       → Began old locked k block
-      → KeepsThread old locked → KeepsFrame old locked → PutsIn locked new v call answer → Puts old new k v call answer
+      → KeepsThread old locked → KeepsFrame old locked → PutsIn locked new v call answer
+      → CallPuts old new k v call answer
   puts_all old locked new k v block call answer began thread frame puts = record {
     value = puts.value;
     of_value = sym (frame.places v) ∙ puts.of_value;
@@ -105,7 +110,7 @@ module _ {A : Type 0} where
       (given : HandleSeen)
       → call (contents_found locked) ≡ within (contents_found locked) → Began old locked k block
       → KeepsThread old locked → KeepsFrame old locked
-      → TakesOut locked new within given → Takes old new k call given
+      → TakesOut locked new within given → CallTakes old new k call given
   takes_all old locked new k block within call given same began thread frame takes = record {
     found = contents_found locked;
     put = takes.put;
@@ -143,11 +148,11 @@ module _ {A : Type 0} where
         same_heap = shares.same_heap ∙ thread.heap;
         shared_heap = shares.shared_heap ∙ thread.heap;
         locks = ap (λ (s : SeatSeen A). s.log) shares.same_seat ∙ began.event
-            ∙ ap (λ p. Did (Lock k) 0 (moves.Found block.0 p) ∷ old.seat.log) (sym began.found);
+            ∙ ap (λ p. Stepped (Lock k) 0 (moves.Found block.0 p) ∷ old.seat.log) (sym began.found);
         gives = shares.gives;
         unlocks = ends.ended.event
-            ∙ ap (λ c. Did (Unlock Keep) 0 (moves.Put c (contents_of ends.block.1)) ∷ shares.shared.seat.log) cell
-            ∙ ap (λ p. Did (Unlock Keep) 0 (moves.Put block.0 p) ∷ shares.shared.seat.log) ends.holds;
+            ∙ ap (λ c. Stepped (Unlock Keep) 0 (moves.Put c (contents_of ends.block.1)) ∷ shares.shared.seat.log) cell
+            ∙ ap (λ p. Stepped (Unlock Keep) 0 (moves.Put block.0 p) ∷ shares.shared.seat.log) ends.holds;
         before = places_after old locked shares.ready frame shares.before;
         after = shares.after;
         unlocked = ends.ended.unlocked;
@@ -194,7 +199,7 @@ module _ {A R : Type 0} where
 -- its lost tries
 
 module _ {A : Type 0} where
-  pub puts_value : (v : ℕ) (call : ℕ → PlainCall (Unit {0})) (r : Result (Unit {0}) (Handed HandleSeen))
+  pub puts_value : (v : ℕ) (call : ℕ → PlainCall (Unit {0})) (r : Result (Unit {0}) (HandedBack HandleSeen))
       (locked new : FrameSeen A)
       {old : FrameSeen A} {k : ℕ} {block : ℕ × Payload A} → Began old locked k block → KeepsThread old locked
       → KeepsFrame old locked → KeepsThread locked new
@@ -216,7 +221,7 @@ module _ {A : Type 0} where
         handed.fault (why c);
   }
 
-  pub swaps_value : (v : ℕ) (call : ℕ → PlainCall ℕ) (r : Result HandleSeen (Handed HandleSeen))
+  pub swaps_value : (v : ℕ) (call : ℕ → PlainCall ℕ) (r : Result HandleSeen (HandedBack HandleSeen))
       (locked new : FrameSeen A)
       {old : FrameSeen A} {k : ℕ} {block : ℕ × Payload A} → Began old locked k block → KeepsThread old locked
       → KeepsFrame old locked → KeepsThread locked new
@@ -241,7 +246,7 @@ module _ {A : Type 0} where
   refused_out : (done : HandleSeen → Type 0) (call : PlainCall ℕ) (fault : Fault) (locked new : FrameSeen A)
       {old : FrameSeen A} {k : ℕ} {block : ℕ × Payload A} → Began old locked k block → KeepsThread old locked
       → KeepsFrame old locked → KeepsThread locked new
-      → KeepsPlaces locked new → EndsWith locked new Keep (contents_found locked)
+      → KeepsAllPlaces locked new → EndsWith locked new Keep (contents_found locked)
       → RefusesPlace locked (call (contents_found locked)) fault
       → HandsOut old new done (RefusedPlace old new k call) (Err fault)
   refused_out done call fault locked new began thread frame then places kept why = record {
@@ -256,7 +261,7 @@ module _ {A : Type 0} where
       {old : FrameSeen A} {k : ℕ} {block : ℕ × Payload A}
       → call (contents_found locked) ≡ within (contents_found locked)
       → Began old locked k block → KeepsThread old locked → KeepsFrame old locked → KeepsThread locked new
-      → IfOk r (TakesOut locked new within) → OnErr r (KeepsPlaces locked new)
+      → IfOk r (TakesOut locked new within) → OnErr r (KeepsAllPlaces locked new)
       → OnErr r (EndsWith locked new Keep (contents_found locked))
       → IfErr r (RefusesPlace locked (within (contents_found locked))) → TakesEntry old new k call r
   takes_entry within call (Ok given) locked new is began thread frame then takes places kept why = record {
@@ -266,13 +271,13 @@ module _ {A : Type 0} where
     refused = tt;
   }
   takes_entry within call (Err fault) locked new {old = old} {k = k} is began thread frame then takes places kept why =
-      refused_out (Takes old new k call) call fault locked new began thread frame then places kept
+      refused_out (CallTakes old new k call) call fault locked new began thread frame then places kept
       (subst (λ o. RefusesPlace locked o fault) (sym is) why)
 
   pub shares_entry : (call : PlainCall ℕ) (r : Result HandleSeen Fault) (locked new : FrameSeen A)
       {old : FrameSeen A} {k : ℕ} {block : ℕ × Payload A} → Began old locked k block → KeepsThread old locked
       → KeepsFrame old locked → KeepsThread locked new
-      → IfOk r (SharesOut locked new call) → OnErr r (KeepsPlaces locked new)
+      → IfOk r (SharesOut locked new call) → OnErr r (KeepsAllPlaces locked new)
       → OnErr r (EndsWith locked new Keep (contents_found locked))
       → IfErr r (RefusesPlace locked (call (contents_found locked))) → SharesEntry old new k call r
   shares_entry call (Ok given) locked new began thread frame then shares places kept why = record {

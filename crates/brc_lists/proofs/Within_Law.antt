@@ -12,15 +12,15 @@ use Rattle.brc_count.specs.law.world.declared.event.Change.TheVariants.{Put, Tak
 use Rattle.brc_count.specs.law.world.declared.event.Step.TheVariants.{Unlock}
 use Rattle.brc_count.specs.law.rule.declared.contents.Contents.{Contents}
 use Rattle.brc_count.specs.law.rule.declared.told.Moved.TheVariants as moves
-use Rattle.brc_count.specs.law.rule.declared.told.Told.TheVariants.{Did}
+use Rattle.brc_count.specs.law.rule.declared.told.LogItem.TheVariants.{Stepped}
 use Rattle.brc_count.specs.law.rule.Logs.{kind_in, entries_in}
 use Rattle.brc_count.specs.law.rule.Seen.{part_seen}
 use Rattle.brc_count.specs.table.Shown.{contents_of}
 use Rattle.brc_count.specs.Frames.{FrameSeen, HandleSeen, IsAsBefore, popped_seen}
-use Rattle.brc_count.specs.Locking.{Ended, ChangesPlace, cell_in, cell_locked, contents_found}
+use Rattle.brc_count.specs.Locking.{UnlockedBy, ChangesPlace, cell_in, cell_locked, contents_found}
 use Rattle.brc_lists.specs.Plain.{plain_set}
 use Rattle.brc_lists.specs.Rows.{is_row, plain_put, plain_at, plain_take}
-use Rattle.brc_lists.specs.Within.{HasLocked, PutsIn, SwapsIn, TakesOut, RefusesPlace}
+use Rattle.brc_lists.specs.Within.{HasLockedList, PutsIn, SwapsIn, TakesOut, RefusesPlace}
 use Rattle.brc_lists.proofs.Rows_Law.{kind_shown, entries_shown, put_gives, at_gives}
 
 module _ {A : Type 0} where
@@ -34,7 +34,7 @@ module _ {A : Type 0} where
   found_entries found payload is = ap entries_in is ∙ entries_shown payload
 
   -- an object that is locked hasn't too many entries
-  pub few_entries : (frame : FrameSeen A) (block : ℕ × Payload A) → HasLocked frame block
+  pub few_entries : (frame : FrameSeen A) (block : ℕ × Payload A) → HasLockedList frame block
       → length (entries_of block.1) ≤ MOST_ENTRIES
   few_entries frame block has =
       subst (λ es. length es ≤ MOST_ENTRIES) (found_entries (contents_found frame) block.1 has.found) has.locked.few
@@ -44,7 +44,7 @@ module _ {A : Type 0} where
       → cell_locked old ≡ Some block.0 → contents_found old ≡ contents_of before → cell_in old v ≡ Some value
       → kind_of before ≡ kind → length (entries_of before) < MOST_ENTRIES
       → kind_of block.1 ≡ kind_of before → entries_of block.1 ≡ entries_of before ++ value ∷ []
-      → Ended old new (Put v) block → ChangesPlace old new v None → new.len + 1 ≡ old.len
+      → UnlockedBy old new (Put v) block → ChangesPlace old new v None → new.len + 1 ≡ old.len
       → PutsIn old new v (plain_put kind) tt
   puts_in old new kind v value block before row locks found of_value is few same_kind more ended places len =
       let entries = found_entries (contents_found old) before found in
@@ -65,7 +65,7 @@ module _ {A : Type 0} where
       → cell_locked old ≡ Some block.0 → contents_found old ≡ contents_of before → cell_in old v ≡ Some value
       → kind_of before ≡ kinds.«List» → slice_get (entries_of before) index ≡ Some entry
       → kind_of block.1 ≡ kind_of before → entries_of block.1 ≡ slice_set (entries_of before) index value
-      → Ended old new (Swap index v) block → ChangesPlace old new v (Some entry) → new.len ≡ old.len
+      → UnlockedBy old new (Swap index v) block → ChangesPlace old new v (Some entry) → new.len ≡ old.len
       → SwapsIn old new v (plain_set index) (λ e. e)
   swaps_in old new v value index entry block before locks found of_value is there same_kind set ended places len =
       let entries = found_entries (contents_found old) before found in
@@ -88,9 +88,9 @@ module _ {A : Type 0} where
 
   -- more places that need no memory are no matter
   ended_as : (old ready new : FrameSeen A) (change : Change) (block : ℕ × Payload A) → IsAsBefore old ready
-      → Ended ready new change block → Ended old new change block
+      → UnlockedBy ready new change block → UnlockedBy old new change block
   ended_as old ready new change block same ended = record {
-    event = ended.event ∙ ap (λ (f : FrameSeen A). Did (Unlock change) 0 (moves.Put block.0 (contents_of block.1))
+    event = ended.event ∙ ap (λ (f : FrameSeen A). Stepped (Unlock change) 0 (moves.Put block.0 (contents_of block.1))
         ∷ f.seat.log) same;
     unlocked = ended.unlocked;
     keeps = record {
@@ -112,7 +112,7 @@ module _ {A : Type 0} where
       → kind_of block.1 ≡ kind_of before → entries_of block.1 ≡ remove (entries_of before) index
       → given.heap ≡ ready.heap → given.thread ≡ ready.seat.thread → given.place ≡ ready.next
       → cell_in ready given.place ≡ None
-      → Ended ready new (Take index given.place) block → ChangesPlace ready new given.place (Some entry)
+      → UnlockedBy ready new (Take index given.place) block → ChangesPlace ready new given.place (Some entry)
       → new.len ≡ ready.len + 1
       → TakesOut old new (plain_take kind index) given
   takes_out old ready new kind index entry given block before same row locks found is there same_kind left heap thread

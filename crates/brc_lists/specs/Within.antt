@@ -8,14 +8,15 @@ use Rattle.brc_count.specs.law.world.declared.event.Change.TheVariants.{Keep, Pu
 use Rattle.brc_count.specs.law.world.declared.event.Source.TheVariants as sources
 use Rattle.brc_count.specs.law.rule.declared.contents.Contents.{Contents}
 use Rattle.brc_count.specs.table.Shown.{contents_of}
-use Rattle.brc_count.specs.Frames.{FrameSeen, HandleSeen, Given, Refused}
-use Rattle.brc_count.specs.Locking.{IsLocked, KeepsFrame, ChangesPlace, Ended, cell_in, cell_locked, contents_found}
+use Rattle.brc_count.specs.Frames.{FrameSeen, HandleSeen, GivenHandle, Refused}
+use Rattle.brc_count.specs.Locking.{IsLocked, KeepsFrame, ChangesPlace, UnlockedBy, cell_in, cell_locked}
+use Rattle.brc_count.specs.Locking.{contents_found}
 use Rattle.brc_count.specs.Locking.{entries_found}
-use Rattle.brc_containers.specs.Changing.{PlainCall, KeepsPlaces}
+use Rattle.brc_containers.specs.Changing.{PlainCall, KeepsAllPlaces}
 
 module _ {A : Type 0} where
   -- an object is locked, and its block has what was found
-  pub record HasLocked (frame : FrameSeen A) (block : ℕ × Payload A) : Type 0 where
+  pub record HasLockedList (frame : FrameSeen A) (block : ℕ × Payload A) : Type 0 where
     pub locked : IsLocked frame
     pub locks_cell : cell_locked frame ≡ Some block.0
     pub found : contents_found frame ≡ contents_of block.1
@@ -25,7 +26,7 @@ module _ {A : Type 0} where
     pub block : ℕ × Payload A
     pub locks_cell : cell_locked old ≡ Some block.0
     pub holds : contents_of block.1 ≡ put
-    pub ended : Ended old new change block
+    pub ended : UnlockedBy old new change block
 
 -- ---- what succeeded
 
@@ -80,10 +81,10 @@ module _ {A : Type 0} where
     pub ready : FrameSeen A
     pub same_seat : ready.seat ≡ old.seat
     pub same_heap : ready.heap ≡ old.heap
-    pub before : KeepsPlaces old ready
+    pub before : KeepsAllPlaces old ready
     pub shared : FrameSeen A
     pub shared_heap : shared.heap ≡ old.heap
-    pub gives : Given ready shared (sources.Entry index) entry given
+    pub gives : GivenHandle ready shared (sources.Entry index) entry given
     pub same_cell : cell_locked shared ≡ cell_locked old
     pub ends : EndsWith shared new Keep (contents_found old)
     pub after : KeepsFrame shared new

@@ -9,9 +9,9 @@
 mod lists;
 mod mailboxes;
 mod rows;
-mod waiting;
+mod waiting_calls;
 mod within;
 
 pub use lists::{try_list_get, try_list_pop, try_list_push, try_list_set, try_list_take};
 pub use mailboxes::{try_recv, try_send};
-pub use waiting::{list_get, list_pop, list_push, list_set, list_take, recv, send};
+pub use waiting_calls::{list_get, list_pop, list_push, list_set, list_take, recv, send};

@@ -6,19 +6,19 @@ ghost use Rattle.brc_count.specs.Owned.{Keeps, Gains, Loses};
 ghost use Rattle.brc_lists.specs.Calls.{ListPush, ListPop, ListTake, ListGet, ListSet};
 
 use crate::within::{put_locked, share_locked, swap_locked, take_locked};
-use brc_count::biased::Home;
-use brc_count::{Frame, Handed, Handle};
+use brc_count::biased::HasTable;
+use brc_count::{Frame, HandedBack, Handle};
 use brc_words::{Fault, Kind};
 use std::alloc::Allocator;
 
 /// The value's reference becomes the last entry of the list. A refusal hands the value back: Busy where another thread
 /// has the object locked, then WrongKind where it is no list, Full where it has 1,048,576 entries, and OutOfMemory.
 #[inline]
-pub fn try_list_push<H: Home<A>, A: Allocator>(
+pub fn try_list_push<H: HasTable<A>, A: Allocator>(
     frame: &mut Frame<H, A>,
     list: &Handle<A>,
     value: Handle<A>,
-) -> Result<(), Handed<Handle<A>>>
+) -> Result<(), HandedBack<Handle<A>>>
     requires owned { Owns frame.old list.now }
     requires value_owned { Owns frame.old value }
     requires apart { value.place ≢ list.now.place }
@@ -27,12 +27,12 @@ pub fn try_list_push<H: Home<A>, A: Allocator>(
     ensures loses { OnOk result (Loses frame.old frame.new value) }
     ensures keeps { OnErr result (Keeps frame.old frame.new) }
     ensures unlocked { IsUnlocked frame.new }
-    ensures back { IfErr result (λ handed. handed.back ≡ value) }
+    ensures back { IfErr result (λ handed. handed.value ≡ value) }
 {
     let Some(block) = frame.begin(list) else {
-        return Err(Handed {
+        return Err(HandedBack {
             fault: Fault::Busy,
-            back: value,
+            value,
         });
     };
     put_locked(frame, Kind::List, block, value)
@@ -41,7 +41,7 @@ pub fn try_list_push<H: Home<A>, A: Allocator>(
 /// The reference of the list's last entry is the answer's now. The faults come in this order: Busy where another thread
 /// has the object locked, WrongKind where it is no list, NoSuchPlace where it has no entry, FrameFull, OutOfMemory.
 #[inline]
-pub fn try_list_pop<H: Home<A>, A: Allocator>(
+pub fn try_list_pop<H: HasTable<A>, A: Allocator>(
     frame: &mut Frame<H, A>,
     list: &Handle<A>,
 ) -> Result<Handle<A>, Fault>
@@ -63,7 +63,7 @@ pub fn try_list_pop<H: Home<A>, A: Allocator>(
 /// Busy where another thread has the object locked, WrongKind where it is no list, NoSuchPlace past its end, FrameFull,
 /// OutOfMemory.
 #[inline]
-pub fn try_list_take<H: Home<A>, A: Allocator>(
+pub fn try_list_take<H: HasTable<A>, A: Allocator>(
     frame: &mut Frame<H, A>,
     list: &Handle<A>,
     index: u32,
@@ -84,7 +84,7 @@ pub fn try_list_take<H: Home<A>, A: Allocator>(
 /// A handle more to an entry of the list. The faults come in this order: Busy where another thread has the object
 /// locked, WrongKind where it is no list, NoSuchPlace past its end, FrameFull, OutOfMemory.
 #[inline]
-pub fn try_list_get<H: Home<A>, A: Allocator>(
+pub fn try_list_get<H: HasTable<A>, A: Allocator>(
     frame: &mut Frame<H, A>,
     list: &Handle<A>,
     index: u32,
@@ -106,12 +106,12 @@ pub fn try_list_get<H: Home<A>, A: Allocator>(
 /// old entry's now. It takes no memory. A refusal hands the value back: Busy where another thread has the object
 /// locked, then WrongKind where it is no list, and NoSuchPlace past its end.
 #[inline]
-pub fn try_list_set<H: Home<A>, A: Allocator>(
+pub fn try_list_set<H: HasTable<A>, A: Allocator>(
     frame: &mut Frame<H, A>,
     list: &Handle<A>,
     index: u32,
     value: Handle<A>,
-) -> Result<Handle<A>, Handed<Handle<A>>>
+) -> Result<Handle<A>, HandedBack<Handle<A>>>
     requires owned { Owns frame.old list.now }
     requires value_owned { Owns frame.old value }
     requires apart { value.place ≢ list.now.place }
@@ -120,12 +120,12 @@ pub fn try_list_set<H: Home<A>, A: Allocator>(
     ensures keeps { Keeps frame.old frame.new }
     ensures same { IfOk result (λ old. old ≡ value) }
     ensures unlocked { IsUnlocked frame.new }
-    ensures back { IfErr result (λ handed. handed.back ≡ value) }
+    ensures back { IfErr result (λ handed. handed.value ≡ value) }
 {
     let Some(block) = frame.begin(list) else {
-        return Err(Handed {
+        return Err(HandedBack {
             fault: Fault::Busy,
-            back: value,
+            value,
         });
     };
     swap_locked(frame, block, index, value)

@@ -6,8 +6,8 @@ ghost use Rattle.brc_count.specs.Owned.{Keeps, Gains, Loses};
 ghost use Rattle.brc_lists.specs.Calls.{MailboxSend, MailboxReceive};
 
 use crate::within::{put_locked, take_locked};
-use brc_count::biased::Home;
-use brc_count::{Frame, Handed, Handle};
+use brc_count::biased::HasTable;
+use brc_count::{Frame, HandedBack, Handle};
 use brc_words::{Fault, Kind};
 use std::alloc::Allocator;
 
@@ -15,11 +15,11 @@ use std::alloc::Allocator;
 /// thread has the object locked, then WrongKind where it is no mailbox, Full where it has 1,048,576 entries, and
 /// OutOfMemory.
 #[inline]
-pub fn try_send<H: Home<A>, A: Allocator>(
+pub fn try_send<H: HasTable<A>, A: Allocator>(
     frame: &mut Frame<H, A>,
     mailbox: &Handle<A>,
     value: Handle<A>,
-) -> Result<(), Handed<Handle<A>>>
+) -> Result<(), HandedBack<Handle<A>>>
     requires owned { Owns frame.old mailbox.now }
     requires value_owned { Owns frame.old value }
     requires apart { value.place ≢ mailbox.now.place }
@@ -28,12 +28,12 @@ pub fn try_send<H: Home<A>, A: Allocator>(
     ensures loses { OnOk result (Loses frame.old frame.new value) }
     ensures keeps { OnErr result (Keeps frame.old frame.new) }
     ensures unlocked { IsUnlocked frame.new }
-    ensures back { IfErr result (λ handed. handed.back ≡ value) }
+    ensures back { IfErr result (λ handed. handed.value ≡ value) }
 {
     let Some(block) = frame.begin(mailbox) else {
-        return Err(Handed {
+        return Err(HandedBack {
             fault: Fault::Busy,
-            back: value,
+            value,
         });
     };
     put_locked(frame, Kind::Mailbox, block, value)
@@ -43,7 +43,7 @@ pub fn try_send<H: Home<A>, A: Allocator>(
 /// thread has the object locked, WrongKind where it is no mailbox, NoSuchPlace where it has no entry, FrameFull,
 /// OutOfMemory.
 #[inline]
-pub fn try_recv<H: Home<A>, A: Allocator>(
+pub fn try_recv<H: HasTable<A>, A: Allocator>(
     frame: &mut Frame<H, A>,
     mailbox: &Handle<A>,
 ) -> Result<Handle<A>, Fault>

@@ -12,36 +12,36 @@ ghost use Rattle.brc_count.specs.table.Shown.{contents_of};
 ghost use Rattle.brc_count.specs.Frames.{IsUnlocked, IsAsBefore, Owns};
 ghost use Rattle.brc_count.specs.Locking.{KeepsThread, KeepsFrame, contents_found, place_locked};
 ghost use Rattle.brc_count.specs.Owned.{Keeps, Gains, Loses};
-ghost use Rattle.brc_containers.specs.Changing.{KeepsPlaces};
+ghost use Rattle.brc_containers.specs.Changing.{KeepsAllPlaces};
 ghost use Rattle.brc_lists.specs.Plain.{plain_get, plain_set};
 ghost use Rattle.brc_lists.specs.Rows.{is_row, plain_put, plain_at, plain_take};
-ghost use Rattle.brc_lists.specs.Within.{HasLocked, EndsWith, PutsIn, SwapsIn, TakesOut, SharesOut, RefusesPlainly};
+ghost use Rattle.brc_lists.specs.Within.{HasLockedList, EndsWith, PutsIn, SwapsIn, TakesOut, SharesOut, RefusesPlainly};
 ghost use Rattle.brc_lists.specs.Within.{RefusesEntry, RefusesPlace};
 
 use crate::rows::{entry_in, make_room};
-use brc_count::biased::Home;
+use brc_count::biased::HasTable;
 use brc_count::block::Block;
-use brc_count::{Frame, Handed, Handle};
+use brc_count::{Frame, HandedBack, Handle};
 use brc_words::{Fault, Kind};
 use std::alloc::Allocator;
 
 /// The value's reference becomes the last entry of a list or a mailbox.
 #[inline(always)]
-pub(crate) fn put_locked<H: Home<A>, A: Allocator>(
+pub(crate) fn put_locked<H: HasTable<A>, A: Allocator>(
     frame: &mut Frame<H, A>,
     kind: Kind,
     mut block: Block<A>,
     value: Handle<A>,
-) -> Result<(), Handed<Handle<A>>>
+) -> Result<(), HandedBack<Handle<A>>>
     requires row { is_row kind ≡ true }
-    requires has { HasLocked frame.old block }
+    requires has { HasLockedList frame.old block }
     requires owned { Owns frame.old value }
     requires apart { place_locked frame.old ≢ Some value.place }
     ensures thread { KeepsThread frame.old frame.new }
     ensures unlocked { IsUnlocked frame.new }
     ensures put { OnOk result (PutsIn frame.old frame.new value.place (plain_put kind) tt) }
     ensures loses { OnOk result (Loses frame.old frame.new value) }
-    ensures back { IfErr result (λ handed. handed.back ≡ value) }
+    ensures back { IfErr result (λ handed. handed.value ≡ value) }
     ensures frame { OnErr result (KeepsFrame frame.old frame.new) }
     ensures kept { OnErr result (EndsWith frame.old frame.new changes.Keep (contents_found frame.old)) }
     ensures refused { IfErr result (λ handed. (c : ℕ)
@@ -50,7 +50,7 @@ pub(crate) fn put_locked<H: Home<A>, A: Allocator>(
 {
     if let Err(fault) = make_room(block.payload_mut(), kind) {
         frame.end_keep(block);
-        return Err(Handed { fault, back: value });
+        return Err(HandedBack { fault, value });
     }
     let cell = frame.cell(&value);
     block.payload_mut().put_reserved(cell);
@@ -60,13 +60,13 @@ pub(crate) fn put_locked<H: Home<A>, A: Allocator>(
 
 /// The references of an entry of a list and of the value are exchanged.
 #[inline(always)]
-pub(crate) fn swap_locked<H: Home<A>, A: Allocator>(
+pub(crate) fn swap_locked<H: HasTable<A>, A: Allocator>(
     frame: &mut Frame<H, A>,
     mut block: Block<A>,
     index: u32,
     value: Handle<A>,
-) -> Result<Handle<A>, Handed<Handle<A>>>
-    requires has { HasLocked frame.old block }
+) -> Result<Handle<A>, HandedBack<Handle<A>>>
+    requires has { HasLockedList frame.old block }
     requires owned { Owns frame.old value }
     requires apart { place_locked frame.old ≢ Some value.place }
     ensures thread { KeepsThread frame.old frame.new }
@@ -74,7 +74,7 @@ pub(crate) fn swap_locked<H: Home<A>, A: Allocator>(
     ensures swapped { OnOk result (SwapsIn frame.old frame.new value.place (plain_set index) (λ entry. entry)) }
     ensures keeps { Keeps frame.old frame.new }
     ensures same { IfOk result (λ old. old ≡ value) }
-    ensures back { IfErr result (λ handed. handed.back ≡ value) }
+    ensures back { IfErr result (λ handed. handed.value ≡ value) }
     ensures frame { OnErr result (KeepsFrame frame.old frame.new) }
     ensures kept { OnErr result (EndsWith frame.old frame.new changes.Keep (contents_found frame.old)) }
     ensures refused { IfErr result (λ handed. (c : ℕ)
@@ -84,7 +84,7 @@ pub(crate) fn swap_locked<H: Home<A>, A: Allocator>(
     match entry_in(block.payload(), Kind::List, index as usize) {
         Err(fault) => {
             frame.end_keep(block);
-            Err(Handed { fault, back: value })
+            Err(HandedBack { fault, value })
         }
         Ok(entry) => {
             let cell = frame.cell(&value);
@@ -96,7 +96,7 @@ pub(crate) fn swap_locked<H: Home<A>, A: Allocator>(
 
 /// The cell of an entry, and the next place made sure of, for a handle to that entry.
 #[inline(always)]
-fn entry_and_place<H: Home<A>, A: Allocator>(
+fn entry_and_place<H: HasTable<A>, A: Allocator>(
     frame: &mut Frame<H, A>,
     kind: Kind,
     block: &Block<A>,
@@ -118,17 +118,17 @@ fn entry_and_place<H: Home<A>, A: Allocator>(
 
 /// A handle more to an entry of a list. It is counted up before the unlocking: after that the entry may go.
 #[inline(always)]
-pub(crate) fn share_locked<H: Home<A>, A: Allocator>(
+pub(crate) fn share_locked<H: HasTable<A>, A: Allocator>(
     frame: &mut Frame<H, A>,
     block: Block<A>,
     index: u32,
 ) -> Result<Handle<A>, Fault>
-    requires has { HasLocked frame.old block }
+    requires has { HasLockedList frame.old block }
     ensures thread { KeepsThread frame.old frame.new }
     ensures unlocked { IsUnlocked frame.new }
     ensures shared { IfOk result (SharesOut frame.old frame.new (plain_get index)) }
     ensures gains { IfOk result (Gains frame.old frame.new) }
-    ensures places { OnErr result (KeepsPlaces frame.old frame.new) }
+    ensures places { OnErr result (KeepsAllPlaces frame.old frame.new) }
     ensures kept { OnErr result (EndsWith frame.old frame.new changes.Keep (contents_found frame.old)) }
     ensures refused { IfErr result (RefusesPlace frame.old (plain_get index (contents_found frame.old))) }
 {
@@ -147,19 +147,19 @@ pub(crate) fn share_locked<H: Home<A>, A: Allocator>(
 
 /// The reference of an entry of a list or a mailbox is a new handle's now.
 #[inline(always)]
-pub(crate) fn take_locked<H: Home<A>, A: Allocator>(
+pub(crate) fn take_locked<H: HasTable<A>, A: Allocator>(
     frame: &mut Frame<H, A>,
     kind: Kind,
     mut block: Block<A>,
     index: usize,
 ) -> Result<Handle<A>, Fault>
     requires row { is_row kind ≡ true }
-    requires has { HasLocked frame.old block }
+    requires has { HasLockedList frame.old block }
     ensures thread { KeepsThread frame.old frame.new }
     ensures unlocked { IsUnlocked frame.new }
     ensures taken { IfOk result (TakesOut frame.old frame.new (plain_take kind index)) }
     ensures gains { IfOk result (Gains frame.old frame.new) }
-    ensures places { OnErr result (KeepsPlaces frame.old frame.new) }
+    ensures places { OnErr result (KeepsAllPlaces frame.old frame.new) }
     ensures kept { OnErr result (EndsWith frame.old frame.new changes.Keep (contents_found frame.old)) }
     ensures refused { IfErr result (RefusesPlace frame.old (plain_take kind index (contents_found frame.old))) }
 {

@@ -9,7 +9,7 @@ use Rattle.brc_count.specs.law.world.declared.event.Change.{Change}
 use Rattle.brc_count.specs.law.world.declared.event.Step.TheVariants.{Unlock}
 use Rattle.brc_count.specs.law.rule.declared.contents.Contents.{Contents}
 use Rattle.brc_count.specs.law.rule.declared.told.Moved.TheVariants as moves
-use Rattle.brc_count.specs.law.rule.declared.told.Told.TheVariants.{Did}
+use Rattle.brc_count.specs.law.rule.declared.told.LogItem.TheVariants.{Stepped}
 use Rattle.brc_count.specs.law.rule.Logs.{entries_in}
 use Rattle.brc_count.specs.table.Shown.{contents_of}
 use Rattle.brc_count.specs.Frames.{FrameSeen, HandleSeen, IsUnlocked}
@@ -17,15 +17,15 @@ use Rattle.brc_count.specs.Locking.{IsLocked, place_locked, cell_locked, content
 
 module _ {A : Type 0} where
   -- The frame has the handle's object locked, and the block is that object's, with the contents that the locking found.
-  pub record Holds (frame : FrameSeen A) (handle : HandleSeen) (block : ℕ × Payload A) : Type 0 where
+  pub record HasLockedBlock (frame : FrameSeen A) (handle : HandleSeen) (block : ℕ × Payload A) : Type 0 where
     pub locked : IsLocked frame
     pub place : place_locked frame ≡ Some handle.place
     pub cell : cell_locked frame ≡ Some block.0
     pub found : contents_of block.1 ≡ contents_found frame
 
   -- The object of that cell was put home with these contents and unlocked, by one event.
-  pub record Unlocks (old new : FrameSeen A) (change : Change) (cell : ℕ) (put : Contents) : Type 0 where
-    pub event : new.seat.log ≡ Did (Unlock change) 0 (moves.Put cell put) ∷ old.seat.log
+  pub record Unlocked (old new : FrameSeen A) (change : Change) (cell : ℕ) (put : Contents) : Type 0 where
+    pub event : new.seat.log ≡ Stepped (Unlock change) 0 (moves.Put cell put) ∷ old.seat.log
     pub unlocked : IsUnlocked new
     pub keeps : KeepsThread old new
 

@@ -8,10 +8,10 @@ ghost use Rattle.brc_count.specs.Owned.{Keeps};
 ghost use Rattle.brc_count.specs.Locking.{Began, KeepsThread, KeepsFrame};
 ghost use Rattle.brc_count.specs.contracts.frame.Frame.{the_row};
 ghost use Rattle.brc_lock.specs.Waiting.{IsBusy, BeginsLate};
-ghost use Rattle.brc_lock.specs.Holding.{Holds};
+ghost use Rattle.brc_lock.specs.Holding.{HasLockedBlock};
 
 use crate::locked::Locked;
-use brc_count::biased::Home;
+use brc_count::biased::HasTable;
 use brc_count::block::Block;
 use brc_count::{Frame, Handle};
 use brc_words::Fault;
@@ -21,7 +21,7 @@ use std::thread::yield_now;
 
 /// Locks the handle's object and answers its block, or Busy.
 #[inline(always)]
-fn begin_or_busy<H: Home<A>, A: Allocator>(
+fn begin_or_busy<H: HasTable<A>, A: Allocator>(
     frame: &mut Frame<H, A>,
     handle: &Handle<A>,
 ) -> Result<Block<A>, Fault>
@@ -42,7 +42,7 @@ fn begin_or_busy<H: Home<A>, A: Allocator>(
 /// Before each further try it gives the processor up.
 #[cold]
 #[inline(never)]
-fn begin_again<H: Home<A>, A: Allocator>(
+fn begin_again<H: HasTable<A>, A: Allocator>(
     rt: &impl Wait,
     frame: &mut Frame<H, A>,
     handle: &Handle<A>,
@@ -63,7 +63,7 @@ fn begin_again<H: Home<A>, A: Allocator>(
 /// Locks the handle's object and answers its block, once no other thread has it locked. Between two tries it holds
 /// nothing, and gives the processor up.
 #[inline(always)]
-pub fn begin_late<H: Home<A>, A: Allocator>(
+pub fn begin_late<H: HasTable<A>, A: Allocator>(
     rt: &impl Wait,
     frame: &mut Frame<H, A>,
     handle: &Handle<A>,
@@ -80,7 +80,7 @@ pub fn begin_late<H: Home<A>, A: Allocator>(
 
 /// Locks the handle's object. Busy where another thread has it locked, and then nothing changed but a note.
 #[inline]
-pub fn try_lock<'f, H: Home<A>, A: Allocator>(
+pub fn try_lock<'f, H: HasTable<A>, A: Allocator>(
     frame: &'f mut Frame<H, A>,
     handle: &'f Handle<A>,
 ) -> Result<Locked<'f, H, A, Block<A>>, Fault>
@@ -90,7 +90,7 @@ pub fn try_lock<'f, H: Home<A>, A: Allocator>(
         result (λ last. IsBusy frame.entry.now last handle.now.place)) }
     ensures same_reference { IfOk result (λ l. l.frame.ghost_name ≡ frame.entry.ghost_name) }
     ensures began { IfOk result (λ l. Began frame.old l.frame.now handle.now.place l.block) }
-    ensures holds { IfOk result (λ l. Holds l.frame.now handle.now l.block) }
+    ensures holds { IfOk result (λ l. HasLockedBlock l.frame.now handle.now l.block) }
     ensures keeps { IfOk result (λ l. KeepsThread frame.old l.frame.now) }
     ensures frame { IfOk result (λ l. KeepsFrame frame.old l.frame.now) }
     ensures owns { IfOk result (λ l. Keeps frame.old l.frame.now) }
@@ -103,7 +103,7 @@ pub fn try_lock<'f, H: Home<A>, A: Allocator>(
 
 /// Locks the handle's object, once no other thread has it locked.
 #[inline]
-pub fn lock<'f, H: Home<A>, A: Allocator>(
+pub fn lock<'f, H: HasTable<A>, A: Allocator>(
     rt: &impl Wait,
     frame: &'f mut Frame<H, A>,
     handle: &'f Handle<A>,
@@ -113,7 +113,7 @@ pub fn lock<'f, H: Home<A>, A: Allocator>(
     ensures same_reference { result.frame.ghost_name ≡ frame.entry.ghost_name }
     ensures began { BeginsLate frame.old result.frame.now handle.now.place result.block }
     ensures owns { Keeps frame.old result.frame.now }
-    ensures holds { Holds result.frame.now handle.now result.block }
+    ensures holds { HasLockedBlock result.frame.now handle.now result.block }
     ensures handle { result.handle.now ≡ handle.now }
 {
     let block = begin_late(rt, frame, handle);

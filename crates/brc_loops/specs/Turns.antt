@@ -5,16 +5,16 @@ use Rattle.brc_count.specs.Owned.{Loses}
 
 module _ {S : Type 0} (Turn : ℕ → S → S → Type 0) where
   -- so many turns lead from here to there; each is the one after so many
-  unfoldable pub Turns : ℕ → S → S → Type 0
-  Turns zero first last = last ≡ first
-  Turns (suc before) first last = (from : S) × Turns before first from × Turn before from last
+  unfoldable pub LoopTurns : ℕ → S → S → Type 0
+  LoopTurns zero first last = last ≡ first
+  LoopTurns (suc before) first last = (from : S) × LoopTurns before first from × Turn before from last
 
   -- fewer than so many were made, and the next one fails
   pub record FailsIn (Fails : ℕ → S → S → Type 0) (most : ℕ) (first last : S) : Type 0 where
     pub made : ℕ
     pub fewer : made < most
     pub from : S
-    pub turns : Turns made first from
+    pub turns : LoopTurns made first from
     pub fails : Fails made from last
 
 module _ {S : Type 0} (Looks : S → S → Type 0) where
@@ -22,7 +22,7 @@ module _ {S : Type 0} (Looks : S → S → Type 0) where
   pub record LooksUntil (Last : S → S → Type 0) (first last : S) : Type 0 where
     pub count : ℕ
     pub from : S
-    pub looks : Turns (λ _. Looks) count first from
+    pub looks : LoopTurns (λ _. Looks) count first from
     pub ends : Last from last
 
 -- with a handle that goes from turn to turn
@@ -37,7 +37,7 @@ module _ {P S : Type 0} (Passing : ℕ → P → S → P → S → Type 0) where
     pub made : ℕ
     pub fewer : made < most
     pub from : P × S
-    pub turns : Turns Passes made first from
+    pub turns : LoopTurns Passes made first from
     pub fails : Fails made from.0 from.1 last
 
 -- with handles that are had one after the other
@@ -61,5 +61,5 @@ module _ {A : Type 0} (Gives : ℕ → FrameSeen A → FrameSeen A → HandleSee
     pub made : ℕ
     pub fewer : made < most
     pub from : FrameSeen A
-    pub turns : Turns Fills made first (from, last.1)
+    pub turns : LoopTurns Fills made first (from, last.1)
     pub lacks : Lacks made from last.0 ⊎ GivesInVain made from last.0

@@ -74,7 +74,7 @@ fn serve_whole<R: Wait, J, D: Duty<R, J>>(
     let answer = duty.serve(rt, &mut mutator, job);
     Ended {
         answer,
-        retired: mutator.retire(rt),
+        retired: mutator.settle_and_leave(rt),
     }
 }
 

@@ -4,15 +4,15 @@ ghost use Rattle.std.specs.Prelude.{⊤, ◌≡◌, ◌+◌, ℕ, IfSome, IfNone
 ghost use Rattle.brc_count.specs.Frames.{FrameSeen, HandleSeen, IsUnlocked, Owns};
 ghost use Rattle.brc_count.specs.Owned.{Keeps, Gains};
 ghost use Rattle.brc_handles.specs.Handles.{filled, IsApart, OwnsEach};
-ghost use Rattle.brc_loops.specs.Turns.{Turns, Fills, LacksIn};
+ghost use Rattle.brc_loops.specs.Turns.{LoopTurns, Fills, LacksIn};
 
-use brc_count::biased::Home;
+use brc_count::biased::HasTable;
 use brc_count::{Frame, Handle};
 use brc_handles::Handles;
 use std::alloc::Allocator;
 
 /// Where handles come from.
-pub trait Source<H: Home<A>, A: Allocator> {
+pub trait Source<H: HasTable<A>, A: Allocator> {
     // What it does to the frame where it gives this handle, after so many before, and where it has none. A source that
     // leaves it out says nothing.
     ghost gives: { Self → ℕ → FrameSeen A → FrameSeen A → HandleSeen → Type 0 } = { λ _ _ _ _ _. ⊤ };
@@ -31,7 +31,7 @@ pub trait Source<H: Home<A>, A: Allocator> {
 
 /// So many handles more, each in a new place after all others. None where the source has none, or a place can't be had:
 /// those before it are there. The source is asked once for each.
-pub fn fill<S: Source<H, A>, H: Home<A>, A: Allocator>(
+pub fn fill<S: Source<H, A>, H: HasTable<A>, A: Allocator>(
     source: &S,
     frame: &mut Frame<H, A>,
     handles: &mut Handles<A>,
@@ -40,7 +40,7 @@ pub fn fill<S: Source<H, A>, H: Home<A>, A: Allocator>(
     requires each { OwnsEach frame.old handles.old }
     requires unlocked { IsUnlocked frame.old }
 
-    ensures gives { IfSome result (λ _. Turns (Fills (S.gives source.now)) count (frame.old, handles.old)
+    ensures gives { IfSome result (λ _. LoopTurns (Fills (S.gives source.now)) count (frame.old, handles.old)
         (frame.new, handles.new)) }
     ensures lacks { IfNone result (LacksIn (S.gives source.now) (S.lacks source.now) count (frame.old, handles.old)
         (frame.new, handles.new)) }

@@ -3,15 +3,15 @@
 ghost use Rattle.std.specs.Prelude.{⊤, ℕ, IfSome, IfNone};
 ghost use Rattle.brc_count.specs.Frames.{FrameSeen, HandleSeen, IsUnlocked, Owns};
 ghost use Rattle.brc_count.specs.Owned.{Loses, Trades};
-ghost use Rattle.brc_loops.specs.Turns.{Turns, Passes, FailsPassing};
+ghost use Rattle.brc_loops.specs.Turns.{LoopTurns, Passes, FailsPassing};
 
 use brc_count::Frame;
-use brc_count::biased::Home;
+use brc_count::biased::HasTable;
 use std::alloc::Allocator;
 
 /// What has one handle, and gives it for another at each turn. It is used up by a turn, and comes back: where a method
 /// takes a handle beside `&self`, each `impl` would have to repeat these clauses.
-pub trait Passing<H: Home<A>, A: Allocator>: Sized {
+pub trait Passing<H: HasTable<A>, A: Allocator>: Sized {
     // the handle that it has
     ghost held: { Self → HandleSeen };
 
@@ -40,7 +40,7 @@ pub trait Passing<H: Home<A>, A: Allocator>: Sized {
 
 /// So many turns; None where one failed, which ends the loop. No turn is left out, and none is made besides.
 #[inline(always)]
-pub fn pass_on<P: Passing<H, A>, H: Home<A>, A: Allocator>(
+pub fn pass_on<P: Passing<H, A>, H: HasTable<A>, A: Allocator>(
     passing: P,
     frame: &mut Frame<H, A>,
     n: u64,
@@ -49,7 +49,7 @@ pub fn pass_on<P: Passing<H, A>, H: Home<A>, A: Allocator>(
     requires owned { Owns frame.old (P.held passing) }
     requires unlocked { IsUnlocked frame.old }
 
-    ensures turns { IfSome result (λ after. Turns (Passes P.turns) n (passing, frame.old) (after, frame.new)) }
+    ensures turns { IfSome result (λ after. LoopTurns (Passes P.turns) n (passing, frame.old) (after, frame.new)) }
     ensures fails { IfNone result (FailsPassing P.turns P.fails n (passing, frame.old) frame.new) }
     ensures trades { IfSome result (λ after. Trades frame.old frame.new (P.held passing) (P.held after)) }
     ensures ready { IfSome result (λ after. P.ready after frame.new) }

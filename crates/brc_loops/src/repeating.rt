@@ -3,14 +3,14 @@
 ghost use Rattle.std.specs.Prelude.{⊤, ◌≡◌, ℕ, IfSome, IfNone};
 ghost use Rattle.brc_count.specs.Frames.{FrameSeen, IsUnlocked};
 ghost use Rattle.brc_count.specs.Owned.{Keeps};
-ghost use Rattle.brc_loops.specs.Turns.{Turns, FailsIn};
+ghost use Rattle.brc_loops.specs.Turns.{LoopTurns, FailsIn};
 
 use brc_count::Frame;
-use brc_count::biased::Home;
+use brc_count::biased::HasTable;
 use std::alloc::Allocator;
 
 /// What is done with a frame, which has the same handles before and afterwards.
-pub trait Task<H: Home<A>, A: Allocator> {
+pub trait Task<H: HasTable<A>, A: Allocator> {
     // what it needs of the frame
     ghost ready: { Self → FrameSeen A → Type 0 };
 
@@ -36,7 +36,7 @@ pub trait Task<H: Home<A>, A: Allocator> {
 /// The task is done so many times; None where it failed, which ends the loop. No turn is left out, and none is made
 /// besides.
 #[inline(always)]
-pub fn repeat<T: Task<H, A>, H: Home<A>, A: Allocator>(
+pub fn repeat<T: Task<H, A>, H: HasTable<A>, A: Allocator>(
     task: &T,
     frame: &mut Frame<H, A>,
     n: u64,
@@ -44,7 +44,7 @@ pub fn repeat<T: Task<H, A>, H: Home<A>, A: Allocator>(
     requires ready { T.ready task.now frame.old }
     requires unlocked { IsUnlocked frame.old }
 
-    ensures done { IfSome result (λ _. Turns (T.done task.now) n frame.old frame.new) }
+    ensures done { IfSome result (λ _. LoopTurns (T.done task.now) n frame.old frame.new) }
     ensures fails { IfNone result (FailsIn (T.done task.now) (T.fails task.now) n frame.old frame.new) }
     ensures keeps { Keeps frame.old frame.new }
     ensures unlocked { IsUnlocked frame.new }
@@ -59,7 +59,7 @@ pub fn repeat<T: Task<H, A>, H: Home<A>, A: Allocator>(
 #[derive(Clone, Copy, Debug, PartialEq, Eq)]
 pub struct Nothing;
 
-impl<H: Home<A>, A: Allocator> Task<H, A> for Nothing {
+impl<H: HasTable<A>, A: Allocator> Task<H, A> for Nothing {
     ghost ready = { λ _ _. ⊤ };
 
     ghost done = { λ _ _ old new. new ≡ old };

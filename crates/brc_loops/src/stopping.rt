@@ -12,7 +12,7 @@ ghost use Rattle.brc_lists.specs.Calls.{MailboxReceive};
 ghost use Rattle.brc_dicts.specs.Calls.{DictFind};
 ghost use Rattle.brc_loops.specs.Stopping.{IfGot, UnlessGot, IfStopped, IfRefused, LastTry};
 
-use brc_count::biased::Home;
+use brc_count::biased::HasTable;
 use brc_count::{Frame, Handle};
 use brc_dicts::try_dict_find;
 use brc_lists::try_recv;
@@ -55,7 +55,7 @@ pub enum Waited<A: Allocator> {
 
 /// Between two tries: what others asked of this thread is dealt with, dead blocks are taken apart, at most so many
 /// turns, and other threads run.
-fn pauses<H: Home<A>, A: Allocator>(frame: &mut Frame<H, A>, budget: usize)
+fn pauses<H: HasTable<A>, A: Allocator>(frame: &mut Frame<H, A>, budget: usize)
     requires unlocked { IsUnlocked frame.old }
     ensures keeps { Keeps frame.old frame.new }
     ensures unlocked { IsUnlocked frame.new }
@@ -68,7 +68,7 @@ fn pauses<H: Home<A>, A: Allocator>(frame: &mut Frame<H, A>, budget: usize)
 /// The first letter of the mailbox, once one is there. Stopped if the stop had said so and the try after that found no
 /// letter. Refused by WrongKind, FrameFull or OutOfMemory, in this order. While another thread has the mailbox locked
 /// it tries again. Between two tries it makes at most so many turns of work.
-pub fn recv_until<S: Stop, R: Wait, H: Home<A>, A: Allocator>(
+pub fn recv_until<S: Stop, R: Wait, H: HasTable<A>, A: Allocator>(
     rt: &R,
     frame: &mut Frame<H, A>,
     mailbox: &Handle<A>,
@@ -110,7 +110,7 @@ pub fn recv_until<S: Stop, R: Wait, H: Home<A>, A: Allocator>(
 /// the stop had said so and the try after that found no such key. Refused by WrongKind, FrameFull or OutOfMemory, in
 /// this order. While another thread has the dictionary locked it tries again. Between two tries it makes at most so many
 /// turns of work.
-pub fn fetch_until<S: Stop, R: Wait, H: Home<A>, A: Allocator>(
+pub fn fetch_until<S: Stop, R: Wait, H: HasTable<A>, A: Allocator>(
     rt: &R,
     frame: &mut Frame<H, A>,
     dict: &Handle<A>,

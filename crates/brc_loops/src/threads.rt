@@ -78,7 +78,7 @@ fn live_whole<R: Wait, L: Life<R>>(
     let answer = life.live(rt, &mut mutator);
     Ended {
         answer,
-        retired: mutator.retire(rt),
+        retired: mutator.settle_and_leave(rt),
     }
 }
 
@@ -121,7 +121,7 @@ pub(crate) fn end_one(
     ensures root { root.new.table ≡ root.old.table }
     ensures gathered { gatherings root.new.view ≡ gatherings root.old.view + 1 }
 {
-    let retired = resting.wake(heap).retire(rt);
+    let retired = resting.wake(heap).settle_and_leave(rt);
     root.gather(heap, retired);
 }
 

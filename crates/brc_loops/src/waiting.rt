@@ -8,7 +8,7 @@ ghost use Rattle.brc_loops.specs.declared.waiting.Look.TheVariants as looks;
 ghost use Rattle.brc_loops.specs.Turns.{LooksUntil};
 
 use brc_count::Frame;
-use brc_count::biased::Home;
+use brc_count::biased::HasTable;
 use std::alloc::Allocator;
 use std::sync::Wait;
 use std::thread;
@@ -25,7 +25,7 @@ pub enum Look {
 }
 
 /// What is waited for.
-pub trait Awaited<H: Home<A>, A: Allocator> {
+pub trait Awaited<H: HasTable<A>, A: Allocator> {
     // what a look needs of the frame
     ghost ready: { Self → FrameSeen A → Type 0 };
 
@@ -48,7 +48,7 @@ pub trait Awaited<H: Home<A>, A: Allocator> {
 /// Looks until it is there, and lets other threads run between two looks; None where it won't come. The last look alone
 /// said so.
 #[inline(always)]
-pub fn wait_for<W: Awaited<H, A>, R: Wait, H: Home<A>, A: Allocator>(
+pub fn wait_for<W: Awaited<H, A>, R: Wait, H: HasTable<A>, A: Allocator>(
     rt: &R,
     awaited: &W,
     frame: &mut Frame<H, A>,

@@ -5,7 +5,7 @@ use Rattle.std.proofs.Common.{Err, IfOk, IfSome}
 use Rattle.std.proofs.lemmas.List.Elements.{All-nil}
 use Rattle.brc_words.specs.declared.fault.Fault.{Fault}
 use Rattle.brc_script.specs.declared.instruction.Instruction.{Instruction}
-use Rattle.brc_script.specs.declared.instruction.Instruction.TheVariants as does
+use Rattle.brc_script.specs.declared.instruction.Instruction.TheVariants as instructions
 use Rattle.brc_meaning.specs.declared.reference.Reference.{Reference}
 use Rattle.brc_meaning.specs.declared.reference.Reference.TheVariants as references
 use Rattle.brc_meaning.specs.declared.call.Call.TheVariants as calls
@@ -67,7 +67,7 @@ module _ {A : Type 0} where
         with_held value (λ given. called (call given) container value s)
         (λ given here. owes.call (call given) container value (λ object each. keeps given object here each))
 
-    kept_sum : (to first second : ℕ) → IfOk (after (does.Add to first second) s) Q
+    kept_sum : (to first second : ℕ) → IfOk (after (instructions.Add to first second) s) Q
     kept_sum to first second =
         let summed : ℤ → Result (State A) Fault = λ sum. Ok (with_integer sum to s) in
         let added : ℤ → ℤ → Result (State A) Fault = λ one other. integer_sum one other >>= summed in
@@ -81,7 +81,7 @@ module _ {A : Type 0} where
         (λ number. with_any (asked number_in other s.objects) (added number)
         (λ more. with_any (integer_sum number more) summed (λ sum. kept_integer to sum)))))
 
-    kept_print : (from : ℕ) → IfOk (after (does.Print from) s) Q
+    kept_print : (from : ℕ) → IfOk (after (instructions.Print from) s) Q
     kept_print from =
         let next : List ℕ → Result (State A) Fault =
         λ printed. Ok (record { registers = s.registers; objects = s.objects; printed = printed }) in
@@ -96,46 +96,46 @@ module _ {A : Type 0} where
 
     -- each instruction keeps it
     pub kept_after : (instruction : Instruction A) → IfOk (after instruction s) Q
-    kept_after (does.Int to number) = kept_integer to number
-    kept_after (does.Text to text) = owes.object to (objects.Text text) tt
-    kept_after (does.List to) = owes.object to (objects.List []) (All-nil P)
-    kept_after (does.Dict to) = owes.object to (objects.Dict []) (All-nil (λ pair. P pair.1))
-    kept_after (does.Mailbox to) = owes.object to (objects.Mailbox []) (All-nil P)
-    kept_after (does.Copy to from) =
+    kept_after (instructions.Int to number) = kept_integer to number
+    kept_after (instructions.Text to text) = owes.object to (objects.Text text) tt
+    kept_after (instructions.List to) = owes.object to (objects.List []) (All-nil P)
+    kept_after (instructions.Dict to) = owes.object to (objects.Dict []) (All-nil (λ pair. P pair.1))
+    kept_after (instructions.Mailbox to) = owes.object to (objects.Mailbox []) (All-nil P)
+    kept_after (instructions.Copy to from) =
         with_held from (λ reference. Ok (with_register to (Some reference) s))
         (λ reference here. owes.register to (Some reference) here)
-    kept_after (does.Drop from) =
+    kept_after (instructions.Drop from) =
         with_held from (λ reference. Ok (with_register from None s)) (λ reference here. owes.register from None tt)
-    kept_after (does.Push list value) =
+    kept_after (instructions.Push list value) =
         giving list value (λ given. object_call (calls.Push given))
         (λ given object here each. object_kept P (calls.Push given) object here each)
-    kept_after (does.Pop to list) =
+    kept_after (instructions.Pop to list) =
         owes.call (object_call calls.Pop) list to (λ object each. object_kept P calls.Pop object tt each)
-    kept_after (does.Get to list index) =
+    kept_after (instructions.Get to list index) =
         owes.call (object_call (calls.Get index)) list to
         (λ object each. object_kept P (calls.Get index) object tt each)
-    kept_after (does.Set list index value) =
+    kept_after (instructions.Set list index value) =
         giving list value (λ given. object_call (calls.Set index given))
         (λ given object here each. object_kept P (calls.Set index given) object here each)
-    kept_after (does.Len to container) =
+    kept_after (instructions.Len to container) =
         with_any (held container s.registers)
         (λ reference. asked entries_in reference s.objects >>= λ entries. Ok (with_integer (pos entries) to s))
         (λ reference. with_any (asked entries_in reference s.objects) (λ entries. Ok (with_integer (pos entries) to s))
         (λ entries. kept_integer to (pos entries)))
-    kept_after (does.Put dict key value) =
+    kept_after (instructions.Put dict key value) =
         giving dict value (λ given. keyed_call key (keyed.Put given))
         (λ given object here each. keyed_kept P key (keyed.Put given) object here each)
-    kept_after (does.Find to dict key) =
+    kept_after (instructions.Find to dict key) =
         owes.call (keyed_call key keyed.Find) dict to (λ object each. keyed_kept P key keyed.Find object tt each)
-    kept_after (does.Delete to dict key) =
+    kept_after (instructions.Delete to dict key) =
         owes.call (keyed_call key keyed.Delete) dict to (λ object each. keyed_kept P key keyed.Delete object tt each)
-    kept_after (does.Send mailbox value) =
+    kept_after (instructions.Send mailbox value) =
         giving mailbox value (λ given. object_call (calls.Send given))
         (λ given object here each. object_kept P (calls.Send given) object here each)
-    kept_after (does.Receive to mailbox) =
+    kept_after (instructions.Receive to mailbox) =
         owes.call (object_call calls.Receive) mailbox to (λ object each. object_kept P calls.Receive object tt each)
-    kept_after (does.Add to first second) = kept_sum to first second
-    kept_after (does.Print from) = kept_print from
-    kept_after (does.Share name value) = owes.same
-    kept_after (does.Fetch to name) = owes.same
-    kept_after (does.Unshare to name) = owes.same
+    kept_after (instructions.Add to first second) = kept_sum to first second
+    kept_after (instructions.Print from) = kept_print from
+    kept_after (instructions.Share name value) = owes.same
+    kept_after (instructions.Fetch to name) = owes.same
+    kept_after (instructions.Unshare to name) = owes.same

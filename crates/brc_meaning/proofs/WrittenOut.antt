@@ -8,7 +8,8 @@ use Rattle.brc_script.specs.Instructions.{NumberedLine}
 use Rattle.brc_meaning.specs.declared.state.State.{State}
 use Rattle.brc_meaning.specs.Outcomes.{◌>>=◌}
 use Rattle.brc_meaning.specs.States.{start}
-use Rattle.brc_meaning.specs.Sections.{Stop, line_after, lines_after, times_after, pieces_after, written_out, told}
+use Rattle.brc_meaning.specs.Sections.{SectionStop, line_after, lines_after, times_after, pieces_after, written_out}
+use Rattle.brc_meaning.specs.Sections.{told}
 use Rattle.brc_meaning.specs.Sections.{meaning}
 
 module _ {X Y Z E : Type 0} where
@@ -49,7 +50,7 @@ module _ {A : Type 0} where
   pieces_written_out (pieces.Repeat times lines ∷ later) s =
       bind_same (times_after times lines s) (λ next. pieces_after later next)
       (λ next. lines_after (written_out later) next) (λ next. pieces_written_out later next)
-      ∙ ap (λ (r : Result (State A) (Stop A)). r >>= λ next. lines_after (written_out later) next)
+      ∙ ap (λ (r : Result (State A) (SectionStop A)). r >>= λ next. lines_after (written_out later) next)
       (times_written_out times lines s)
       ∙ lines_append (repeat times lines) (written_out later) s
 

@@ -16,14 +16,14 @@ IsOwn fault = ¬ (fault ≡ faults.OutOfMemory)
 
 module _ {R S : Type 0} where
   -- the call answered and left what is meant; or it answered the fault that is meant, and changed nothing
-  abbrev pub Goes : Result R Fault → S → S → Result (R × S) Fault → Type 0
-  Goes answer old new meant = MatchResult answer
+  abbrev pub CallsAsMeant : Result R Fault → S → S → Result (R × S) Fault → Type 0
+  CallsAsMeant answer old new meant = MatchResult answer
       (λ value. meant ≡ Ok (value, new))
       (λ fault. IsOwn fault → (meant ≡ Err fault) × (new ≡ old))
 
 module _ {S : Type 0} where
   -- the step led to what is meant; or it answered the fault that is meant, and changed nothing
-  abbrev pub Steps : Result (Unit {0}) Fault → S → S → Result S Fault → Type 0
-  Steps answer old new meant = MatchResult answer
+  abbrev pub StepsAsMeant : Result (Unit {0}) Fault → S → S → Result S Fault → Type 0
+  StepsAsMeant answer old new meant = MatchResult answer
       (λ _. meant ≡ Ok new)
       (λ fault. IsOwn fault → (meant ≡ Err fault) × (new ≡ old))

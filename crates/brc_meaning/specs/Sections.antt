@@ -22,32 +22,32 @@ pub record Meaning : Type 0 where
   pub made : ℕ
 
 -- where a section ended before its last line: the first fault, the line that met it, and what was there
-pub record Stop (A : Type 0) : Type 0 where
+pub record SectionStop (A : Type 0) : Type 0 where
   pub state : State A
   pub fault : Fault
   pub line : ℕ
 
 module _ {A : Type 0} where
   -- a line whose instruction is refused changes nothing, and no line runs after it
-  abbrev pub line_after : NumberedLine A → State A → Result (State A) (Stop A)
+  abbrev pub line_after : NumberedLine A → State A → Result (State A) (SectionStop A)
   line_after line s = elim (after line.instruction s) [
     | Ok next ↦ Ok next
     | Err fault ↦ Err (record { state = s; fault = fault; line = line.number })
   ]
 
-  abbrev pub lines_after : List (NumberedLine A) → State A → Result (State A) (Stop A)
+  abbrev pub lines_after : List (NumberedLine A) → State A → Result (State A) (SectionStop A)
   lines_after [] s = Ok s
   lines_after (line ∷ lines) s = line_after line s >>= λ next. lines_after lines next
 
-  abbrev pub times_after : ℕ → List (NumberedLine A) → State A → Result (State A) (Stop A)
+  abbrev pub times_after : ℕ → List (NumberedLine A) → State A → Result (State A) (SectionStop A)
   times_after zero lines s = Ok s
   times_after (suc times) lines s = lines_after lines s >>= λ next. times_after times lines next
 
-  abbrev pub piece_after : Piece A → State A → Result (State A) (Stop A)
+  abbrev pub piece_after : Piece A → State A → Result (State A) (SectionStop A)
   piece_after (pieces.One line) s = line_after line s
   piece_after (pieces.Repeat times lines) s = times_after times lines s
 
-  abbrev pub pieces_after : List (Piece A) → State A → Result (State A) (Stop A)
+  abbrev pub pieces_after : List (Piece A) → State A → Result (State A) (SectionStop A)
   pieces_after [] s = Ok s
   pieces_after (piece ∷ later) s = piece_after piece s >>= λ next. pieces_after later next
 
@@ -58,12 +58,12 @@ module _ {A : Type 0} where
   written_out (pieces.Repeat times lines ∷ later) = repeat times lines ++ written_out later
 
   -- the lines were run to what is meant; or to the fault that is meant, and its line
-  abbrev pub Ends : Result (Unit {0}) Halt → State A → Result (State A) (Stop A) → Type 0
-  Ends answer new meant = MatchResult answer
+  abbrev pub EndsAsMeant : Result (Unit {0}) Halt → State A → Result (State A) (SectionStop A) → Type 0
+  EndsAsMeant answer new meant = MatchResult answer
       (λ _. meant ≡ Ok new)
       (λ halt. IsOwn halt.fault → meant ≡ Err (record { state = new; fault = halt.fault; line = halt.line }))
 
-  abbrev pub told : Result (State A) (Stop A) → Meaning
+  abbrev pub told : Result (State A) (SectionStop A) → Meaning
   told (Ok s) = record { lines = s.printed; fault = None; made = length s.objects }
   told (Err stop) = record {
     lines = stop.state.printed;

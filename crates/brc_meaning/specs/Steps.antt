@@ -4,7 +4,7 @@ use Rattle.std.specs.Prelude.{ℤ, pos, ◌+ℤ◌, [], if◌then◌else◌, Som
 use Rattle.brc_words.specs.declared.fault.Fault.{Fault}
 use Rattle.brc_words.specs.declared.fault.Fault.TheVariants as faults
 use Rattle.brc_script.specs.declared.instruction.Instruction.{Instruction}
-use Rattle.brc_script.specs.declared.instruction.Instruction.TheVariants as does
+use Rattle.brc_script.specs.declared.instruction.Instruction.TheVariants as instructions
 use Rattle.brc_script.specs.Instructions.{is_integer}
 use Rattle.brc_meaning.specs.declared.call.Call.TheVariants as calls
 use Rattle.brc_meaning.specs.declared.call.KeyedCall.TheVariants as keyed
@@ -22,52 +22,52 @@ integer_sum first second =
 module _ {A : Type 0} where
   -- the state after an instruction, or the fault by which it is refused
   abbrev pub after : Instruction A → State A → Result (State A) Fault
-  after (does.Int to number) s = Ok (with_integer number to s)
-  after (does.Text to text) s = Ok (with_object (objects.Text text) to s)
-  after (does.List to) s = Ok (with_object (objects.List []) to s)
-  after (does.Dict to) s = Ok (with_object (objects.Dict []) to s)
-  after (does.Mailbox to) s = Ok (with_object (objects.Mailbox []) to s)
-  after (does.Copy to from) s = do
+  after (instructions.Int to number) s = Ok (with_integer number to s)
+  after (instructions.Text to text) s = Ok (with_object (objects.Text text) to s)
+  after (instructions.List to) s = Ok (with_object (objects.List []) to s)
+  after (instructions.Dict to) s = Ok (with_object (objects.Dict []) to s)
+  after (instructions.Mailbox to) s = Ok (with_object (objects.Mailbox []) to s)
+  after (instructions.Copy to from) s = do
     reference ← held from s.registers
     Ok (with_register to (Some reference) s)
-  after (does.Drop from) s = do
+  after (instructions.Drop from) s = do
     reference ← held from s.registers
     Ok (with_register from None s)
   -- what is moved into a container leaves its register
-  after (does.Push list value) s = do
+  after (instructions.Push list value) s = do
     given ← held value s.registers
     called (object_call (calls.Push given)) list value s
-  after (does.Pop to list) s = called (object_call calls.Pop) list to s
-  after (does.Get to list index) s = called (object_call (calls.Get index)) list to s
-  after (does.Set list index value) s = do
+  after (instructions.Pop to list) s = called (object_call calls.Pop) list to s
+  after (instructions.Get to list index) s = called (object_call (calls.Get index)) list to s
+  after (instructions.Set list index value) s = do
     given ← held value s.registers
     called (object_call (calls.Set index given)) list value s
-  after (does.Len to container) s = do
+  after (instructions.Len to container) s = do
     reference ← held container s.registers
     entries ← asked entries_in reference s.objects
     Ok (with_integer (pos entries) to s)
-  after (does.Put dict key value) s = do
+  after (instructions.Put dict key value) s = do
     given ← held value s.registers
     called (keyed_call key (keyed.Put given)) dict value s
-  after (does.Find to dict key) s = called (keyed_call key keyed.Find) dict to s
-  after (does.Delete to dict key) s = called (keyed_call key keyed.Delete) dict to s
+  after (instructions.Find to dict key) s = called (keyed_call key keyed.Find) dict to s
+  after (instructions.Delete to dict key) s = called (keyed_call key keyed.Delete) dict to s
   -- no other section can send, so a mailbox without entries is no place to receive from
-  after (does.Send mailbox value) s = do
+  after (instructions.Send mailbox value) s = do
     given ← held value s.registers
     called (object_call (calls.Send given)) mailbox value s
-  after (does.Receive to mailbox) s = called (object_call calls.Receive) mailbox to s
-  after (does.Add to first second) s = do
+  after (instructions.Receive to mailbox) s = called (object_call calls.Receive) mailbox to s
+  after (instructions.Add to first second) s = do
     one ← held first s.registers
     other ← held second s.registers
     number ← asked number_in one s.objects
     more ← asked number_in other s.objects
     sum ← integer_sum number more
     Ok (with_integer sum to s)
-  after (does.Print from) s = do
+  after (instructions.Print from) s = do
     reference ← held from s.registers
     printed ← printing reference s.objects s.printed
     Ok (record { registers = s.registers; objects = s.objects; printed = printed })
   -- these don't stand in a private section
-  after (does.Share name value) s = Ok s
-  after (does.Fetch to name) s = Ok s
-  after (does.Unshare to name) s = Ok s
+  after (instructions.Share name value) s = Ok s
+  after (instructions.Fetch to name) s = Ok s
+  after (instructions.Unshare to name) s = Ok s

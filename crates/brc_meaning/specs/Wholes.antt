@@ -6,16 +6,16 @@ use Rattle.brc_meaning.specs.declared.reference.Reference.TheVariants as referen
 use Rattle.brc_meaning.specs.declared.object.Object.{Object}
 use Rattle.brc_meaning.specs.declared.object.Object.TheVariants as objects
 use Rattle.brc_meaning.specs.declared.state.State.{State}
-use Rattle.brc_meaning.specs.Sections.{Stop}
+use Rattle.brc_meaning.specs.Sections.{SectionStop}
 
 -- it means an integer that is there always, or one of so many objects
-abbrev pub IsThere : ℕ → Reference → Type 0
-IsThere made (references.Small number) = Unit {0}
-IsThere made (references.Object place) = place < made
+abbrev pub RefersWithin : ℕ → Reference → Type 0
+RefersWithin made (references.Small number) = Unit {0}
+RefersWithin made (references.Object place) = place < made
 
 -- what a register holds, if it holds something, is there
-abbrev pub IsHeld : ℕ → Option Reference → Type 0
-IsHeld made held = IfSome held (IsThere made)
+abbrev pub RegisterIsWhole : ℕ → Option Reference → Type 0
+RegisterIsWhole made held = IfSome held (RefersWithin made)
 
 module _ {A : Type 0} where
   -- it is so of each of an object's references
@@ -26,14 +26,14 @@ module _ {A : Type 0} where
   Each P _ = Unit {0}
 
   -- what an object refers to is there
-  abbrev pub IsSound : ℕ → Object A → Type 0
-  IsSound made object = Each (IsThere made) object
+  abbrev pub ObjectIsWhole : ℕ → Object A → Type 0
+  ObjectIsWhole made object = Each (RefersWithin made) object
 
   pub record IsWhole (s : State A) : Type 0 where
-    pub held : All (IsHeld (length s.objects)) s.registers
-    pub sound : All (IsSound (length s.objects)) s.objects
+    pub held : All (RegisterIsWhole (length s.objects)) s.registers
+    pub sound : All (ObjectIsWhole (length s.objects)) s.objects
 
   -- where lines ended, at the last of them or at the first fault
-  abbrev pub ended : Result (State A) (Stop A) → State A
+  abbrev pub ended : Result (State A) (SectionStop A) → State A
   ended (Ok s) = s
   ended (Err stop) = stop.state

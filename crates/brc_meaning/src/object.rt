@@ -5,7 +5,7 @@ ghost use Rattle.brc_words.specs.declared.fault.Fault.TheVariants.{OutOfMemory};
 ghost use Rattle.brc_words.specs.declared.limits.TheConstants.{MOST_ENTRIES};
 ghost use Rattle.brc_meaning.specs.Objects.{list_call, queue_call, dict_call, object_call, keyed_call, entries_in};
 ghost use Rattle.brc_meaning.specs.Objects.{number_in, text_in};
-ghost use Rattle.brc_meaning.specs.Outcomes.{Goes};
+ghost use Rattle.brc_meaning.specs.Outcomes.{CallsAsMeant};
 
 use crate::call::{Call, KeyedCall};
 use crate::printed::Printed;
@@ -28,7 +28,7 @@ fn call_list<A: Allocator>(
     entries: &mut PlainList<Reference, A>,
     call: Call,
 ) -> Result<Option<Reference>, Fault>
-    ensures { Goes result entries.old entries.new (list_call call entries.old) }
+    ensures { CallsAsMeant result entries.old entries.new (list_call call entries.old) }
 {
     match call {
         Call::Push(value) => match entries.push(value) {
@@ -55,7 +55,7 @@ fn call_queue<A: Allocator>(
     entries: &mut PlainQueue<Reference, A>,
     call: Call,
 ) -> Result<Option<Reference>, Fault>
-    ensures { Goes result entries.old entries.new (queue_call call entries.old) }
+    ensures { CallsAsMeant result entries.old entries.new (queue_call call entries.old) }
 {
     match call {
         Call::Send(value) => match entries.send(value) {
@@ -76,7 +76,7 @@ fn call_dict<A: Allocator>(
     key: &Key<A>,
     call: KeyedCall,
 ) -> Result<Option<Reference>, Fault>
-    ensures { Goes result pairs.old pairs.new (dict_call key.now call pairs.old) }
+    ensures { CallsAsMeant result pairs.old pairs.new (dict_call key.now call pairs.old) }
 {
     match call {
         KeyedCall::Put(value) => {
@@ -100,7 +100,7 @@ fn call_dict<A: Allocator>(
 impl<A: Allocator> Object<A> {
     /// A call on a list or a mailbox: what it answers is for a register, which is emptied where that is nothing.
     pub(crate) fn call(&mut self, call: Call) -> Result<Option<Reference>, Fault>
-        ensures { Goes result self.old self.new (object_call call self.old) }
+        ensures { CallsAsMeant result self.old self.new (object_call call self.old) }
     {
         match self {
             Object::List(entries) => call_list(entries, call),
@@ -116,7 +116,7 @@ impl<A: Allocator> Object<A> {
         key: &Key<A>,
         call: KeyedCall,
     ) -> Result<Option<Reference>, Fault>
-        ensures { Goes result self.old self.new (keyed_call key.now call self.old) }
+        ensures { CallsAsMeant result self.old self.new (keyed_call key.now call self.old) }
     {
         match self {
             Object::Dict(pairs) => call_dict(alloc, pairs, key, call),

@@ -6,7 +6,7 @@ ghost use Rattle.brc_words.specs.declared.limits.TheConstants.{MOST_ENTRIES};
 ghost use Rattle.brc_meaning.specs.declared.reference.Reference.TheVariants.{Object as AnObject};
 ghost use Rattle.brc_meaning.specs.Objects.{object_call, keyed_call, entries_in, number_in};
 ghost use Rattle.brc_meaning.specs.States.{calling, asked, printing};
-ghost use Rattle.brc_meaning.specs.Outcomes.{Goes, Steps};
+ghost use Rattle.brc_meaning.specs.Outcomes.{CallsAsMeant, StepsAsMeant};
 
 use crate::call::{Call, KeyedCall};
 use crate::object::Object;
@@ -64,7 +64,7 @@ impl<A: Allocator> Objects<A> {
         reference: Reference,
         call: Call,
     ) -> Result<Option<Reference>, Fault>
-        ensures { Goes result self.old self.new (calling (object_call call) reference self.old) }
+        ensures { CallsAsMeant result self.old self.new (calling (object_call call) reference self.old) }
     {
         let Reference::Object(place) = reference else {
             return Err(Fault::WrongKind);
@@ -84,7 +84,7 @@ impl<A: Allocator> Objects<A> {
         key: &Key<A>,
         call: KeyedCall,
     ) -> Result<Option<Reference>, Fault>
-        ensures { Goes result self.old self.new (calling (keyed_call key.now call) reference self.old) }
+        ensures { CallsAsMeant result self.old self.new (calling (keyed_call key.now call) reference self.old) }
     {
         let Reference::Object(place) = reference else {
             return Err(Fault::WrongKind);
@@ -125,7 +125,7 @@ impl<A: Allocator> Objects<A> {
 
     /// Prints the line of the object that is meant.
     pub(crate) fn print(&self, reference: Reference, printed: &mut Printed<A>) -> Result<(), Fault>
-        ensures { Steps result printed.old printed.new (printing reference self.now printed.old) }
+        ensures { StepsAsMeant result printed.old printed.new (printing reference self.now printed.old) }
     {
         match reference {
             Reference::Small(number) => printed.add_integer(number),

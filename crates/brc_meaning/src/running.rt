@@ -1,7 +1,8 @@
 //! A section, line by line.
 
 ghost use Rattle.std.specs.Prelude.{◌≡◌};
-ghost use Rattle.brc_meaning.specs.Sections.{line_after, lines_after, times_after, piece_after, pieces_after, Ends};
+ghost use Rattle.brc_meaning.specs.Sections.{line_after, lines_after, times_after, piece_after, pieces_after};
+ghost use Rattle.brc_meaning.specs.Sections.{EndsAsMeant};
 
 use crate::state::State;
 use crate::stepping::step;
@@ -17,7 +18,7 @@ pub struct Halt {
 }
 
 fn run_line<A: Allocator + Copy>(alloc: A, state: &mut State<A>, line: &Line<A>) -> Result<(), Halt>
-    ensures { Ends result state.new (line_after line.now state.old) }
+    ensures { EndsAsMeant result state.new (line_after line.now state.old) }
 {
     match step(alloc, state, line.instruction()) {
         Ok(()) => Ok(()),
@@ -33,7 +34,7 @@ fn run_lines<A: Allocator + Copy>(
     state: &mut State<A>,
     lines: &[Line<A>],
 ) -> Result<(), Halt>
-    ensures { Ends result state.new (lines_after lines.now state.old) }
+    ensures { EndsAsMeant result state.new (lines_after lines.now state.old) }
 {
     for line in lines {
         run_line(alloc, state, line)?;
@@ -47,7 +48,7 @@ fn run_times<A: Allocator + Copy>(
     times: u32,
     lines: &[Line<A>],
 ) -> Result<(), Halt>
-    ensures { Ends result state.new (times_after times lines.now state.old) }
+    ensures { EndsAsMeant result state.new (times_after times lines.now state.old) }
 {
     for _ in 0..times {
         run_lines(alloc, state, lines)?;
@@ -60,7 +61,7 @@ fn run_piece<A: Allocator + Copy>(
     state: &mut State<A>,
     piece: &Piece<A>,
 ) -> Result<(), Halt>
-    ensures { Ends result state.new (piece_after piece.now state.old) }
+    ensures { EndsAsMeant result state.new (piece_after piece.now state.old) }
 {
     match piece {
         Piece::One(line) => run_line(alloc, state, line),
@@ -73,7 +74,7 @@ pub(crate) fn run_pieces<A: Allocator + Copy>(
     state: &mut State<A>,
     pieces: &[Piece<A>],
 ) -> Result<(), Halt>
-    ensures { Ends result state.new (pieces_after pieces.now state.old) }
+    ensures { EndsAsMeant result state.new (pieces_after pieces.now state.old) }
 {
     for piece in pieces {
         run_piece(alloc, state, piece)?;

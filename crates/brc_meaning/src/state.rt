@@ -4,7 +4,7 @@ ghost use Rattle.std.specs.Prelude.{◌≡◌, IfOk, IfErr};
 ghost use Rattle.brc_words.specs.declared.fault.Fault.TheVariants.{OutOfMemory};
 ghost use Rattle.brc_meaning.specs.Objects.{object_call, keyed_call};
 ghost use Rattle.brc_meaning.specs.States.{start, with_object, with_integer, called};
-ghost use Rattle.brc_meaning.specs.Outcomes.{Steps};
+ghost use Rattle.brc_meaning.specs.Outcomes.{StepsAsMeant};
 
 use crate::call::{Call, KeyedCall};
 use crate::object::Object;
@@ -66,7 +66,7 @@ impl<A: Allocator> State<A> {
         call: Call,
         to: Register,
     ) -> Result<(), Fault>
-        ensures { Steps result self.old self.new (called (object_call call) container to self.old) }
+        ensures { StepsAsMeant result self.old self.new (called (object_call call) container to self.old) }
     {
         let reference = self.registers.held(container)?;
         let answer = self.objects.call(reference, call)?;
@@ -83,7 +83,7 @@ impl<A: Allocator> State<A> {
         call: KeyedCall,
         to: Register,
     ) -> Result<(), Fault>
-        ensures { Steps result self.old self.new (called (keyed_call key.now call) dict to self.old) }
+        ensures { StepsAsMeant result self.old self.new (called (keyed_call key.now call) dict to self.old) }
     {
         let reference = self.registers.held(dict)?;
         let answer = self.objects.call_at(alloc, reference, key, call)?;

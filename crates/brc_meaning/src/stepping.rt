@@ -1,9 +1,9 @@
 //! The step of one instruction.
 
 ghost use Rattle.std.specs.Prelude.{◌≡◌};
-ghost use Rattle.brc_script.specs.declared.instruction.Instruction.TheVariants as does;
+ghost use Rattle.brc_script.specs.declared.instruction.Instruction.TheVariants as instructions;
 ghost use Rattle.brc_meaning.specs.Steps.{after, integer_sum};
-ghost use Rattle.brc_meaning.specs.Outcomes.{Steps};
+ghost use Rattle.brc_meaning.specs.Outcomes.{StepsAsMeant};
 
 use crate::call::{Call, KeyedCall};
 use crate::object::Object;
@@ -28,14 +28,14 @@ fn text<A: Allocator>(
     to: Register,
     text: &Text<A>,
 ) -> Result<(), Fault>
-    ensures { Steps result state.old state.new (after (does.Text to text.now) state.old) }
+    ensures { StepsAsMeant result state.old state.new (after (instructions.Text to text.now) state.old) }
 {
     let copy = text.copy(alloc)?;
     state.make(to, Object::Text(copy))
 }
 
 fn copy<A: Allocator>(state: &mut State<A>, to: Register, from: Register) -> Result<(), Fault>
-    ensures { Steps result state.old state.new (after (does.Copy to from) state.old) }
+    ensures { StepsAsMeant result state.old state.new (after (instructions.Copy to from) state.old) }
 {
     let reference = state.registers.held(from)?;
     state.registers.hold(to, Some(reference));
@@ -43,7 +43,7 @@ fn copy<A: Allocator>(state: &mut State<A>, to: Register, from: Register) -> Res
 }
 
 fn drop_held<A: Allocator>(state: &mut State<A>, from: Register) -> Result<(), Fault>
-    ensures { Steps result state.old state.new (after (does.Drop from) state.old) }
+    ensures { StepsAsMeant result state.old state.new (after (instructions.Drop from) state.old) }
 {
     let _reference = state.registers.held(from)?;
     state.registers.hold(from, None);
@@ -51,7 +51,7 @@ fn drop_held<A: Allocator>(state: &mut State<A>, from: Register) -> Result<(), F
 }
 
 fn push<A: Allocator>(state: &mut State<A>, list: Register, value: Register) -> Result<(), Fault>
-    ensures { Steps result state.old state.new (after (does.Push list value) state.old) }
+    ensures { StepsAsMeant result state.old state.new (after (instructions.Push list value) state.old) }
 {
     let given = state.registers.held(value)?;
     state.call(list, Call::Push(given), value)
@@ -63,14 +63,14 @@ fn set<A: Allocator>(
     index: u32,
     value: Register,
 ) -> Result<(), Fault>
-    ensures { Steps result state.old state.new (after (does.Set list index value) state.old) }
+    ensures { StepsAsMeant result state.old state.new (after (instructions.Set list index value) state.old) }
 {
     let given = state.registers.held(value)?;
     state.call(list, Call::Set(index, given), value)
 }
 
 fn len<A: Allocator>(state: &mut State<A>, to: Register, container: Register) -> Result<(), Fault>
-    ensures { Steps result state.old state.new (after (does.Len to container) state.old) }
+    ensures { StepsAsMeant result state.old state.new (after (instructions.Len to container) state.old) }
 {
     let reference = state.registers.held(container)?;
     let entries = state.objects.entries(reference)?;
@@ -84,14 +84,14 @@ fn put<A: Allocator>(
     key: &Key<A>,
     value: Register,
 ) -> Result<(), Fault>
-    ensures { Steps result state.old state.new (after (does.Put dict key.now value) state.old) }
+    ensures { StepsAsMeant result state.old state.new (after (instructions.Put dict key.now value) state.old) }
 {
     let given = state.registers.held(value)?;
     state.call_at(alloc, dict, key, KeyedCall::Put(given), value)
 }
 
 fn send<A: Allocator>(state: &mut State<A>, mailbox: Register, value: Register) -> Result<(), Fault>
-    ensures { Steps result state.old state.new (after (does.Send mailbox value) state.old) }
+    ensures { StepsAsMeant result state.old state.new (after (instructions.Send mailbox value) state.old) }
 {
     let given = state.registers.held(value)?;
     state.call(mailbox, Call::Send(given), value)
@@ -103,7 +103,7 @@ fn add<A: Allocator>(
     first: Register,
     second: Register,
 ) -> Result<(), Fault>
-    ensures { Steps result state.old state.new (after (does.Add to first second) state.old) }
+    ensures { StepsAsMeant result state.old state.new (after (instructions.Add to first second) state.old) }
 {
     // Both registers are looked at before either kind is.
     let first = state.registers.held(first)?;
@@ -115,7 +115,7 @@ fn add<A: Allocator>(
 }
 
 fn print<A: Allocator>(state: &mut State<A>, from: Register) -> Result<(), Fault>
-    ensures { Steps result state.old state.new (after (does.Print from) state.old) }
+    ensures { StepsAsMeant result state.old state.new (after (instructions.Print from) state.old) }
 {
     let reference = state.registers.held(from)?;
     state.objects.print(reference, &mut state.printed)
@@ -127,7 +127,7 @@ pub(crate) fn step<A: Allocator + Copy>(
     state: &mut State<A>,
     instruction: &Instruction<A>,
 ) -> Result<(), Fault>
-    ensures { Steps result state.old state.new (after instruction.now state.old) }
+    ensures { StepsAsMeant result state.old state.new (after instruction.now state.old) }
 {
     match instruction {
         Instruction::Int { to, number } => state.make_integer(*to, *number),

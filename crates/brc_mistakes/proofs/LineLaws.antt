@@ -5,10 +5,10 @@ use Rattle.std.proofs.lemmas.List.{drop-drop}
 use Rattle.brc_text.specs.Tokens.{or_else}
 use Rattle.brc_script.specs.Walks.{lines_of}
 use Rattle.brc_script.proofs.LinesLaws.{no_lines}
-use Rattle.brc_mistakes.specs.declared.opening.Opening.{Opening}
+use Rattle.brc_mistakes.specs.declared.line_opening.Opening.{Opening}
 use Rattle.brc_mistakes.specs.declared.mistake.Mistake.{Mistake}
 use Rattle.brc_mistakes.specs.Places.{turn_of, last_turn, first_turn, numbered, lines_from, spot_by}
-use Rattle.brc_mistakes.specs.Mistakes.{IsAt, IsMistake, IsOfLine}
+use Rattle.brc_mistakes.specs.Mistakes.{IsMistakeAt, IsMistake, IsOfLine}
 
 -- one line further
 pub one_line_on : (text rest behind : List ℕ) (number : ℕ) → lines_of rest ≡ drop number (lines_of text)
@@ -69,12 +69,12 @@ first_never number text none = ap (first_turn number) (no_lines text none)
 -- ---- a line and where it stands
 
 pub of_line : (text line : List ℕ) (number : ℕ) (lines : List (List ℕ)) (mistake : Mistake) → IsOfLine line mistake
-    → IsAt (spot_by text number (line ∷ lines)) mistake
+    → IsMistakeAt (spot_by text number (line ∷ lines)) mistake
 of_line text line number lines mistake is = is (spot_by text number (line ∷ lines))
 
 pub at_number : (text : List ℕ) (number : ℕ) (lines : List (List ℕ)) (mistake : Mistake)
     → lines_from number text ≡ lines
-    → IsAt (spot_by text number lines) mistake
+    → IsMistakeAt (spot_by text number lines) mistake
     → IsMistake text number mistake
 at_number text number lines mistake are is =
-    subst (λ (l : List (List ℕ)). IsAt (spot_by text number l) mistake) (sym are) is
+    subst (λ (l : List (List ℕ)). IsMistakeAt (spot_by text number l) mistake) (sym are) is

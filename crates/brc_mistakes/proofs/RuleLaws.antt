@@ -10,8 +10,8 @@ use Rattle.brc_text.specs.Lines.{cut, pieces, before_line}
 use Rattle.brc_script.specs.Instructions.{is_printed}
 use Rattle.brc_script.specs.Rows.{is_low, is_idle}
 use Rattle.brc_script.specs.Walks.{lines_of}
-use Rattle.brc_mistakes.specs.declared.opening.Opening.{Opening}
-use Rattle.brc_mistakes.specs.declared.opening.Opening.TheVariants as openings
+use Rattle.brc_mistakes.specs.declared.line_opening.Opening.{Opening}
+use Rattle.brc_mistakes.specs.declared.line_opening.Opening.TheVariants as openings
 use Rattle.brc_mistakes.specs.declared.operand.Operand.{Operand}
 use Rattle.brc_mistakes.specs.declared.operand.Operand.TheVariants as operands
 use Rattle.brc_mistakes.specs.declared.mistake.Mistake.{Mistake}

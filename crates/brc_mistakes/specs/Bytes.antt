@@ -3,8 +3,8 @@ use Rattle.std.specs.Prelude.{◌≡◌, ◌≤◌, ℕ, ◌==◌, Bool, true, f
 use Rattle.std.specs.List.{list_any, list_all}
 use Rattle.brc_script.specs.Instructions.{is_printed}
 use Rattle.brc_script.specs.Rows.{is_low}
-use Rattle.brc_mistakes.specs.declared.opening.Opening.{Opening}
-use Rattle.brc_mistakes.specs.declared.opening.Opening.TheVariants as openings
+use Rattle.brc_mistakes.specs.declared.line_opening.Opening.{Opening}
+use Rattle.brc_mistakes.specs.declared.line_opening.Opening.TheVariants as openings
 use Rattle.brc_mistakes.specs.Operands.{begins_with}
 use Rattle.brc_mistakes.specs.Words.{opening_of}
 

@@ -2,8 +2,8 @@
 use Rattle.std.specs.Prelude.{ℕ, ◌==◌, ◌||◌, if◌then◌else◌, Bool, false, List, ◌∷◌, drop, Option, find}
 use Rattle.std.specs.Str.{bytes_eq}
 use Rattle.brc_text.specs.Tokens.{or_else}
-use Rattle.brc_mistakes.specs.declared.opening.Opening.{Opening}
-use Rattle.brc_mistakes.specs.declared.opening.TheConstants.{OPENINGS}
+use Rattle.brc_mistakes.specs.declared.line_opening.Opening.{Opening}
+use Rattle.brc_mistakes.specs.declared.line_opening.TheConstants.{OPENINGS}
 use Rattle.brc_mistakes.specs.Openings.{word_of}
 
 -- both begin, and with the same byte

@@ -1,9 +1,9 @@
 -- The words with which lines begin, and the forms of such lines.
 use Rattle.std.specs.Prelude.{ℕ, List, [], ◌∷◌, Option, codes, find}
 use Rattle.std.specs.Str.{bytes_eq}
-use Rattle.brc_mistakes.specs.declared.opening.Opening.{Opening}
-use Rattle.brc_mistakes.specs.declared.opening.Opening.TheVariants as openings
-use Rattle.brc_mistakes.specs.declared.opening.TheConstants.{OPENINGS}
+use Rattle.brc_mistakes.specs.declared.line_opening.Opening.{Opening}
+use Rattle.brc_mistakes.specs.declared.line_opening.Opening.TheVariants as openings
+use Rattle.brc_mistakes.specs.declared.line_opening.TheConstants.{OPENINGS}
 use Rattle.brc_mistakes.specs.declared.operand.Operand.{Operand}
 use Rattle.brc_mistakes.specs.declared.operand.Operand.TheVariants as operands
 

@@ -3,14 +3,14 @@ use Rattle.std.specs.Prelude.{ℕ, ◌+◌, ◌-◌, Bool, true, false, List, []
 use Rattle.std.specs.Prelude.{Some, None}
 use Rattle.brc_text.specs.Tokens.{or_else}
 use Rattle.brc_script.specs.Walks.{lines_of}
-use Rattle.brc_mistakes.specs.declared.opening.Opening.{Opening}
-use Rattle.brc_mistakes.specs.declared.opening.Opening.TheVariants as openings
+use Rattle.brc_mistakes.specs.declared.line_opening.Opening.{Opening}
+use Rattle.brc_mistakes.specs.declared.line_opening.Opening.TheVariants as openings
 use Rattle.brc_mistakes.specs.Words.{opening_of, behind}
 
 -- ---- a line and the lines around it
 
 -- a line of a text: its number, what it says, and the lines above and below it
-pub record Spot : Type 0 where
+pub record LineSpot : Type 0 where
   pub text : List ℕ
   pub number : ℕ
   pub above : List (List ℕ)
@@ -25,7 +25,7 @@ abbrev pub lines_from : ℕ → List ℕ → List (List ℕ)
 lines_from number text = drop (number - 1) (lines_of text)
 
 -- the line with this number is the first of these
-abbrev pub spot_by : List ℕ → ℕ → List (List ℕ) → Spot
+abbrev pub spot_by : List ℕ → ℕ → List (List ℕ) → LineSpot
 spot_by text number lines = record {
   text = text;
   number = number;
@@ -34,7 +34,7 @@ spot_by text number lines = record {
   below = drop 1 lines;
 }
 
-abbrev pub spot : List ℕ → ℕ → Spot
+abbrev pub spot : List ℕ → ℕ → LineSpot
 spot text number = spot_by text number (lines_from number text)
 
 -- ---- sections and repeats

@@ -5,13 +5,13 @@ use Rattle.std.specs.List.{list_any, list_all}
 use Rattle.brc_script.specs.declared.limits.TheConstants.{MOST_SECTIONS}
 use Rattle.brc_script.specs.Instructions.{is_printed}
 use Rattle.brc_script.specs.Rows.{is_idle}
-use Rattle.brc_mistakes.specs.declared.opening.Opening.{Opening}
-use Rattle.brc_mistakes.specs.declared.opening.Opening.TheVariants as openings
+use Rattle.brc_mistakes.specs.declared.line_opening.Opening.{Opening}
+use Rattle.brc_mistakes.specs.declared.line_opening.Opening.TheVariants as openings
 use Rattle.brc_mistakes.specs.declared.operand.Operand.{Operand}
 use Rattle.brc_mistakes.specs.Openings.{operands_of}
 use Rattle.brc_mistakes.specs.Operands.{fits}
 use Rattle.brc_mistakes.specs.Words.{opening_of, has_form, operand_at, register_of}
-use Rattle.brc_mistakes.specs.Places.{Spot, begins_section, last_turn, is_repeat, first_turn}
+use Rattle.brc_mistakes.specs.Places.{LineSpot, begins_section, last_turn, is_repeat, first_turn}
 
 -- ---- the line by itself
 
@@ -46,23 +46,23 @@ pub record IsGoodLine (line : List ℕ) : Type 0 where
 -- ---- the place where it stands
 
 -- a section's line is new, and fewer than 63 begin above; a section begins above any other line
-abbrev pub IsPlacedBy : Opening → Spot → Type 0
+abbrev pub IsPlacedBy : Opening → LineSpot → Type 0
 IsPlacedBy openings.Section at =
     (list_any (bytes_eq at.line) at.above ≡ false) × (count_by begins_section at.above < MOST_SECTIONS)
 IsPlacedBy _ at = 0 < count_by begins_section at.above
 
 -- the first line below a `repeat` that ends it, or begins a section or another, ends it
-abbrev pub IsClosedBy : Opening → Spot → Type 0
+abbrev pub IsClosedBy : Opening → LineSpot → Type 0
 IsClosedBy openings.Repeat at = (number : ℕ) × (first_turn (at.number + 1) at.below ≡ Some (number, openings.End))
 IsClosedBy openings.End at = is_repeat (last_turn at.above) ≡ true
 IsClosedBy _ at = Unit {0}
 
-pub record IsPlaced (at : Spot) : Type 0 where
+pub record IsPlaced (at : LineSpot) : Type 0 where
   pub placed : (opening : Opening) → opening_of at.line ≡ Some opening → IsPlacedBy opening at
   pub closed : (opening : Opening) → opening_of at.line ≡ Some opening → IsClosedBy opening at
 
 -- ---- both
 
-pub record KeepsRules (at : Spot) : Type 0 where
+pub record KeepsRules (at : LineSpot) : Type 0 where
   pub line : IsGoodLine at.line
   pub place : IsPlaced at

@@ -4,8 +4,8 @@ use Rattle.std.specs.Prelude.{Some, None, is_some, slice_get}
 use Rattle.brc_text.specs.Tokens.{◌>>=◌}
 use Rattle.brc_text.specs.Lines.{cut}
 use Rattle.brc_script.specs.Operands.{register_at}
-use Rattle.brc_mistakes.specs.declared.opening.Opening.{Opening}
-use Rattle.brc_mistakes.specs.declared.opening.Opening.TheVariants as openings
+use Rattle.brc_mistakes.specs.declared.line_opening.Opening.{Opening}
+use Rattle.brc_mistakes.specs.declared.line_opening.Opening.TheVariants as openings
 use Rattle.brc_mistakes.specs.declared.operand.Operand.{Operand}
 use Rattle.brc_mistakes.specs.declared.operand.Operand.TheVariants as operands
 use Rattle.brc_mistakes.specs.Openings.{operands_of, opening_at}

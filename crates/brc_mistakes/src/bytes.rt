@@ -11,8 +11,8 @@ ghost use Rattle.brc_mistakes.specs.Bytes.{is_comment, HasWideSpace};
 ghost use Rattle.brc_mistakes.specs.Mistakes.{IsOfLine};
 
 use crate::fitting::begins_with;
+use crate::line_opening::Opening;
 use crate::mistake::Mistake;
-use crate::opening::Opening;
 use crate::words::opening_of;
 
 fn are_low(bytes: &[u8]) -> bool

@@ -9,9 +9,9 @@ ghost use Rattle.brc_mistakes.specs.Rules.{IsGoodLine, KeepsRules};
 ghost use Rattle.brc_mistakes.specs.Mistakes.{IsMistake, IsOfLine};
 
 use crate::bytes::{is_comment, mistake_of_bytes, mistake_of_comment};
-use crate::lines::{first_line, has_section, text_from};
 use crate::mistake::Mistake;
 use crate::places::mistake_of_place;
+use crate::text_lines::{first_line, has_section, text_from};
 use crate::words::mistake_of_words;
 use brc_words::MOST_INPUT;
 

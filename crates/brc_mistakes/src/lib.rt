@@ -5,20 +5,20 @@
 #![tactic(auto)]
 
 mod bytes;
-mod cutting;
 mod finding;
 mod fitting;
-mod lines;
+mod line_cutting;
+mod line_opening;
 mod mistake;
 mod nearness;
-mod opening;
 mod operand;
 mod places;
+mod text_lines;
 mod words;
 mod writing;
 
 pub use finding::mistake_of;
+pub use line_opening::Opening;
 pub use mistake::Mistake;
-pub use opening::Opening;
 pub use operand::Operand;
 pub use writing::put_mistake;

@@ -1,6 +1,6 @@
 //! Mistakes.
 
-use crate::opening::Opening;
+use crate::line_opening::Opening;
 use crate::operand::Operand;
 use brc_excerpt::Excerpt;
 

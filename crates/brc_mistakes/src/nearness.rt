@@ -4,7 +4,7 @@ ghost use Rattle.std.specs.Prelude.{◌≡◌, ◌<◌, true, length, drop};
 ghost use Rattle.brc_mistakes.specs.Nearness.{begin_alike, apart, within_one, within_two};
 ghost use Rattle.brc_mistakes.specs.Nearness.{nearest_by_one, nearest_by_two, nearest_to};
 
-use crate::opening::{OPENINGS, Opening};
+use crate::line_opening::{OPENINGS, Opening};
 
 /// Whether both words begin, and with the same byte.
 #[tactic(auto, unfolding(crate::specs::Nearness::begin_alike))]

@@ -11,12 +11,12 @@ ghost use Rattle.brc_mistakes.specs.Places.{last_turn as last_turn_of, first_tur
 ghost use Rattle.brc_mistakes.specs.Places.{is_end as is_an_end};
 ghost use Rattle.brc_mistakes.specs.Places.{section_name};
 ghost use Rattle.brc_mistakes.specs.Rules.{IsPlacedBy, IsClosedBy, IsPlaced};
-ghost use Rattle.brc_mistakes.specs.Mistakes.{IsAt};
+ghost use Rattle.brc_mistakes.specs.Mistakes.{IsMistakeAt};
 
-use crate::cutting::behind;
-use crate::lines::{first_line, first_of};
+use crate::line_cutting::behind;
+use crate::line_opening::Opening;
 use crate::mistake::Mistake;
-use crate::opening::Opening;
+use crate::text_lines::{first_line, first_of};
 use crate::words::opening_of;
 use brc_excerpt::Excerpt;
 use brc_script::MOST_SECTIONS;
@@ -140,7 +140,7 @@ fn section_name(line: &[u8]) -> &[u8]
 fn mistake_of_section(text: &[u8], number: u32, line: &[u8], below: &[u8]) -> Option<Mistake>
     requires { opening_of line.now ≡ Some Opening.Section }
 
-    ensures told { IfSome result (IsAt (spot_by text.now number (line.now ∷ lines_of below.now))) }
+    ensures told { IfSome result (IsMistakeAt (spot_by text.now number (line.now ∷ lines_of below.now))) }
     ensures none { IfNone result
         (IsPlacedBy Opening.Section (spot_by text.now number (line.now ∷ lines_of below.now))) }
 {
@@ -159,7 +159,7 @@ fn mistake_of_repeat(text: &[u8], number: u32, line: &[u8], below: &[u8]) -> Opt
     requires repeats { opening_of line.now ≡ Some Opening.Repeat }
     requires few { number + 1 + length below.now < 2 ^ 32 }
 
-    ensures told { IfSome result (IsAt (spot_by text.now number (line.now ∷ lines_of below.now))) }
+    ensures told { IfSome result (IsMistakeAt (spot_by text.now number (line.now ∷ lines_of below.now))) }
     ensures none { IfNone result
         (IsClosedBy Opening.Repeat (spot_by text.now number (line.now ∷ lines_of below.now))) }
 {
@@ -174,7 +174,7 @@ fn mistake_of_repeat(text: &[u8], number: u32, line: &[u8], below: &[u8]) -> Opt
 fn mistake_of_end(text: &[u8], number: u32, line: &[u8], below: &[u8]) -> Option<Mistake>
     requires { opening_of line.now ≡ Some Opening.End }
 
-    ensures told { IfSome result (IsAt (spot_by text.now number (line.now ∷ lines_of below.now))) }
+    ensures told { IfSome result (IsMistakeAt (spot_by text.now number (line.now ∷ lines_of below.now))) }
     ensures none { IfNone result
         (IsClosedBy Opening.End (spot_by text.now number (line.now ∷ lines_of below.now))) }
 {
@@ -193,7 +193,7 @@ pub(crate) fn mistake_of_place(
 ) -> Option<Mistake>
     requires { number + 1 + length below.now < 2 ^ 32 }
 
-    ensures told { IfSome result (IsAt (spot_by text.now number (line.now ∷ lines_of below.now))) }
+    ensures told { IfSome result (IsMistakeAt (spot_by text.now number (line.now ∷ lines_of below.now))) }
     ensures none { IfNone result (IsPlaced (spot_by text.now number (line.now ∷ lines_of below.now))) }
 {
     let Some(opening) = opening_of(line) else {

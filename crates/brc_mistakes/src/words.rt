@@ -8,11 +8,11 @@ ghost use Rattle.brc_mistakes.specs.Operands.{fits as may_stand};
 ghost use Rattle.brc_mistakes.specs.Rules.{IsFitAt, Differ, KeepsForm, KeepsWords};
 ghost use Rattle.brc_mistakes.specs.Mistakes.{IsOfLine, IsOfWord};
 
-use crate::cutting::{behind, cut};
 use crate::fitting::{begins_with, begins_with_zero, fits, register_from};
+use crate::line_cutting::{behind, cut};
+use crate::line_opening::{Opening, opening_from};
 use crate::mistake::Mistake;
 use crate::nearness::nearest_to;
-use crate::opening::{Opening, opening_from};
 use crate::operand::Operand;
 use brc_excerpt::Excerpt;
 

@@ -1,14 +1,14 @@
 //! Writing a mistake.
 
 ghost use Rattle.std.specs.Prelude.{[], ◌∷◌, ◌++◌, codes, decimal};
-ghost use Rattle.brc_text.specs.Puts.{Puts};
+ghost use Rattle.brc_text.specs.Puts.{PutsText};
 ghost use Rattle.brc_output.specs.Parts.{joined};
 ghost use Rattle.brc_excerpt.specs.Excerpts.{quoted};
 ghost use Rattle.brc_mistakes.specs.Openings.{word_of};
 ghost use Rattle.brc_mistakes.specs.Texts.{together, nearest_text, mistake_text};
 
+use crate::line_opening::Opening;
 use crate::mistake::Mistake;
-use crate::opening::Opening;
 use brc_excerpt::{Excerpt, put_quoted};
 use brc_output::put_parts;
 use brc_text::put_bytes;
@@ -18,7 +18,7 @@ use std::io::Write;
 
 /// Writes the word between quotes, and the parts behind it.
 fn put_word<W: Write>(writer: &mut W, word: &Excerpt, parts: &[&[u8]]) -> Result<(), Fault>
-    ensures { Puts (W.contents writer.old) (W.contents writer.new) result
+    ensures { PutsText (W.contents writer.old) (W.contents writer.new) result
         (quoted word.now ++ joined parts.now) }
 {
     put_quoted(writer, word)?;
@@ -31,7 +31,7 @@ fn put_no_instruction<W: Write>(
     word: &Excerpt,
     nearest: Option<Opening>,
 ) -> Result<(), Fault>
-    ensures { Puts (W.contents writer.old) (W.contents writer.new) result
+    ensures { PutsText (W.contents writer.old) (W.contents writer.new) result
         (quoted word.now ++ together (nearest_text nearest)) }
 {
     match nearest {
@@ -46,7 +46,7 @@ fn put_no_instruction<W: Write>(
 
 /// Writes that the register stands twice in the line.
 fn put_twice<W: Write>(writer: &mut W, register: u8) -> Result<(), Fault>
-    ensures { Puts (W.contents writer.old) (W.contents writer.new) result
+    ensures { PutsText (W.contents writer.old) (W.contents writer.new) result
         (together (codes "r" ∷ decimal register ∷ codes " stands twice in it" ∷ [])) }
 {
     put_parts(
@@ -61,7 +61,7 @@ fn put_twice<W: Write>(writer: &mut W, register: u8) -> Result<(), Fault>
 
 /// Writes which line comes before the end.
 fn put_not_closed<W: Write>(writer: &mut W, turn: Opening, line: u32) -> Result<(), Fault>
-    ensures { Puts (W.contents writer.old) (W.contents writer.new) result
+    ensures { PutsText (W.contents writer.old) (W.contents writer.new) result
         (together (codes "no end closes it before the " ∷ word_of turn ∷ codes " of line " ∷ decimal line ∷ [])) }
 {
     put_parts(
@@ -77,7 +77,7 @@ fn put_not_closed<W: Write>(writer: &mut W, turn: Opening, line: u32) -> Result<
 
 /// Writes what is wrong: a text without a line feed. All of it, or Io after a front of it. No memory is taken.
 pub fn put_mistake<W: Write>(writer: &mut W, mistake: &Mistake) -> Result<(), Fault>
-    ensures { Puts (W.contents writer.old) (W.contents writer.new) result (mistake_text mistake.now) }
+    ensures { PutsText (W.contents writer.old) (W.contents writer.new) result (mistake_text mistake.now) }
 {
     match mistake {
         Mistake::TooLong => put_bytes(writer, b"it has more than 16777216 bytes"),

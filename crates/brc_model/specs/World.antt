@@ -24,6 +24,6 @@ may_ask_memory (Change cell place change) = grows change
 may_ask_memory (Dies object) = false
 
 -- why a move was refused: the map doesn't allow it, or it does and there was no memory
-abbrev pub IsReason : {A : Type 0} → Map → Move A → Refused → Type 0
-IsReason m move NotAllowed = ¬ Allowed m move
-IsReason m move Memory = Allowed m move × (may_ask_memory move ≡ true)
+abbrev pub IsReasonOfMove : {A : Type 0} → Map → Move A → Refused → Type 0
+IsReasonOfMove m move NotAllowed = ¬ Allowed m move
+IsReasonOfMove m move Memory = Allowed m move × (may_ask_memory move ≡ true)

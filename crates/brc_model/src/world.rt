@@ -3,7 +3,7 @@
 ghost use Rattle.std.specs.Prelude.{◌≡◌, ℕ, false, [], OnOk, OnErr, IfErr};
 ghost use Rattle.brc_model.specs.Holders.{Same, Allowed, moved, has};
 ghost use Rattle.brc_model.specs.Facts.{map_of};
-ghost use Rattle.brc_model.specs.World.{IsReason};
+ghost use Rattle.brc_model.specs.World.{IsReasonOfMove};
 
 use crate::edits::{add, begin, end, pass_on};
 use crate::exchanges::{change_it, let_it_go, may_be_changed};
@@ -55,7 +55,7 @@ impl<A: Allocator> HolderWorld<A> {
         ensures allowed { OnOk result (Allowed (map_of self.old) change.now) }
         ensures moved { OnOk result (Same (map_of self.new) (moved (map_of self.old) change.now)) }
 
-        ensures reason { IfErr result (λ why. IsReason (map_of self.old) change.now why) }
+        ensures reason { IfErr result (λ why. IsReasonOfMove (map_of self.old) change.now why) }
         ensures unchanged { OnErr result (self.new ≡ self.old) }
     {
         match change {

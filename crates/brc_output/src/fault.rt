@@ -1,6 +1,6 @@
 //! The line of the fault that ended a section.
 
-ghost use Rattle.brc_text.specs.Puts.{Puts};
+ghost use Rattle.brc_text.specs.Puts.{PutsText};
 ghost use Rattle.brc_output.specs.Sections.{fault_line_of, fault_line, fault_part};
 
 use crate::names::name_of_number;
@@ -17,7 +17,7 @@ fn put_fault_words<W: Write>(
     word: &[u8],
     line: &[u8],
 ) -> Result<(), Fault>
-    ensures { Puts (W.contents writer.old) (W.contents writer.new) result
+    ensures { PutsText (W.contents writer.old) (W.contents writer.new) result
         (fault_line_of name.now number.now word.now line.now) }
 {
     put_parts(
@@ -36,7 +36,7 @@ fn put_fault_words<W: Write>(
 }
 
 fn put_fault_line<W: Write>(writer: &mut W, name: &[u8], number: u8, line: u32) -> Result<(), Fault>
-    ensures { Puts (W.contents writer.old) (W.contents writer.new) result
+    ensures { PutsText (W.contents writer.old) (W.contents writer.new) result
         (fault_line name.now (number, line)) }
 {
     put_fault_words(
@@ -54,7 +54,7 @@ pub(crate) fn put_fault<W: Write>(
     name: &[u8],
     fault: Option<(u8, u32)>,
 ) -> Result<(), Fault>
-    ensures { Puts (W.contents writer.old) (W.contents writer.new) result
+    ensures { PutsText (W.contents writer.old) (W.contents writer.new) result
         (fault_part name.now fault) }
 {
     match fault {

@@ -6,10 +6,10 @@
 #![tactic(auto)]
 
 mod fault;
-mod lines;
 mod names;
 mod parts;
 mod section;
+mod section_lines;
 
 pub use names::name_of_number;
 pub use parts::put_parts;

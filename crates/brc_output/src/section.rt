@@ -1,10 +1,10 @@
 //! The text of a section.
 
-ghost use Rattle.brc_text.specs.Puts.{Puts};
+ghost use Rattle.brc_text.specs.Puts.{PutsText};
 ghost use Rattle.brc_output.specs.Sections.{section_text};
 
 use crate::fault::put_fault;
-use crate::lines::put_told_lines;
+use crate::section_lines::put_told_lines;
 use brc_words::Fault;
 use std::io::Write;
 
@@ -16,7 +16,7 @@ pub fn write_section<W: Write>(
     lines: &[u8],
     fault: Option<(u8, u32)>,
 ) -> Result<(), Fault>
-    ensures { Puts (W.contents writer.old) (W.contents writer.new) result
+    ensures { PutsText (W.contents writer.old) (W.contents writer.new) result
         (section_text name.now lines.now fault) }
 {
     put_told_lines(writer, name, lines)?;

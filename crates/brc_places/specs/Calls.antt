@@ -7,29 +7,29 @@ use Rattle.brc_words.specs.declared.limits.TheConstants.{GLOBALS}
 use Rattle.brc_count.specs.block.Lent_Keys.{key_lent}
 use Rattle.brc_count.specs.law.world.declared.event.Source.TheVariants as sources
 use Rattle.brc_count.specs.law.rule.declared.contents.Contents.TheVariants as contents
-use Rattle.brc_count.specs.declared.handed.Handed.{Handed}
-use Rattle.brc_count.specs.Frames.{FrameSeen, HandleSeen, Given, Refused, IsAsBefore}
+use Rattle.brc_count.specs.declared.handed.HandedBack.{HandedBack}
+use Rattle.brc_count.specs.Frames.{FrameSeen, HandleSeen, GivenHandle, Refused, IsAsBefore}
 use Rattle.brc_count.specs.Making.{Made, RefusedMaking}
 use Rattle.brc_things.specs.Makers.{small_cell, truth_cell, Answered, RefusedTo}
 use Rattle.brc_containers.specs.Called.{Late}
 use Rattle.brc_lists.specs.Calls.{ListPush, ListPop, ListTake, ListGet, ListSet, MailboxSend, MailboxReceive}
 use Rattle.brc_dicts.specs.Calls.{DictPut, DictFind, DictDel}
-use Rattle.brc_places.specs.declared.making.Make.{Make}
-use Rattle.brc_places.specs.declared.making.Make.TheVariants as makes
+use Rattle.brc_places.specs.declared.place_makers.Make.{Make}
+use Rattle.brc_places.specs.declared.place_makers.Make.TheVariants as makes
 use Rattle.brc_places.specs.declared.giving.GiveBy.{GiveBy}
 use Rattle.brc_places.specs.declared.giving.GiveBy.TheVariants as gives
 use Rattle.brc_places.specs.declared.taking.TakeBy.{TakeBy}
 use Rattle.brc_places.specs.declared.taking.TakeBy.TheVariants as takes
 
 -- so of a call that answers nothing; and of one that answers what the value came for
-abbrev pub AnswersNone : (Result (Unit {0}) (Handed HandleSeen) → Type 0)
-    → Result (Option HandleSeen) (Handed HandleSeen) → Type 0
+abbrev pub AnswersNone : (Result (Unit {0}) (HandedBack HandleSeen) → Type 0)
+    → Result (Option HandleSeen) (HandedBack HandleSeen) → Type 0
 AnswersNone call (Ok None) = call (Ok tt)
 AnswersNone call (Ok (Some given)) = ⊥
 AnswersNone call (Err handed) = call (Err handed)
 
-abbrev pub AnswersOld : (Result HandleSeen (Handed HandleSeen) → Type 0)
-    → Result (Option HandleSeen) (Handed HandleSeen) → Type 0
+abbrev pub AnswersOld : (Result HandleSeen (HandedBack HandleSeen) → Type 0)
+    → Result (Option HandleSeen) (HandedBack HandleSeen) → Type 0
 AnswersOld call (Ok None) = ⊥
 AnswersOld call (Ok (Some given)) = call (Ok given)
 AnswersOld call (Err handed) = call (Err handed)
@@ -43,7 +43,7 @@ pub record HandleOr (done : HandleSeen → Type 0) (why : Fault → Type 0) (res
 module _ {A : Type 0} where
   -- a handle to the immortal in this cell, or why there is none
   pub record ToImmortal (c : ℕ) (old new : FrameSeen A) (result : Result HandleSeen Fault) : Type 0 where
-    pub given : IfOk result (Given old new (sources.Immortal c) c)
+    pub given : IfOk result (GivenHandle old new (sources.Immortal c) c)
     pub refused : IfErr result (Refused old)
     pub unchanged : OnErr result (IsAsBefore old new)
 
@@ -79,7 +79,7 @@ module _ {A : Type 0} where
 
   -- a call that takes a value's handle
   abbrev pub TookBy : TakeBy → FrameSeen A → FrameSeen A → ℕ → HandleSeen
-      → Result (Option HandleSeen) (Handed HandleSeen) → Type 0
+      → Result (Option HandleSeen) (HandedBack HandleSeen) → Type 0
   TookBy takes.Push old new k value result = AnswersNone (ListPush old new k value.place) result
   TookBy (takes.Set index) old new k value result = AnswersOld (ListSet old new k index value.place) result
   TookBy takes.Send old new k value result = AnswersNone (MailboxSend old new k value.place) result
@@ -87,5 +87,5 @@ module _ {A : Type 0} where
 
   -- that call, once no other thread has the object locked
   abbrev pub TookLate : TakeBy → FrameSeen A → FrameSeen A → ℕ → HandleSeen
-      → Result (Option HandleSeen) (Handed HandleSeen) → Type 0
+      → Result (Option HandleSeen) (HandedBack HandleSeen) → Type 0
   TookLate by old new k value result = Late old k (λ mid. TookBy by mid new k value result)

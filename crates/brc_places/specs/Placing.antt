@@ -3,7 +3,7 @@ use Rattle.std.specs.Prelude.{◌≡◌, ◌≢◌, ◌<◌, ◌⊎◌, ⊤, ℕ
 use Rattle.std.specs.Prelude.{MatchOption, IsSomeAnd, slice_set}
 use Rattle.brc_words.specs.declared.fault.Fault.{Fault}
 use Rattle.brc_words.specs.declared.fault.Fault.TheVariants as faults
-use Rattle.brc_count.specs.declared.handed.Handed.{Handed}
+use Rattle.brc_count.specs.declared.handed.HandedBack.{HandedBack}
 use Rattle.brc_count.specs.Frames.{FrameSeen, HandleSeen}
 use Rattle.brc_count.specs.Owned.{Loses}
 use Rattle.brc_handles.specs.Handles.{slot}
@@ -44,9 +44,9 @@ module _ {A : Type 0} where
         → call between (Ok given) → Loses between new given → Lacks to call old new before fault
 
   -- the same of a call on the object of the handle in place i, which is there
-  abbrev pub Gives : To → (FrameSeen A → ℕ → Result HandleSeen Fault → Type 0) → FrameSeen A
+  abbrev pub GivesTo : To → (FrameSeen A → ℕ → Result HandleSeen Fault → Type 0) → FrameSeen A
       → List (Option HandleSeen) → List (Option HandleSeen) → ℕ → Type 0
-  Gives to call new before after i =
+  GivesTo to call new before after i =
       IsSomeAnd (slot before i) (λ object. Comes to (λ mid. call mid object.place) new before after)
 
   -- no handle is there, and nothing was done; or it is, and nothing came
@@ -60,7 +60,8 @@ module _ {A : Type 0} where
 
   -- The handle of one place went by the call into the object of another's. Its place has what came out for it, or is
   -- empty.
-  pub record Takes (call : FrameSeen A → ℕ → HandleSeen → Result (Option HandleSeen) (Handed HandleSeen) → Type 0)
+  pub record TakesFrom (call : FrameSeen A → ℕ → HandleSeen → Result (Option HandleSeen) (HandedBack HandleSeen)
+      → Type 0)
       (new : FrameSeen A) (before after : List (Option HandleSeen)) (container value : ℕ) : Type 0 where
     pub object : HandleSeen
     pub there : slot before container ≡ Some object
@@ -73,11 +74,11 @@ module _ {A : Type 0} where
 
   -- Why it didn't. One of the two places has no handle, or they are one place: nothing was done. Or the call was
   -- refused so, and handed the value back.
-  pub data TakesNot (call : FrameSeen A → ℕ → HandleSeen → Result (Option HandleSeen) (Handed HandleSeen) → Type 0)
+  pub data TakesNot (call : FrameSeen A → ℕ → HandleSeen → Result (Option HandleSeen) (HandedBack HandleSeen) → Type 0)
       (old new : FrameSeen A) (before : List (Option HandleSeen)) (container value : ℕ) (fault : Fault) : Type 0 where
     NoHandle : fault ≡ faults.NoSuchPlace
         → (slot before value ≡ None) ⊎ (slot before container ≡ None) ⊎ (container ≡ value) → new ≡ old
         → TakesNot call old new before container value fault
-    ValueRefused : (object given : HandleSeen) (handed : Handed HandleSeen) → slot before container ≡ Some object
-        → slot before value ≡ Some given → container ≢ value → handed.fault ≡ fault → handed.back ≡ given
+    ValueRefused : (object given : HandleSeen) (handed : HandedBack HandleSeen) → slot before container ≡ Some object
+        → slot before value ≡ Some given → container ≢ value → handed.fault ≡ fault → handed.value ≡ given
         → call new object.place given (Err handed) → TakesNot call old new before container value fault

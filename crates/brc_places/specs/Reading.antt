@@ -7,8 +7,8 @@ use Rattle.brc_handles.specs.Handles.{slot}
 
 module _ {A T : Type 0} where
   -- no handle is in place i, and nothing was done; or the call on its object answered so
-  abbrev pub Reads : FrameSeen A → FrameSeen A → List (Option HandleSeen) → ℕ
+  abbrev pub ReadsPlace : FrameSeen A → FrameSeen A → List (Option HandleSeen) → ℕ
       → (ℕ → Result T Fault → Type 0) → Result T Fault → Type 0
-  Reads old new handles i call result =
+  ReadsPlace old new handles i call result =
       MatchOption (slot handles i) ((result ≡ Err faults.NoSuchPlace) × (new ≡ old))
       (λ object. call object.place result)

@@ -1,10 +1,10 @@
 -- What the calls on a stack do to its top.
 use Rattle.std.specs.Prelude.{◌≡◌, ◌-◌, ℕ, List, [], ◌∷◌, ◌++◌, Option, Some, Result, MatchOption, length, slice_set}
-use Rattle.brc_count.specs.declared.handed.Handed.{Handed}
+use Rattle.brc_count.specs.declared.handed.HandedBack.{HandedBack}
 use Rattle.brc_count.specs.Frames.{FrameSeen, HandleSeen}
 use Rattle.brc_count.specs.Owned.{Loses}
 use Rattle.brc_handles.specs.Handles.{slot}
-use Rattle.brc_places.specs.Placing.{Takes}
+use Rattle.brc_places.specs.Placing.{TakesFrom}
 
 module _ {A : Type 0} where
   -- The handle on top is in place i, and its own place is gone. What was in place i is released.
@@ -23,11 +23,12 @@ module _ {A : Type 0} where
 
   -- The handle on top went by the call into the container below it. Then its place is gone, and what was in it, which is
   -- what came out, is released.
-  pub record TakesTop (call : FrameSeen A → ℕ → HandleSeen → Result (Option HandleSeen) (Handed HandleSeen) → Type 0)
+  pub record TakesTop (call : FrameSeen A → ℕ → HandleSeen → Result (Option HandleSeen) (HandedBack HandleSeen)
+      → Type 0)
       (new : FrameSeen A) (before after : List (Option HandleSeen)) : Type 0 where
     pub between : FrameSeen A
     pub places : List (Option HandleSeen)
-    pub took : Takes call between before places (length before - 2) (length before - 1)
+    pub took : TakesFrom call between before places (length before - 2) (length before - 1)
     pub last : Option HandleSeen
     pub popped : places ≡ after ++ last ∷ []
     pub gone : MatchOption last (new ≡ between) (Loses between new)

@@ -7,10 +7,10 @@ ghost use Rattle.brc_count.specs.Owned.{Keeps, Gains};
 ghost use Rattle.brc_handles.specs.Handles.{OwnsEach};
 ghost use Rattle.brc_handles.specs.Standing.{KeepsStanding};
 ghost use Rattle.brc_places.specs.Calls.{GaveBy, GaveLate};
-ghost use Rattle.brc_places.specs.Placing.{Gives, GivesNot};
+ghost use Rattle.brc_places.specs.Placing.{GivesTo, GivesNot};
 
 use crate::placing::{To, is_there, place};
-use brc_count::biased::Home;
+use brc_count::biased::HasTable;
 use brc_count::block::KeyRef;
 use brc_count::{Frame, Handle};
 use brc_dicts::{dict_del_by, dict_find_by, try_dict_del_by, try_dict_find_by};
@@ -41,7 +41,7 @@ pub enum GiveBy<'k> {
 
 /// What the object's call gives, once no other thread has the object locked; so it never answers Busy.
 #[inline(always)]
-pub fn give_by<H: Home<A>, A: Allocator>(
+pub fn give_by<H: HasTable<A>, A: Allocator>(
     rt: &impl Wait,
     frame: &mut Frame<H, A>,
     object: &Handle<A>,
@@ -67,7 +67,7 @@ pub fn give_by<H: Home<A>, A: Allocator>(
 
 /// The same in the form that never waits: Busy, where another thread has the object locked, comes first.
 #[inline(always)]
-pub fn try_give_by<H: Home<A>, A: Allocator>(
+pub fn try_give_by<H: HasTable<A>, A: Allocator>(
     frame: &mut Frame<H, A>,
     object: &Handle<A>,
     by: GiveBy<'_>,
@@ -92,7 +92,7 @@ pub fn try_give_by<H: Home<A>, A: Allocator>(
 /// What the container in a place gives goes where it is to go, once no other thread has the container locked.
 /// NoSuchPlace where no handle is in that place, or the one to be filled isn't there; then what the call answers
 /// (`brc_lists`, `brc_dicts`); then OutOfMemory for a new place, and what was given is released.
-pub fn give_at<H: Home<A>, A: Allocator>(
+pub fn give_at<H: HasTable<A>, A: Allocator>(
     rt: &impl Wait,
     frame: &mut Frame<H, A>,
     handles: &mut Handles<A>,
@@ -104,7 +104,7 @@ pub fn give_at<H: Home<A>, A: Allocator>(
     requires unlocked { IsUnlocked frame.old }
 
     ensures stands { KeepsStanding frame.old frame.new handles.old handles.new }
-    ensures gave { OnOk result (Gives to (GaveLate by.entry frame.old) frame.new handles.old handles.new container) }
+    ensures gave { OnOk result (GivesTo to (GaveLate by.entry frame.old) frame.new handles.old handles.new container) }
     ensures refused { IfErr result
         (GivesNot to (GaveLate by.entry frame.old) frame.old frame.new handles.old container) }
     ensures unchanged { OnErr result (handles.new ≡ handles.old) }
@@ -127,7 +127,7 @@ pub fn give_at<H: Home<A>, A: Allocator>(
 
 /// The same without waiting: Busy, where another thread has the container locked, comes after NoSuchPlace and before
 /// what else the call answers.
-pub fn try_give_at<H: Home<A>, A: Allocator>(
+pub fn try_give_at<H: HasTable<A>, A: Allocator>(
     frame: &mut Frame<H, A>,
     handles: &mut Handles<A>,
     container: usize,
@@ -138,7 +138,7 @@ pub fn try_give_at<H: Home<A>, A: Allocator>(
     requires unlocked { IsUnlocked frame.old }
 
     ensures stands { KeepsStanding frame.old frame.new handles.old handles.new }
-    ensures gave { OnOk result (Gives to (GaveBy by.entry frame.old) frame.new handles.old handles.new container) }
+    ensures gave { OnOk result (GivesTo to (GaveBy by.entry frame.old) frame.new handles.old handles.new container) }
     ensures refused { IfErr result
         (GivesNot to (GaveBy by.entry frame.old) frame.old frame.new handles.old container) }
     ensures unchanged { OnErr result (handles.new ≡ handles.old) }

@@ -8,21 +8,21 @@
 #![tactic(auto)]
 
 mod giving;
-mod making;
+mod place_makers;
 mod placing;
 mod reading;
-mod running;
 mod stack;
+mod stack_turns;
 mod taking;
 
 // by handle, the call as a value
 pub use giving::{GiveBy, give_by, try_give_by};
-pub use making::{Make, make_by};
+pub use place_makers::{Make, make_by};
 pub use taking::{TakeBy, take_by, try_take_by};
 
 // by place
 pub use giving::{give_at, try_give_at};
-pub use making::make_at;
+pub use place_makers::make_at;
 pub use placing::To;
 pub use reading::{
     int_at, kind_at, len_at, text_at, try_int_at, try_kind_at, try_len_at, try_text_at,
@@ -33,4 +33,4 @@ pub use taking::{take_at, try_take_at};
 pub use stack::Stack;
 
 // turns over both
-pub use running::{Step, Turn, run_steps};
+pub use stack_turns::{Step, Turn, run_steps};

@@ -8,7 +8,7 @@ ghost use Rattle.brc_handles.specs.Handles.{filled, IsApart, OwnsEach};
 ghost use Rattle.brc_places.specs.declared.placing.To.TheVariants as tos;
 ghost use Rattle.brc_places.specs.Placing.{IsThere, Placed};
 
-use brc_count::biased::Home;
+use brc_count::biased::HasTable;
 use brc_count::{Frame, Handle};
 use brc_handles::Handles;
 use brc_words::Fault;
@@ -38,7 +38,7 @@ pub(crate) fn is_there<A: Allocator>(handles: &Handles<A>, to: To) -> bool
 /// The handle goes where it is to go, and what is in that place is released. OutOfMemory where a new place can't be had:
 /// the handle is released.
 #[inline(always)]
-pub(crate) fn place<H: Home<A>, A: Allocator>(
+pub(crate) fn place<H: HasTable<A>, A: Allocator>(
     frame: &mut Frame<H, A>,
     handles: &mut Handles<A>,
     to: To,

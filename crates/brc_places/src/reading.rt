@@ -7,13 +7,13 @@ ghost use Rattle.brc_handles.specs.Handles.{OwnsEach};
 ghost use Rattle.brc_handles.specs.Standing.{KeepsStanding};
 ghost use Rattle.brc_containers.specs.Called.{Late};
 ghost use Rattle.brc_containers.specs.Looking.{KindOf, LenOf, IntOf, TextOf};
-ghost use Rattle.brc_places.specs.Reading.{Reads};
+ghost use Rattle.brc_places.specs.Reading.{ReadsPlace};
 
 use brc_containers::{
     int_of, kind_of, len_of, text_of, try_int_of, try_kind_of, try_len_of, try_text_of,
 };
 use brc_count::Frame;
-use brc_count::biased::Home;
+use brc_count::biased::HasTable;
 use brc_handles::Handles;
 use brc_words::{Fault, Kind, Text};
 use std::alloc::Allocator;
@@ -21,7 +21,7 @@ use std::sync::Wait;
 
 /// What kind of object the handle in the place is a reference to; NoSuchPlace where no handle is there. It waits while
 /// another thread has the object locked.
-pub fn kind_at<H: Home<A>, A: Allocator>(
+pub fn kind_at<H: HasTable<A>, A: Allocator>(
     rt: &impl Wait,
     frame: &mut Frame<H, A>,
     handles: &Handles<A>,
@@ -30,7 +30,7 @@ pub fn kind_at<H: Home<A>, A: Allocator>(
     requires each { OwnsEach frame.old handles.now }
     requires unlocked { IsUnlocked frame.old }
     ensures stands { KeepsStanding frame.old frame.new handles.now handles.now }
-    ensures read { Reads frame.old frame.new handles.now index
+    ensures read { ReadsPlace frame.old frame.new handles.now index
         (λ k answer. Late frame.old k (λ mid. KindOf mid frame.new k answer)) result }
 {
     let Some(handle) = handles.get(index) else {
@@ -40,7 +40,7 @@ pub fn kind_at<H: Home<A>, A: Allocator>(
 }
 
 /// The same without waiting: Busy, where another thread has the object locked, comes after NoSuchPlace.
-pub fn try_kind_at<H: Home<A>, A: Allocator>(
+pub fn try_kind_at<H: HasTable<A>, A: Allocator>(
     frame: &mut Frame<H, A>,
     handles: &Handles<A>,
     index: usize,
@@ -48,7 +48,7 @@ pub fn try_kind_at<H: Home<A>, A: Allocator>(
     requires each { OwnsEach frame.old handles.now }
     requires unlocked { IsUnlocked frame.old }
     ensures stands { KeepsStanding frame.old frame.new handles.now handles.now }
-    ensures read { Reads frame.old frame.new handles.now index (KindOf frame.old frame.new) result }
+    ensures read { ReadsPlace frame.old frame.new handles.now index (KindOf frame.old frame.new) result }
 {
     let Some(handle) = handles.get(index) else {
         return Err(Fault::NoSuchPlace);
@@ -58,7 +58,7 @@ pub fn try_kind_at<H: Home<A>, A: Allocator>(
 
 /// How many entries the container in the place has: NoSuchPlace where no handle is there, then what `len_of` answers. It
 /// waits while another thread has the object locked.
-pub fn len_at<H: Home<A>, A: Allocator>(
+pub fn len_at<H: HasTable<A>, A: Allocator>(
     rt: &impl Wait,
     frame: &mut Frame<H, A>,
     handles: &Handles<A>,
@@ -67,7 +67,7 @@ pub fn len_at<H: Home<A>, A: Allocator>(
     requires each { OwnsEach frame.old handles.now }
     requires unlocked { IsUnlocked frame.old }
     ensures stands { KeepsStanding frame.old frame.new handles.now handles.now }
-    ensures read { Reads frame.old frame.new handles.now index
+    ensures read { ReadsPlace frame.old frame.new handles.now index
         (λ k answer. Late frame.old k (λ mid. LenOf mid frame.new k answer)) result }
 {
     let Some(handle) = handles.get(index) else {
@@ -77,7 +77,7 @@ pub fn len_at<H: Home<A>, A: Allocator>(
 }
 
 /// The same without waiting: Busy, where another thread has the object locked, comes after NoSuchPlace.
-pub fn try_len_at<H: Home<A>, A: Allocator>(
+pub fn try_len_at<H: HasTable<A>, A: Allocator>(
     frame: &mut Frame<H, A>,
     handles: &Handles<A>,
     index: usize,
@@ -85,7 +85,7 @@ pub fn try_len_at<H: Home<A>, A: Allocator>(
     requires each { OwnsEach frame.old handles.now }
     requires unlocked { IsUnlocked frame.old }
     ensures stands { KeepsStanding frame.old frame.new handles.now handles.now }
-    ensures read { Reads frame.old frame.new handles.now index (LenOf frame.old frame.new) result }
+    ensures read { ReadsPlace frame.old frame.new handles.now index (LenOf frame.old frame.new) result }
 {
     let Some(handle) = handles.get(index) else {
         return Err(Fault::NoSuchPlace);
@@ -95,7 +95,7 @@ pub fn try_len_at<H: Home<A>, A: Allocator>(
 
 /// The number of the integer in the place: NoSuchPlace where no handle is there, then what `int_of` answers. It waits
 /// while another thread has the object locked.
-pub fn int_at<H: Home<A>, A: Allocator>(
+pub fn int_at<H: HasTable<A>, A: Allocator>(
     rt: &impl Wait,
     frame: &mut Frame<H, A>,
     handles: &Handles<A>,
@@ -104,7 +104,7 @@ pub fn int_at<H: Home<A>, A: Allocator>(
     requires each { OwnsEach frame.old handles.now }
     requires unlocked { IsUnlocked frame.old }
     ensures stands { KeepsStanding frame.old frame.new handles.now handles.now }
-    ensures read { Reads frame.old frame.new handles.now index
+    ensures read { ReadsPlace frame.old frame.new handles.now index
         (λ k answer. Late frame.old k (λ mid. IntOf mid frame.new k answer)) result }
 {
     let Some(handle) = handles.get(index) else {
@@ -114,7 +114,7 @@ pub fn int_at<H: Home<A>, A: Allocator>(
 }
 
 /// The same without waiting: Busy, where another thread has the object locked, comes after NoSuchPlace.
-pub fn try_int_at<H: Home<A>, A: Allocator>(
+pub fn try_int_at<H: HasTable<A>, A: Allocator>(
     frame: &mut Frame<H, A>,
     handles: &Handles<A>,
     index: usize,
@@ -122,7 +122,7 @@ pub fn try_int_at<H: Home<A>, A: Allocator>(
     requires each { OwnsEach frame.old handles.now }
     requires unlocked { IsUnlocked frame.old }
     ensures stands { KeepsStanding frame.old frame.new handles.now handles.now }
-    ensures read { Reads frame.old frame.new handles.now index (IntOf frame.old frame.new) result }
+    ensures read { ReadsPlace frame.old frame.new handles.now index (IntOf frame.old frame.new) result }
 {
     let Some(handle) = handles.get(index) else {
         return Err(Fault::NoSuchPlace);
@@ -132,7 +132,7 @@ pub fn try_int_at<H: Home<A>, A: Allocator>(
 
 /// A copy of the text in the place: NoSuchPlace where no handle is there, then what `text_of` answers. It waits while
 /// another thread has the object locked.
-pub fn text_at<H: Home<A>, A: Allocator>(
+pub fn text_at<H: HasTable<A>, A: Allocator>(
     rt: &impl Wait,
     alloc: A,
     frame: &mut Frame<H, A>,
@@ -142,7 +142,7 @@ pub fn text_at<H: Home<A>, A: Allocator>(
     requires each { OwnsEach frame.old handles.now }
     requires unlocked { IsUnlocked frame.old }
     ensures stands { KeepsStanding frame.old frame.new handles.now handles.now }
-    ensures read { Reads frame.old frame.new handles.now index
+    ensures read { ReadsPlace frame.old frame.new handles.now index
         (λ k answer. Late frame.old k (λ mid. TextOf mid frame.new k answer)) result }
 {
     let Some(handle) = handles.get(index) else {
@@ -152,7 +152,7 @@ pub fn text_at<H: Home<A>, A: Allocator>(
 }
 
 /// The same without waiting: Busy, where another thread has the object locked, comes after NoSuchPlace.
-pub fn try_text_at<H: Home<A>, A: Allocator>(
+pub fn try_text_at<H: HasTable<A>, A: Allocator>(
     alloc: A,
     frame: &mut Frame<H, A>,
     handles: &Handles<A>,
@@ -161,7 +161,7 @@ pub fn try_text_at<H: Home<A>, A: Allocator>(
     requires each { OwnsEach frame.old handles.now }
     requires unlocked { IsUnlocked frame.old }
     ensures stands { KeepsStanding frame.old frame.new handles.now handles.now }
-    ensures read { Reads frame.old frame.new handles.now index (TextOf frame.old frame.new) result }
+    ensures read { ReadsPlace frame.old frame.new handles.now index (TextOf frame.old frame.new) result }
 {
     let Some(handle) = handles.get(index) else {
         return Err(Fault::NoSuchPlace);

@@ -11,18 +11,18 @@ ghost use Rattle.brc_containers.specs.Looking.{IntOf};
 ghost use Rattle.brc_handles.specs.Handles.{slot, filled, IsApart, OwnsEach, Retains, Swapped};
 ghost use Rattle.brc_handles.specs.Standing.{KeepsStanding};
 ghost use Rattle.brc_places.specs.declared.placing.To.TheVariants as tos;
-ghost use Rattle.brc_places.specs.declared.making.Make.TheVariants as makes;
+ghost use Rattle.brc_places.specs.declared.place_makers.Make.TheVariants as makes;
 ghost use Rattle.brc_places.specs.Calls.{MadeBy, GaveLate, TookLate};
-ghost use Rattle.brc_places.specs.Placing.{Comes, Lacks, Gives, GivesNot, TakesNot};
-ghost use Rattle.brc_places.specs.Reading.{Reads};
+ghost use Rattle.brc_places.specs.Placing.{Comes, Lacks, GivesTo, GivesNot, TakesNot};
+ghost use Rattle.brc_places.specs.Reading.{ReadsPlace};
 ghost use Rattle.brc_places.specs.Stacking.{DropsLast, Stores, TakesTop};
 
 use crate::giving::{GiveBy, give_at};
-use crate::making::{Make, make_at};
+use crate::place_makers::{Make, make_at};
 use crate::placing::{To, place};
 use crate::reading::int_at;
 use crate::taking::{TakeBy, take_at};
-use brc_count::biased::Home;
+use brc_count::biased::HasTable;
 use brc_count::{Frame, Handle};
 use brc_handles::Handles;
 use brc_words::Fault;
@@ -32,7 +32,7 @@ use std::sync::Wait;
 
 /// The last place goes, and what is in it is released.
 #[inline(always)]
-fn drop_last<H: Home<A>, A: Allocator>(frame: &mut Frame<H, A>, handles: &mut Handles<A>)
+fn drop_last<H: HasTable<A>, A: Allocator>(frame: &mut Frame<H, A>, handles: &mut Handles<A>)
     requires each { OwnsEach frame.old handles.old }
     requires unlocked { IsUnlocked frame.old }
     requires some { 0 < length handles.old }
@@ -96,7 +96,7 @@ impl<A: Allocator> Stack<A> {
 
     /// A handle on top. OutOfMemory where the place can't be had: the handle is released.
     #[inline(always)]
-    pub fn push<H: Home<A>>(
+    pub fn push<H: HasTable<A>>(
         &mut self,
         frame: &mut Frame<H, A>,
         handle: Handle<A>,
@@ -121,7 +121,7 @@ impl<A: Allocator> Stack<A> {
     }
 
     /// What is made, on top; it is refused as `make_at` is.
-    pub fn make<H: Home<A>>(
+    pub fn make<H: HasTable<A>>(
         &mut self,
         alloc: A,
         frame: &mut Frame<H, A>,
@@ -141,7 +141,7 @@ impl<A: Allocator> Stack<A> {
 
     /// The top goes. The answer is the handle that was in it; None where it was empty, or there is none.
     #[inline(always)]
-    pub fn pop<H: Home<A>>(&mut self, frame: &Frame<H, A>) -> Option<Handle<A>>
+    pub fn pop<H: HasTable<A>>(&mut self, frame: &Frame<H, A>) -> Option<Handle<A>>
         requires each { OwnsEach frame.now self.old }
 
         ensures each { OwnsEach frame.now self.new }
@@ -163,7 +163,7 @@ impl<A: Allocator> Stack<A> {
 
     /// The top goes, and what was in it is released. NoSuchPlace where no handle was in it, or there is none.
     #[inline(always)]
-    pub fn release<H: Home<A>>(&mut self, frame: &mut Frame<H, A>) -> Result<(), Fault>
+    pub fn release<H: HasTable<A>>(&mut self, frame: &mut Frame<H, A>) -> Result<(), Fault>
         requires each { OwnsEach frame.old self.old }
         requires unlocked { IsUnlocked frame.old }
         ensures stands { KeepsStanding frame.old frame.new self.old self.new }
@@ -183,7 +183,11 @@ impl<A: Allocator> Stack<A> {
     /// One reference more to the object of the handle in this place, counted from the first, on top. NoSuchPlace where
     /// no handle is there, then as `Handles::retain`.
     #[inline(always)]
-    pub fn load<H: Home<A>>(&mut self, frame: &mut Frame<H, A>, index: usize) -> Result<(), Fault>
+    pub fn load<H: HasTable<A>>(
+        &mut self,
+        frame: &mut Frame<H, A>,
+        index: usize,
+    ) -> Result<(), Fault>
         requires each { OwnsEach frame.old self.old }
         requires unlocked { IsUnlocked frame.old }
         ensures stands { KeepsStanding frame.old frame.new self.old self.new }
@@ -201,7 +205,7 @@ impl<A: Allocator> Stack<A> {
 
     /// The top's object once more, on top, as `load` does it.
     #[inline(always)]
-    pub fn duplicate<H: Home<A>>(&mut self, frame: &mut Frame<H, A>) -> Result<(), Fault>
+    pub fn duplicate<H: HasTable<A>>(&mut self, frame: &mut Frame<H, A>) -> Result<(), Fault>
         requires each { OwnsEach frame.old self.old }
         requires unlocked { IsUnlocked frame.old }
         ensures stands { KeepsStanding frame.old frame.new self.old self.new }
@@ -216,7 +220,7 @@ impl<A: Allocator> Stack<A> {
 
     /// The two topmost, each in the other's place. NoSuchPlace where there are fewer than two places.
     #[inline(always)]
-    pub fn swap<H: Home<A>>(&mut self, frame: &Frame<H, A>) -> Result<(), Fault>
+    pub fn swap<H: HasTable<A>>(&mut self, frame: &Frame<H, A>) -> Result<(), Fault>
         requires each { OwnsEach frame.now self.old }
 
         ensures each { OwnsEach frame.now self.new }
@@ -235,7 +239,7 @@ impl<A: Allocator> Stack<A> {
     }
 
     /// What the container on top gives, on top of it; it is refused as `give_at` is.
-    pub fn give<H: Home<A>>(
+    pub fn give<H: HasTable<A>>(
         &mut self,
         rt: &impl Wait,
         frame: &mut Frame<H, A>,
@@ -245,7 +249,7 @@ impl<A: Allocator> Stack<A> {
         requires unlocked { IsUnlocked frame.old }
         ensures stands { KeepsStanding frame.old frame.new self.old self.new }
         ensures gave { OnOk result
-            (Gives tos.Last (GaveLate by.entry frame.old) frame.new self.old self.new (length self.old - 1)) }
+            (GivesTo tos.Last (GaveLate by.entry frame.old) frame.new self.old self.new (length self.old - 1)) }
         ensures refused { IfErr result
             (GivesNot tos.Last (GaveLate by.entry frame.old) frame.old frame.new self.old (length self.old - 1)) }
         ensures unchanged { OnErr result (self.new ≡ self.old) }
@@ -256,7 +260,7 @@ impl<A: Allocator> Stack<A> {
 
     /// The top goes into the container below it; what came out for it is released. NoSuchPlace where there are fewer
     /// than two places, then as `take_at`: then the top stays.
-    pub fn take<H: Home<A>>(
+    pub fn take<H: HasTable<A>>(
         &mut self,
         rt: &impl Wait,
         alloc: A,
@@ -289,7 +293,11 @@ impl<A: Allocator> Stack<A> {
     /// The top goes into this place, counted from the first, and what was there is released. NoSuchPlace where there is
     /// no such place below the top, then where no handle is on top: its place is gone.
     #[inline(always)]
-    pub fn store<H: Home<A>>(&mut self, frame: &mut Frame<H, A>, index: usize) -> Result<(), Fault>
+    pub fn store<H: HasTable<A>>(
+        &mut self,
+        frame: &mut Frame<H, A>,
+        index: usize,
+    ) -> Result<(), Fault>
         requires each { OwnsEach frame.old self.old }
         requires unlocked { IsUnlocked frame.old }
         ensures stands { KeepsStanding frame.old frame.new self.old self.new }
@@ -310,11 +318,11 @@ impl<A: Allocator> Stack<A> {
 
     /// The number of the integer on top, which stays; it is refused as `int_at` is.
     #[inline(always)]
-    pub fn int<H: Home<A>>(&self, rt: &impl Wait, frame: &mut Frame<H, A>) -> Result<i64, Fault>
+    pub fn int<H: HasTable<A>>(&self, rt: &impl Wait, frame: &mut Frame<H, A>) -> Result<i64, Fault>
         requires each { OwnsEach frame.old self.now }
         requires unlocked { IsUnlocked frame.old }
         ensures stands { KeepsStanding frame.old frame.new self.now self.now }
-        ensures read { Reads frame.old frame.new self.now (length self.now - 1)
+        ensures read { ReadsPlace frame.old frame.new self.now (length self.now - 1)
             (λ k answer. Late frame.old k (λ mid. IntOf mid frame.new k answer)) result }
     {
         let top = self.len().saturating_sub(1);
@@ -322,7 +330,7 @@ impl<A: Allocator> Stack<A> {
     }
 
     /// All of them are released, the first one first: the thread only lets go.
-    pub fn release_all<H: Home<A>>(self, frame: &mut Frame<H, A>)
+    pub fn release_all<H: HasTable<A>>(self, frame: &mut Frame<H, A>)
         requires each { OwnsEach frame.old self }
         requires unlocked { IsUnlocked frame.old }
         ensures count { frame.new.len + filled self ≡ frame.old.len }

@@ -8,11 +8,11 @@ ghost use Rattle.brc_count.specs.Owned.{Keeps, Loses};
 ghost use Rattle.brc_handles.specs.Handles.{slot, IsApart, ComesIn, OwnsEach};
 ghost use Rattle.brc_handles.specs.Standing.{KeepsStanding};
 ghost use Rattle.brc_places.specs.Calls.{TookBy, TookLate};
-ghost use Rattle.brc_places.specs.Placing.{Takes, TakesNot};
+ghost use Rattle.brc_places.specs.Placing.{TakesFrom, TakesNot};
 
-use brc_count::biased::Home;
+use brc_count::biased::HasTable;
 use brc_count::block::KeyRef;
-use brc_count::{Frame, Handed, Handle};
+use brc_count::{Frame, HandedBack, Handle};
 use brc_dicts::{dict_set, try_dict_set};
 use brc_handles::Handles;
 use brc_lists::{list_push, list_set, send, try_list_push, try_list_set, try_send};
@@ -36,14 +36,14 @@ pub enum TakeBy<'k> {
 /// The value goes by the call, once no other thread has the object locked, and what was there comes out; or it is handed
 /// back with the fault, which is never Busy.
 #[inline(always)]
-pub fn take_by<H: Home<A>, A: Allocator + Copy>(
+pub fn take_by<H: HasTable<A>, A: Allocator + Copy>(
     rt: &impl Wait,
     alloc: A,
     frame: &mut Frame<H, A>,
     object: &Handle<A>,
     by: TakeBy<'_>,
     given: Handle<A>,
-) -> Result<Option<Handle<A>>, Handed<Handle<A>>>
+) -> Result<Option<Handle<A>>, HandedBack<Handle<A>>>
     requires owned { Owns frame.old object.now }
     requires value_owned { Owns frame.old given }
     requires apart { given.place ≢ object.now.place }
@@ -53,7 +53,7 @@ pub fn take_by<H: Home<A>, A: Allocator + Copy>(
         (λ old. Keeps frame.old frame.new × (old ≡ given))) }
     ensures keeps { OnErr result (Keeps frame.old frame.new) }
     ensures unlocked { IsUnlocked frame.new }
-    ensures back { IfErr result (λ handed. handed.back ≡ given) }
+    ensures back { IfErr result (λ handed. handed.value ≡ given) }
     ensures waited { IfErr result (λ handed. handed.fault ≢ faults.Busy) }
 {
     match by {
@@ -79,13 +79,13 @@ pub fn take_by<H: Home<A>, A: Allocator + Copy>(
 
 /// The same in the form that never waits: Busy, where another thread has the object locked, comes first.
 #[inline(always)]
-pub fn try_take_by<H: Home<A>, A: Allocator + Copy>(
+pub fn try_take_by<H: HasTable<A>, A: Allocator + Copy>(
     alloc: A,
     frame: &mut Frame<H, A>,
     object: &Handle<A>,
     by: TakeBy<'_>,
     given: Handle<A>,
-) -> Result<Option<Handle<A>>, Handed<Handle<A>>>
+) -> Result<Option<Handle<A>>, HandedBack<Handle<A>>>
     requires owned { Owns frame.old object.now }
     requires value_owned { Owns frame.old given }
     requires apart { given.place ≢ object.now.place }
@@ -95,7 +95,7 @@ pub fn try_take_by<H: Home<A>, A: Allocator + Copy>(
         (λ old. Keeps frame.old frame.new × (old ≡ given))) }
     ensures keeps { OnErr result (Keeps frame.old frame.new) }
     ensures unlocked { IsUnlocked frame.new }
-    ensures back { IfErr result (λ handed. handed.back ≡ given) }
+    ensures back { IfErr result (λ handed. handed.value ≡ given) }
 {
     match by {
         TakeBy::Push => match try_list_push(frame, object, given) {
@@ -136,7 +136,7 @@ fn put_back<A: Allocator>(handles: &mut Handles<A>, index: usize, handle: Handle
 /// The handle in the value's place goes into the container in another place, once no other thread has that locked. The
 /// value's place has what came out for it then, which lies in the same place of the frame, or is empty. NoSuchPlace where no handle is in one of them, or they are
 /// one place; then what the call answers (`brc_lists`, `brc_dicts`): the value stays in its place.
-pub fn take_at<H: Home<A>, A: Allocator + Copy>(
+pub fn take_at<H: HasTable<A>, A: Allocator + Copy>(
     rt: &impl Wait,
     alloc: A,
     frame: &mut Frame<H, A>,
@@ -150,7 +150,7 @@ pub fn take_at<H: Home<A>, A: Allocator + Copy>(
 
     ensures stands { KeepsStanding frame.old frame.new handles.old handles.new }
     ensures took { OnOk result
-        (Takes (TookLate by.entry frame.old) frame.new handles.old handles.new container value) }
+        (TakesFrom (TookLate by.entry frame.old) frame.new handles.old handles.new container value) }
     ensures refused { IfErr result
         (TakesNot (TookLate by.entry frame.old) frame.old frame.new handles.old container value) }
     ensures came { OnOk result (IfSome (slot handles.new value) (λ came. slot handles.old value ≡ Some came)) }
@@ -171,7 +171,7 @@ pub fn take_at<H: Home<A>, A: Allocator + Copy>(
             Ok(())
         }
         Err(handed) => {
-            put_back(handles, value, handed.back);
+            put_back(handles, value, handed.value);
             Err(handed.fault)
         }
     }
@@ -179,7 +179,7 @@ pub fn take_at<H: Home<A>, A: Allocator + Copy>(
 
 /// The same without waiting: Busy, where another thread has the container locked, comes after NoSuchPlace and before
 /// what else the call answers.
-pub fn try_take_at<H: Home<A>, A: Allocator + Copy>(
+pub fn try_take_at<H: HasTable<A>, A: Allocator + Copy>(
     alloc: A,
     frame: &mut Frame<H, A>,
     handles: &mut Handles<A>,
@@ -192,7 +192,7 @@ pub fn try_take_at<H: Home<A>, A: Allocator + Copy>(
 
     ensures stands { KeepsStanding frame.old frame.new handles.old handles.new }
     ensures took { OnOk result
-        (Takes (TookBy by.entry frame.old) frame.new handles.old handles.new container value) }
+        (TakesFrom (TookBy by.entry frame.old) frame.new handles.old handles.new container value) }
     ensures refused { IfErr result
         (TakesNot (TookBy by.entry frame.old) frame.old frame.new handles.old container value) }
     ensures came { OnOk result (IfSome (slot handles.new value) (λ came. slot handles.old value ≡ Some came)) }
@@ -212,7 +212,7 @@ pub fn try_take_at<H: Home<A>, A: Allocator + Copy>(
             Ok(())
         }
         Err(handed) => {
-            put_back(handles, value, handed.back);
+            put_back(handles, value, handed.value);
             Err(handed.fault)
         }
     }

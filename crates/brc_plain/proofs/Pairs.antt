@@ -10,7 +10,7 @@ use Rattle.std.proofs.lemmas.Slice.Eq.{bytes_eq-Decides}
 use Rattle.brc_words.specs.declared.key.Key.{Key}
 use Rattle.brc_words.specs.declared.key.Key.TheVariants.{Int, Text}
 use Rattle.brc_words.specs.Keys.{same_key}
-use Rattle.brc_plain.specs.Dicts.{value_at, Stands, HasDistinctKeys, replaced, without, put, delete}
+use Rattle.brc_plain.specs.Dicts.{value_at, IsFirstAt, HasNoKeyTwice, replaced, without, put, delete}
 use Rattle.brc_plain.specs.Outcomes.{Does, DoesIfRoom}
 use Rattle.brc_words.specs.declared.fault.Fault.TheVariants as faults
 use Rattle.brc_words.specs.declared.limits.TheConstants.{MOST_ENTRIES}
@@ -27,7 +27,7 @@ module _ {A E : Type 0} where
   -- the first place that passes is where the key stands
   pub stands_at_first : (key : Key A) (pairs : List (Key A × E)) (place : ℕ) (d : Key A × E) → place < length pairs
       → same_key (get_or pairs place d).0 key ≡ true
-      → ((k : ℕ) → k < place → same_key (get_or pairs k d).0 key ≡ false) → Stands key pairs place
+      → ((k : ℕ) → k < place → same_key (get_or pairs k d).0 key ≡ false) → IsFirstAt key pairs place
   stands_at_first key [] place d within here before = absurd (omega arith)
   stands_at_first key (pair ∷ pairs) zero d within here before = here
   stands_at_first key (pair ∷ pairs) (suc place) d within here before = (
@@ -45,7 +45,7 @@ module _ {A E : Type 0} where
   -- the place that is found is where the key stands
   pub found_there : (key : Key A) (pairs : List (Key A × E)) (place : ℕ)
       → position (λ pair. same_key pair.0 key) pairs ≡ Some place
-      → (place < length pairs) × Stands key pairs place
+      → (place < length pairs) × IsFirstAt key pairs place
   found_there key [] place h = absurd (cc)
   found_there key (pair ∷ pairs) place h =
       let all : List (Key A × E) = pair ∷ pairs in
@@ -60,20 +60,20 @@ module _ {A E : Type 0} where
       none_from key pairs 0 (sym (position_from-zero (λ (w : Key A × E). same_key w.0 key) pairs) ∙ h)
 
   pub value_there : (key : Key A) (pairs : List (Key A × E)) (place : ℕ) (d : Key A × E)
-      → Stands key pairs place → value_at key pairs ≡ Some (get_or pairs place d).1
+      → IsFirstAt key pairs place → value_at key pairs ≡ Some (get_or pairs place d).1
   value_there key [] place d h = absurd h
   value_there key (pair ∷ pairs) zero d h = rw h refl
   value_there key (pair ∷ pairs) (suc place) d h = rw h.0 (value_there key pairs place d h.1)
 
   pub replaced_there : (key : Key A) (value : E) (pairs : List (Key A × E)) (place : ℕ) (d : Key A × E)
-      → Stands key pairs place → replaced key value pairs ≡ set pairs place ((get_or pairs place d).0, value)
+      → IsFirstAt key pairs place → replaced key value pairs ≡ set pairs place ((get_or pairs place d).0, value)
   replaced_there key value [] place d h = absurd h
   replaced_there key value (pair ∷ pairs) zero d h = rw h refl
   replaced_there key value (pair ∷ pairs) (suc place) d h =
       rw h.0 (ap (λ (rest : List (Key A × E)). pair ∷ rest) (replaced_there key value pairs place d h.1))
 
   pub without_there : (key : Key A) (pairs : List (Key A × E)) (place : ℕ)
-      → Stands key pairs place → without key pairs ≡ remove pairs place
+      → IsFirstAt key pairs place → without key pairs ≡ remove pairs place
   without_there key [] place h = absurd h
   without_there key (pair ∷ pairs) zero h = rw h refl
   without_there key (pair ∷ pairs) (suc place) h =
@@ -102,28 +102,28 @@ module _ {A E : Type 0} where
 
   -- where no key stands twice, none does after another value stands beside some key
   pub distinct_replaced : (key : Key A) (value : E) (pairs : List (Key A × E))
-      → HasDistinctKeys pairs → HasDistinctKeys (replaced key value pairs)
+      → HasNoKeyTwice pairs → HasNoKeyTwice (replaced key value pairs)
   distinct_replaced key value [] h = h
   distinct_replaced key value (pair ∷ pairs) h =
-      let P : List (Key A × E) → Type 0 = HasDistinctKeys in
-      let rest : HasDistinctKeys (replaced key value pairs) = distinct_replaced key value pairs h.1 in
+      let P : List (Key A × E) → Type 0 = HasNoKeyTwice in
+      let rest : HasNoKeyTwice (replaced key value pairs) = distinct_replaced key value pairs h.1 in
       let none : value_at pair.0 (replaced key value pairs) ≡ None = none_replaced pair.0 key value pairs h.0 in
       elim (same_key pair.0 key) as (λ b. P (if b then (pair.0, value) ∷ pairs else pair ∷ replaced key value pairs))
       [ true ↦ h | false ↦ (none, rest) ]
 
   pub distinct_without : (key : Key A) (pairs : List (Key A × E))
-      → HasDistinctKeys pairs → HasDistinctKeys (without key pairs)
+      → HasNoKeyTwice pairs → HasNoKeyTwice (without key pairs)
   distinct_without key [] h = h
   distinct_without key (pair ∷ pairs) h =
-      let P : List (Key A × E) → Type 0 = HasDistinctKeys in
-      let rest : HasDistinctKeys (without key pairs) = distinct_without key pairs h.1 in
+      let P : List (Key A × E) → Type 0 = HasNoKeyTwice in
+      let rest : HasNoKeyTwice (without key pairs) = distinct_without key pairs h.1 in
       let none : value_at pair.0 (without key pairs) ≡ None = none_without pair.0 key pairs h.0 in
       elim (same_key pair.0 key) as (λ b. P (if b then pairs else pair ∷ without key pairs))
       [ true ↦ h.1 | false ↦ (none, rest) ]
 
   -- one more pair, of a key that isn't there
   pub distinct_more : (key : Key A) (value : E) (pairs : List (Key A × E)) → value_at key pairs ≡ None
-      → HasDistinctKeys pairs → HasDistinctKeys (pairs ++ (key, value) ∷ [])
+      → HasNoKeyTwice pairs → HasNoKeyTwice (pairs ++ (key, value) ∷ [])
   distinct_more key value [] absent h = (refl, tt)
   distinct_more key value (pair ∷ pairs) absent h =
       let split : (same_key pair.0 key ≡ false) × (value_at key pairs ≡ None) = none_apart key pair pairs absent in (
@@ -133,7 +133,7 @@ module _ {A E : Type 0} where
 
   -- what the calls come to where the key stands at a place, and where it stands at none
   pub put_there : (key : Key A) (value : E) (pairs new : List (Key A × E)) (place : ℕ) (d : Key A × E) (old : E)
-      → Stands key pairs place → d ≡ get_or pairs place d → old ≡ d.1 → new ≡ set pairs place (d.0, value)
+      → IsFirstAt key pairs place → d ≡ get_or pairs place d → old ≡ d.1 → new ≡ set pairs place (d.0, value)
       → DoesIfRoom (Ok (Some old)) pairs new (put pairs key value)
   put_there key value pairs new place d old h here was becomes =
       rw (DoesIfRoom, value_there key pairs place d h) (
@@ -142,7 +142,7 @@ module _ {A E : Type 0} where
             ∙ sym (replaced_there key value pairs place d h),
       )
 
-  pub delete_there : (key : Key A) (pairs : List (Key A × E)) (place : ℕ) (d : Key A × E) → Stands key pairs place
+  pub delete_there : (key : Key A) (pairs : List (Key A × E)) (place : ℕ) (d : Key A × E) → IsFirstAt key pairs place
       → Does (Ok (get_or pairs place d).1) pairs (remove pairs place) (delete pairs key)
   delete_there key pairs place d h =
       rw (value_there key pairs place d h) (refl, sym (without_there key pairs place h))
@@ -166,14 +166,14 @@ module _ {A E : Type 0} where
 
   -- another value beside a key: no key stands twice, and there are as many pairs
   pub distinct_set : (key : Key A) (value : E) (pairs : List (Key A × E)) (place : ℕ) (d : Key A × E)
-      → Stands key pairs place → HasDistinctKeys pairs
-      → HasDistinctKeys (set pairs place ((get_or pairs place d).0, value))
+      → IsFirstAt key pairs place → HasNoKeyTwice pairs
+      → HasNoKeyTwice (set pairs place ((get_or pairs place d).0, value))
   distinct_set key value pairs place d there h =
-      let P : List (Key A × E) → Type 0 = HasDistinctKeys in
+      let P : List (Key A × E) → Type 0 = HasNoKeyTwice in
       subst P (replaced_there key value pairs place d there) (distinct_replaced key value pairs h)
 
   pub distinct_remove : (key : Key A) (pairs : List (Key A × E)) (place : ℕ)
-      → Stands key pairs place → HasDistinctKeys pairs → HasDistinctKeys (remove pairs place)
+      → IsFirstAt key pairs place → HasNoKeyTwice pairs → HasNoKeyTwice (remove pairs place)
   distinct_remove key pairs place there h =
-      let P : List (Key A × E) → Type 0 = HasDistinctKeys in
+      let P : List (Key A × E) → Type 0 = HasNoKeyTwice in
       subst P (without_there key pairs place there) (distinct_without key pairs h)

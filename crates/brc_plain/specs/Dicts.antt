@@ -16,15 +16,15 @@ module _ {A E : Type 0} where
   value_at key (pair ∷ pairs) = if same_key pair.0 key then Some pair.1 else value_at key pairs
 
   -- the key stands there, and not before
-  abbrev pub Stands : Key A → List (Key A × E) → ℕ → Type 0
-  Stands key [] place = ⊥
-  Stands key (pair ∷ pairs) zero = same_key pair.0 key ≡ true
-  Stands key (pair ∷ pairs) (suc place) = (same_key pair.0 key ≡ false) × Stands key pairs place
+  abbrev pub IsFirstAt : Key A → List (Key A × E) → ℕ → Type 0
+  IsFirstAt key [] place = ⊥
+  IsFirstAt key (pair ∷ pairs) zero = same_key pair.0 key ≡ true
+  IsFirstAt key (pair ∷ pairs) (suc place) = (same_key pair.0 key ≡ false) × IsFirstAt key pairs place
 
   -- no key stands twice
-  abbrev pub HasDistinctKeys : List (Key A × E) → Type 0
-  HasDistinctKeys [] = Unit {0}
-  HasDistinctKeys (pair ∷ pairs) = (value_at pair.0 pairs ≡ None) × HasDistinctKeys pairs
+  abbrev pub HasNoKeyTwice : List (Key A × E) → Type 0
+  HasNoKeyTwice [] = Unit {0}
+  HasNoKeyTwice (pair ∷ pairs) = (value_at pair.0 pairs ≡ None) × HasNoKeyTwice pairs
 
   -- another value beside the key, which stays where it is
   abbrev pub replaced : Key A → E → List (Key A × E) → List (Key A × E)

@@ -21,13 +21,13 @@ impl<E: Drop, A: Allocator> Model for PlainDict<E, A> {
     ghost use Rattle.std.specs.Prelude.{List, ◌≤◌, length};
     ghost use Rattle.brc_words.specs.declared.key.Key.{Key};
     ghost use Rattle.brc_words.specs.declared.limits.TheConstants.{MOST_ENTRIES};
-    ghost use Rattle.brc_plain.specs.Dicts.{HasDistinctKeys};
+    ghost use Rattle.brc_plain.specs.Dicts.{HasNoKeyTwice};
 
     ghost Value = { List (Key A × E) };
 
     ghost view = { λ d. d.pairs.items };
 
-    ghost invariant = { λ d. (length d.pairs.items ≤ MOST_ENTRIES) × HasDistinctKeys d.pairs.items };
+    ghost invariant = { λ d. (length d.pairs.items ≤ MOST_ENTRIES) × HasNoKeyTwice d.pairs.items };
 }
 
 impl<E: Drop, A: Allocator> PlainDict<E, A> {

@@ -63,8 +63,8 @@ told_text (fails.NoCommand unread) = uncommanded_text unread
 
 -- all of it stands behind what was there, and the status is that of what failed; or a front of it does, and the status
 -- is 5
-abbrev pub Tells : Option (List ℕ) → Option (List ℕ) → Failed → ℕ → Type 0
-Tells old new failed status =
+abbrev pub WritesError : Option (List ℕ) → Option (List ℕ) → Failed → ℕ → Type 0
+WritesError old new failed status =
     (Appends old new (told_text failed) × (status ≡ status_of_failed failed))
     ⊎ ((rest : List ℕ) × PutsUpTo old new (told_text failed) rest × (status ≡ 5))
 

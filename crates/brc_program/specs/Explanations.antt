@@ -31,8 +31,8 @@ use Rattle.brc_trace.specs.declared.explaining.Refused.{Refused}
 use Rattle.brc_trace.specs.declared.explaining.Why.{Why}
 use Rattle.brc_trace.specs.declared.explaining.Why.TheVariants as whys
 use Rattle.brc_trace.specs.Worlds.{status_word, phase_word, state_word}
-use Rattle.brc_program.specs.declared.facts.Fact.{Fact}
-use Rattle.brc_program.specs.declared.facts.Fact.TheVariants as facts
+use Rattle.brc_program.specs.declared.facts.LineFact.{LineFact}
+use Rattle.brc_program.specs.declared.facts.LineFact.TheVariants as facts
 
 -- texts as one, one behind the other
 abbrev pub together : List (List ℕ) → List ℕ
@@ -204,7 +204,7 @@ owner_text (owners.Claimed thread) = together (codes ", claimed by " ∷ decimal
 owner_text owners.Free = codes ", free"
 
 -- what the line says of each fact; nothing of one that isn't there
-abbrev pub fact_text : Fact → List ℕ
+abbrev pub fact_text : LineFact → List ℕ
 fact_text facts.Begins = codes "brc: why: "
 fact_text (facts.Refused step refusal) = refusal_text step refusal
 fact_text (facts.Finer part) = phrase_text (finer_phrase part)
@@ -223,19 +223,19 @@ fact_text facts.Ends = 10 ∷ []
 fact_text _ = []
 
 -- of the cell that the event means, if it means one
-abbrev pub facts_of_cell : Option Meant → List Fact
+abbrev pub facts_of_cell : Option Meant → List LineFact
 facts_of_cell None = facts.Ends ∷ []
 facts_of_cell (Some meant) =
     facts.Cell meant.cell ∷ facts.Owner meant.owner ∷ facts.Kind meant.kind ∷ facts.Local meant.local
     ∷ facts.Shared meant.count ∷ facts.State meant.state ∷ facts.Ends ∷ []
 
 -- the condition that fails, or which part of it does, if it has several
-abbrev pub condition_of : Refused → Option Finer → Fact
+abbrev pub condition_of : Refused → Option Finer → LineFact
 condition_of told None = facts.Refused told.event.step told.refusal
 condition_of told (Some part) = facts.Finer part
 
 -- the condition, how many threads there are, and what stands of the event's own and of its cell
-abbrev pub facts_of : Refused → List Fact
+abbrev pub facts_of : Refused → List LineFact
 facts_of told =
     facts.Begins ∷ condition_of told told.finer ∷ facts.Threads told.standing.registered
     ∷ facts.Status told.standing.thread told.standing.status ∷ facts.Hand told.standing.hand

@@ -26,8 +26,8 @@ most_of options.Turns = 1000000
 most_of options.LocalLimit = 4294967294
 
 -- the text spells a number that the option takes
-abbrev pub IsWithin : Numbered → List ℕ → Type 0
-IsWithin option said =
+abbrev pub SpellsAllowed : Numbered → List ℕ → Type 0
+SpellsAllowed option said =
     (number : ℕ) × (number_at said ≡ Some number) × (least_of option ≤ number) × (number ≤ most_of option)
 
 -- it is how one of the words begins
@@ -37,7 +37,8 @@ IsOneOf words excerpt = (at : ℕ) × IsSomeAnd (slice_get words at) (λ word. e
 -- a word of the command line is named; or a text, which the option doesn't take
 abbrev pub IsUnread : List (String Global) → Unread → Type 0
 IsUnread words (Word misfit excerpt) = IsOneOf words excerpt
-IsUnread words (NotWithin option excerpt) = (said : List ℕ) × (excerpt ≡ take MOST_SHOWN said) × ¬ (IsWithin option said)
+IsUnread words (NotWithin option excerpt) = (said : List ℕ) × (excerpt ≡ take MOST_SHOWN said)
+    × ¬ (SpellsAllowed option said)
 
 -- ---- how it is told
 

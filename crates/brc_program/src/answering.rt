@@ -4,8 +4,9 @@ ghost use Rattle.std.specs.Prelude.{◌≡◌, ◌≤◌, ◌⊎◌, true, false
 ghost use Rattle.brc_words.specs.declared.fault.Fault.TheVariants as faults;
 ghost use Rattle.brc_mistakes.specs.Mistakes.{IsMistake};
 ghost use Rattle.brc_program.specs.Command.{AreWords, asks_why, is_to_explain};
-ghost use Rattle.brc_program.specs.Errors.{Tells, TellsNotes};
-ghost use Rattle.brc_program.specs.Performing.{status_of_world, unexplained, failed_of, Performs, IsDone, Answers, Ends};
+ghost use Rattle.brc_program.specs.Errors.{WritesError, TellsNotes};
+ghost use Rattle.brc_program.specs.Performing.{status_of_world, unexplained, failed_of, Performs, IsPerformed};
+ghost use Rattle.brc_program.specs.Performing.{AnswersWords, ProgramEnds};
 ghost use Rattle.brc_program.specs.Performing.{FailsAs, IsUndone, status_of_run};
 ghost use Rattle.brc_program.specs.Statuses.{status_of, status_of_failed};
 
@@ -16,7 +17,7 @@ use crate::telling::put_told;
 use crate::unread::why_unread;
 use brc_graph::{Undrawn, draw};
 use brc_mistakes::mistake_of;
-use brc_run_text::{Ended, Notes, RunOptions, put_notes, run_script, run_script_explained};
+use brc_run_text::{Notes, RunEnded, RunOptions, put_notes, run_script, run_script_explained};
 use brc_text::put_bytes;
 use brc_trace::{Unreplayed, run_replay, run_replay_explained};
 use brc_words::Fault;
@@ -53,21 +54,21 @@ pub fn program<T: Threads + Wait + Sync, R: Read + Drop, W: Write, E: Write>(
     errors: &mut E,
 ) -> u8
     ensures within { result ≤ 5 }
-    ensures came { Ends (asks_why words.now ≡ true)
-        (Answers words.now (R.remaining reader) (W.contents writer.old) (W.contents writer.new))
+    ensures came { ProgramEnds (asks_why words.now ≡ true)
+        (AnswersWords words.now (R.remaining reader) (W.contents writer.old) (W.contents writer.new))
         (E.contents errors.old) (E.contents errors.new) result }
 
     // The command lines without an option, for which no reason is told.
     ensures replay { AreWords words.now (codes "replay") →
-        Ends ⊥ (IsDone (Invocation.Replay false) (R.remaining reader)
+        ProgramEnds ⊥ (IsPerformed (Invocation.Replay false) (R.remaining reader)
         (W.contents writer.old) (W.contents writer.new))
         (E.contents errors.old) (E.contents errors.new) result }
     ensures run { AreWords words.now (codes "run") →
-        Ends ⊥ (IsDone (Invocation.Run RunOptions.USUAL false) (R.remaining reader)
+        ProgramEnds ⊥ (IsPerformed (Invocation.Run RunOptions.DEFAULT false) (R.remaining reader)
         (W.contents writer.old) (W.contents writer.new))
         (E.contents errors.old) (E.contents errors.new) result }
     ensures graph { AreWords words.now (codes "graph") →
-        Ends ⊥ (IsDone Invocation.Graph (R.remaining reader)
+        ProgramEnds ⊥ (IsPerformed Invocation.Graph (R.remaining reader)
         (W.contents writer.old) (W.contents writer.new))
         (E.contents errors.old) (E.contents errors.new) result }
 {
@@ -97,7 +98,7 @@ fn tell_notes<E: Write>(errors: &mut E, notes: &Option<Notes>, status: u8) -> u8
 /// Tells of a fault, and answers its status; 5 where it couldn't be told. The first write that fails is the last.
 pub fn refuse<E: Write>(errors: &mut E, fault: Fault) -> u8
     ensures within { result ≤ 5 }
-    ensures tells { Tells (E.contents errors.old) (E.contents errors.new) (unexplained fault) result }
+    ensures tells { WritesError (E.contents errors.old) (E.contents errors.new) (unexplained fault) result }
 {
     refuse_with_why(errors, &unexplained(fault))
 }
@@ -105,7 +106,7 @@ pub fn refuse<E: Write>(errors: &mut E, fault: Fault) -> u8
 /// Tells of a fault, and of why it came where that is known, and answers its status.
 fn refuse_with_why<E: Write>(errors: &mut E, failed: &Failed) -> u8
     ensures within { result ≤ 5 }
-    ensures tells { Tells (E.contents errors.old) (E.contents errors.new) failed.now result }
+    ensures tells { WritesError (E.contents errors.old) (E.contents errors.new) failed.now result }
 {
     match put_told(errors, failed) {
         Ok(()) => status_of_failed(failed),
@@ -165,7 +166,7 @@ fn failed_run(fault: Fault, text: &Option<Vec<u8>>) -> Failed
 }
 
 /// The status of a script's run.
-fn status_of_run(ended: Ended) -> u8
+fn status_of_run(ended: RunEnded) -> u8
     ensures { result ≡ status_of_run ended }
 {
     if ended.faulted {
@@ -284,7 +285,7 @@ fn carry_out<T: Threads + Wait + Sync, R: Read + Drop, W: Write>(
     notes: &mut Option<Notes>,
 ) -> Result<u8, Failed>
     ensures within { IfOk result (λ status. status ≤ 4) }
-    ensures done { IsDone asked (R.remaining reader) (W.contents writer.old) (W.contents writer.new) result }
+    ensures done { IsPerformed asked (R.remaining reader) (W.contents writer.old) (W.contents writer.new) result }
     ensures quiet { is_to_explain asked ≡ false → notes.new ≡ notes.old }
 {
     let status = match perform(rt, alloc, asked, reader, writer, notes) {
@@ -322,16 +323,17 @@ fn answer<T: Threads + Wait + Sync, R: Read + Drop, W: Write>(
     notes: &mut Option<Notes>,
 ) -> Result<u8, Failed>
     ensures within { IfOk result (λ status. status ≤ 4) }
-    ensures answers { Answers words.now (R.remaining reader) (W.contents writer.old) (W.contents writer.new) result }
+    ensures answers { AnswersWords words.now (R.remaining reader) (W.contents writer.old)
+        (W.contents writer.new) result }
     ensures quiet { asks_why words.now ≡ false → notes.new ≡ notes.old }
     ensures replay { AreWords words.now (codes "replay") →
-        IsDone (Invocation.Replay false) (R.remaining reader)
+        IsPerformed (Invocation.Replay false) (R.remaining reader)
         (W.contents writer.old) (W.contents writer.new) result × (notes.new ≡ notes.old) }
     ensures run { AreWords words.now (codes "run") →
-        IsDone (Invocation.Run RunOptions.USUAL false) (R.remaining reader)
+        IsPerformed (Invocation.Run RunOptions.DEFAULT false) (R.remaining reader)
         (W.contents writer.old) (W.contents writer.new) result × (notes.new ≡ notes.old) }
     ensures graph { AreWords words.now (codes "graph") →
-        IsDone Invocation.Graph (R.remaining reader)
+        IsPerformed Invocation.Graph (R.remaining reader)
         (W.contents writer.old) (W.contents writer.new) result × (notes.new ≡ notes.old) }
 {
     match read_words(alloc, words) {

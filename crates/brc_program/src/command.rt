@@ -54,7 +54,7 @@ fn run_options(options: &ArgMatches) -> Result<RunOptions, Fault>
     ensures within { IfOk result AreRunOptions }
     ensures refused { IfErr result (λ fault. fault ≡ Fault.BadOptions) }
 {
-    let usual = RunOptions::USUAL;
+    let usual = RunOptions::DEFAULT;
     let word = options.get_str("cells");
     let cells = number_of_option(word, usual.cells, FEWEST_CELLS, MOST_CELLS)?;
     let word = options.get_str("budget");
@@ -206,7 +206,7 @@ pub fn read_words(alloc: Global, words: &[String]) -> Result<Invocation, Fault>
     ensures replay { AreWords words.now (codes "replay") →
         result ≡ Ok (Invocation.Replay false) }
     ensures run { AreWords words.now (codes "run") →
-        result ≡ Ok (Invocation.Run RunOptions.USUAL false) }
+        result ≡ Ok (Invocation.Run RunOptions.DEFAULT false) }
     ensures graph { AreWords words.now (codes "graph") →
         result ≡ Ok Invocation.Graph }
 {
@@ -215,7 +215,7 @@ pub fn read_words(alloc: Global, words: &[String]) -> Result<Invocation, Fault>
     }
     if are_words(words, "run") {
         return Ok(Invocation::Run {
-            options: RunOptions::USUAL,
+            options: RunOptions::DEFAULT,
             explain: false,
         });
     }

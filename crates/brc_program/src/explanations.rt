@@ -2,11 +2,11 @@
 
 ghost use Rattle.std.specs.Prelude.{◌≡◌, [], ◌∷◌, codes};
 ghost use Rattle.std.specs.List.{flat_map};
-ghost use Rattle.brc_text.specs.Puts.{Puts};
+ghost use Rattle.brc_text.specs.Puts.{PutsText};
 ghost use Rattle.brc_program.specs.Explanations.{together, form_of, cause_text, fact_text, facts_of};
 ghost use Rattle.brc_program.specs.Explanations.{why_line, condition_of as condition_told};
 
-use crate::facts::{Fact, put_facts};
+use crate::facts::{LineFact, put_facts};
 use brc_excerpt::{Excerpt, put_quoted};
 use brc_output::put_parts;
 use brc_text::{Keyword, put_bytes};
@@ -51,7 +51,7 @@ fn form_of(word: Keyword) -> &'static str
 
 /// Writes the line of these words.
 fn put_words<E: Write>(errors: &mut E, before: &str, text: &str) -> Result<(), Fault>
-    ensures { Puts (E.contents errors.old) (E.contents errors.new) result
+    ensures { PutsText (E.contents errors.old) (E.contents errors.new) result
         (together (codes "brc: why: " ∷ before.now ∷ text.now ∷ (10 ∷ []) ∷ [])) }
 {
     put_parts(
@@ -62,7 +62,7 @@ fn put_words<E: Write>(errors: &mut E, before: &str, text: &str) -> Result<(), F
 
 /// Writes the line of a word that no trace has.
 fn put_unknown_word<E: Write>(errors: &mut E, word: &Excerpt) -> Result<(), Fault>
-    ensures { Puts (E.contents errors.old) (E.contents errors.new) result
+    ensures { PutsText (E.contents errors.old) (E.contents errors.new) result
         (together (codes "brc: why: " ∷ cause_text (Cause.UnknownWord word.now) ∷ (10 ∷ []) ∷ [])) }
 {
     put_bytes(errors, b"brc: why: no trace has the word ")?;
@@ -72,7 +72,7 @@ fn put_unknown_word<E: Write>(errors: &mut E, word: &Excerpt) -> Result<(), Faul
 
 /// Writes what is wrong with a bad line.
 fn put_cause<E: Write>(errors: &mut E, cause: Cause) -> Result<(), Fault>
-    ensures { Puts (E.contents errors.old) (E.contents errors.new) result
+    ensures { PutsText (E.contents errors.old) (E.contents errors.new) result
         (together (codes "brc: why: " ∷ cause_text cause ∷ (10 ∷ []) ∷ [])) }
 {
     let text = match cause {
@@ -99,55 +99,55 @@ fn put_cause<E: Write>(errors: &mut E, cause: Cause) -> Result<(), Fault>
 }
 
 /// The condition that the event fails first, or which part of it, if it has several.
-fn condition_of(refused: &Refused) -> Fact
+fn condition_of(refused: &Refused) -> LineFact
     ensures { result ≡ condition_told refused.now refused.now.finer }
 {
     match refused.finer {
-        None => Fact::Refused(refused.event.step, refused.refusal),
-        Some(finer) => Fact::Finer(finer),
+        None => LineFact::Refused(refused.event.step, refused.refusal),
+        Some(finer) => LineFact::Finer(finer),
     }
 }
 
 /// Writes which condition the event fails first, and what stands there.
 fn put_refused<E: Write>(errors: &mut E, refused: &Refused) -> Result<(), Fault>
-    ensures { Puts (E.contents errors.old) (E.contents errors.new) result
+    ensures { PutsText (E.contents errors.old) (E.contents errors.new) result
         (flat_map fact_text (facts_of refused.now)) }
 {
     let standing = refused.standing;
     let condition = condition_of(refused);
-    let threads = Fact::Threads(standing.registered);
-    let status = Fact::Status(standing.thread, standing.status);
-    let hand = Fact::Hand(standing.hand);
-    let locked = Fact::Locked(standing.locked);
+    let threads = LineFact::Threads(standing.registered);
+    let status = LineFact::Status(standing.thread, standing.status);
+    let hand = LineFact::Hand(standing.hand);
+    let locked = LineFact::Locked(standing.locked);
     match standing.meant {
         None => put_facts(
             errors,
             &[
-                Fact::Begins,
+                LineFact::Begins,
                 condition,
                 threads,
                 status,
                 hand,
                 locked,
-                Fact::Ends,
+                LineFact::Ends,
             ],
         ),
         Some(meant) => put_facts(
             errors,
             &[
-                Fact::Begins,
+                LineFact::Begins,
                 condition,
                 threads,
                 status,
                 hand,
                 locked,
-                Fact::Cell(meant.cell),
-                Fact::Owner(meant.owner),
-                Fact::Kind(meant.kind),
-                Fact::Local(meant.local),
-                Fact::Shared(meant.count),
-                Fact::State(meant.state),
-                Fact::Ends,
+                LineFact::Cell(meant.cell),
+                LineFact::Owner(meant.owner),
+                LineFact::Kind(meant.kind),
+                LineFact::Local(meant.local),
+                LineFact::Shared(meant.count),
+                LineFact::State(meant.state),
+                LineFact::Ends,
             ],
         ),
     }
@@ -155,7 +155,7 @@ fn put_refused<E: Write>(errors: &mut E, refused: &Refused) -> Result<(), Fault>
 
 /// Writes the line that says why a trace is refused.
 pub(crate) fn put_why<E: Write>(errors: &mut E, why: &Why) -> Result<(), Fault>
-    ensures { Puts (E.contents errors.old) (E.contents errors.new) result (why_line why.now) }
+    ensures { PutsText (E.contents errors.old) (E.contents errors.new) result (why_line why.now) }
 {
     match why {
         Why::TooLong => put_bytes(errors, b"brc: why: it has more than 16777216 bytes\n"),

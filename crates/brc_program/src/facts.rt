@@ -2,7 +2,7 @@
 
 ghost use Rattle.std.specs.Prelude.{◌≡◌, [], ◌∷◌, decimal};
 ghost use Rattle.std.specs.List.{flat_map};
-ghost use Rattle.brc_text.specs.Puts.{Puts};
+ghost use Rattle.brc_text.specs.Puts.{PutsText};
 ghost use Rattle.brc_program.specs.Explanations.{together, told_refusal, refusal_text, kind_name, hand_text};
 ghost use Rattle.brc_program.specs.Explanations.{owner_text, fact_text};
 
@@ -17,7 +17,7 @@ use std::io::Write;
 
 /// A part of the line. One that isn't there takes no room in it.
 #[derive(Clone, Copy)]
-pub(crate) enum Fact {
+pub(crate) enum LineFact {
     /// With this the line begins.
     Begins,
     /// The condition that the step fails first.
@@ -97,7 +97,7 @@ fn name_of_kind(kind: Kind) -> &'static str
 
 /// Writes what the line says of the hand.
 fn put_hand<E: Write>(errors: &mut E, hand: Hand) -> Result<(), Fault>
-    ensures { Puts (E.contents errors.old) (E.contents errors.new) result (hand_text hand) }
+    ensures { PutsText (E.contents errors.old) (E.contents errors.new) result (hand_text hand) }
 {
     match hand {
         Hand::Free => put_bytes(errors, b", hand free"),
@@ -115,7 +115,7 @@ fn put_hand<E: Write>(errors: &mut E, hand: Hand) -> Result<(), Fault>
 
 /// Writes what the line says of the owner.
 fn put_owner<E: Write>(errors: &mut E, owner: Owner) -> Result<(), Fault>
-    ensures { Puts (E.contents errors.old) (E.contents errors.new) result (owner_text owner) }
+    ensures { PutsText (E.contents errors.old) (E.contents errors.new) result (owner_text owner) }
 {
     match owner {
         Owner::Nobody => put_bytes(errors, b", no owner"),
@@ -127,24 +127,24 @@ fn put_owner<E: Write>(errors: &mut E, owner: Owner) -> Result<(), Fault>
 
 /// Writes a number behind a text.
 fn put_number<E: Write>(errors: &mut E, text: &[u8], number: u32) -> Result<(), Fault>
-    ensures { Puts (E.contents errors.old) (E.contents errors.new) result
+    ensures { PutsText (E.contents errors.old) (E.contents errors.new) result
         (together (text.now ∷ decimal number ∷ [])) }
 {
     put_parts(errors, &[text, Buffer::new().format(number).as_bytes()])
 }
 
 /// Writes what the line says of a fact.
-fn put_fact<E: Write>(errors: &mut E, fact: Fact) -> Result<(), Fault>
-    ensures { Puts (E.contents errors.old) (E.contents errors.new) result (fact_text fact) }
+fn put_fact<E: Write>(errors: &mut E, fact: LineFact) -> Result<(), Fault>
+    ensures { PutsText (E.contents errors.old) (E.contents errors.new) result (fact_text fact) }
 {
     match fact {
-        Fact::Begins => put_bytes(errors, b"brc: why: "),
-        Fact::Refused(step, refusal) => {
+        LineFact::Begins => put_bytes(errors, b"brc: why: "),
+        LineFact::Refused(step, refusal) => {
             put_bytes(errors, text_of_refusal(step, refusal).as_bytes())
         }
-        Fact::Finer(finer) => put_finer(errors, finer),
-        Fact::Threads(count) => put_number(errors, b"; threads ", count),
-        Fact::Status(thread, Some(status)) => put_parts(
+        LineFact::Finer(finer) => put_finer(errors, finer),
+        LineFact::Threads(count) => put_number(errors, b"; threads ", count),
+        LineFact::Status(thread, Some(status)) => put_parts(
             errors,
             &[
                 b"; thread ",
@@ -153,25 +153,25 @@ fn put_fact<E: Write>(errors: &mut E, fact: Fact) -> Result<(), Fault>
                 word_of_status(status).text(),
             ],
         ),
-        Fact::Hand(Some(hand)) => put_hand(errors, hand),
-        Fact::Locked(Some(place)) => put_number(errors, b", locked ", place),
-        Fact::Cell(cell) => put_number(errors, b"; cell ", cell),
-        Fact::Owner(Some(owner)) => put_owner(errors, owner),
-        Fact::Kind(Some(kind)) => put_parts(errors, &[b", ", name_of_kind(kind).as_bytes()]),
-        Fact::Local(Some(local)) => put_number(errors, b", local ", local),
-        Fact::Shared(Some(count)) => put_parts(
+        LineFact::Hand(Some(hand)) => put_hand(errors, hand),
+        LineFact::Locked(Some(place)) => put_number(errors, b", locked ", place),
+        LineFact::Cell(cell) => put_number(errors, b"; cell ", cell),
+        LineFact::Owner(Some(owner)) => put_owner(errors, owner),
+        LineFact::Kind(Some(kind)) => put_parts(errors, &[b", ", name_of_kind(kind).as_bytes()]),
+        LineFact::Local(Some(local)) => put_number(errors, b", local ", local),
+        LineFact::Shared(Some(count)) => put_parts(
             errors,
             &[b", shared ", Buffer::new().format(count).as_bytes()],
         ),
-        Fact::State(Some(state)) => put_parts(errors, &[b", ", word_of_state(state).text()]),
-        Fact::Ends => put_bytes(errors, b"\n"),
+        LineFact::State(Some(state)) => put_parts(errors, &[b", ", word_of_state(state).text()]),
+        LineFact::Ends => put_bytes(errors, b"\n"),
         _ => Ok(()),
     }
 }
 
 /// Writes what the line says of each, in order. The first error ends it.
-pub(crate) fn put_facts<E: Write>(errors: &mut E, facts: &[Fact]) -> Result<(), Fault>
-    ensures { Puts (E.contents errors.old) (E.contents errors.new) result (flat_map fact_text facts.now) }
+pub(crate) fn put_facts<E: Write>(errors: &mut E, facts: &[LineFact]) -> Result<(), Fault>
+    ensures { PutsText (E.contents errors.old) (E.contents errors.new) result (flat_map fact_text facts.now) }
 {
     for fact in facts {
         put_fact(errors, *fact)?;

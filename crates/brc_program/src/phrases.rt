@@ -1,7 +1,7 @@
 //! What the second error line says of which part of a condition fails.
 
 ghost use Rattle.std.specs.Prelude.{◌≡◌, []};
-ghost use Rattle.brc_text.specs.Puts.{Puts};
+ghost use Rattle.brc_text.specs.Puts.{PutsText};
 ghost use Rattle.brc_program.specs.Explanations.{phrase_text, own_phrase as own_words, told_phrase as told_words};
 ghost use Rattle.brc_program.specs.Explanations.{cell_phrase as cell_words, finer_phrase};
 
@@ -13,7 +13,7 @@ use std::io::Write;
 
 /// A text, a number, a text and a number, each where it has one.
 #[derive(Clone, Copy)]
-struct Phrase {
+struct PhraseParts {
     before: &'static str,
     number: Option<u32>,
     behind: &'static str,
@@ -21,13 +21,13 @@ struct Phrase {
 }
 
 /// A phrase without a number.
-fn plain(text: &'static str) -> Phrase
+fn plain(text: &'static str) -> PhraseParts
     ensures before { result.before.now ≡ text.now }
     ensures number { result.number ≡ None }
     ensures behind { result.behind.now ≡ [] }
     ensures last { result.last ≡ None }
 {
-    Phrase {
+    PhraseParts {
         before: text,
         number: None,
         behind: "",
@@ -36,13 +36,13 @@ fn plain(text: &'static str) -> Phrase
 }
 
 /// A phrase about this number.
-fn about(before: &'static str, number: u32, behind: &'static str) -> Phrase
+fn about(before: &'static str, number: u32, behind: &'static str) -> PhraseParts
     ensures before { result.before.now ≡ before.now }
     ensures number { result.number ≡ Some number }
     ensures behind { result.behind.now ≡ behind.now }
     ensures last { result.last ≡ None }
 {
-    Phrase {
+    PhraseParts {
         before,
         number: Some(number),
         behind,
@@ -51,7 +51,7 @@ fn about(before: &'static str, number: u32, behind: &'static str) -> Phrase
 }
 
 /// Of the thread's own part.
-fn own_phrase(reason: OwnReason) -> Phrase
+fn own_phrase(reason: OwnReason) -> PhraseParts
     ensures before { result.before.now ≡ (own_words reason).0 }
     ensures number { result.number ≡ (own_words reason).1 }
     ensures behind { result.behind.now ≡ (own_words reason).2 }
@@ -85,7 +85,7 @@ fn own_phrase(reason: OwnReason) -> Phrase
 }
 
 /// Of whom a step tells, and of what a thread that closes leaves.
-fn told_phrase(reason: ToldReason) -> Phrase
+fn told_phrase(reason: ToldReason) -> PhraseParts
     ensures before { result.before.now ≡ (told_words reason).0 }
     ensures number { result.number ≡ (told_words reason).1 }
     ensures behind { result.behind.now ≡ (told_words reason).2 }
@@ -93,7 +93,7 @@ fn told_phrase(reason: ToldReason) -> Phrase
 {
     match reason {
         ToldReason::NotRegistered(thread) => about("thread ", thread, " is not registered"),
-        ToldReason::NoWord { thread, word } => Phrase {
+        ToldReason::NoWord { thread, word } => PhraseParts {
             before: "thread ",
             number: Some(thread),
             behind: " has no queue word ",
@@ -106,7 +106,7 @@ fn told_phrase(reason: ToldReason) -> Phrase
 }
 
 /// Of the cell that the event means.
-fn cell_phrase(reason: CellReason) -> Phrase
+fn cell_phrase(reason: CellReason) -> PhraseParts
     ensures before { result.before.now ≡ (cell_words reason).0 }
     ensures number { result.number ≡ (cell_words reason).1 }
     ensures behind { result.behind.now ≡ (cell_words reason).2 }
@@ -134,7 +134,7 @@ fn cell_phrase(reason: CellReason) -> Phrase
 }
 
 /// Of any condition that has several parts.
-fn phrase_of(finer: Finer) -> Phrase
+fn phrase_of(finer: Finer) -> PhraseParts
     ensures before { result.before.now ≡ (finer_phrase finer).0 }
     ensures number { result.number ≡ (finer_phrase finer).1 }
     ensures behind { result.behind.now ≡ (finer_phrase finer).2 }
@@ -155,7 +155,7 @@ fn put_phrase<E: Write>(
     behind: &str,
     last: Option<u32>,
 ) -> Result<(), Fault>
-    ensures { Puts (E.contents errors.old) (E.contents errors.new) result
+    ensures { PutsText (E.contents errors.old) (E.contents errors.new) result
         (phrase_text (before.now, number, behind.now, last)) }
 {
     match (number, last) {
@@ -190,7 +190,7 @@ fn put_phrase<E: Write>(
 
 /// Writes which part of a condition fails.
 pub(crate) fn put_finer<E: Write>(errors: &mut E, finer: Finer) -> Result<(), Fault>
-    ensures { Puts (E.contents errors.old) (E.contents errors.new) result (phrase_text (finer_phrase finer)) }
+    ensures { PutsText (E.contents errors.old) (E.contents errors.new) result (phrase_text (finer_phrase finer)) }
 {
     let phrase = phrase_of(finer);
     put_phrase(

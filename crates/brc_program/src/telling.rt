@@ -1,6 +1,6 @@
 //! Error lines: what a fault is, and where it is known why it came.
 
-ghost use Rattle.brc_text.specs.Puts.{Puts};
+ghost use Rattle.brc_text.specs.Puts.{PutsText};
 ghost use Rattle.brc_program.specs.Errors.{bad_line, numbered_line, fault_line, unreplayed_text, told_text};
 ghost use Rattle.brc_program.specs.Errors.{mistake_line, unscripted_text, uncommanded_text};
 
@@ -17,7 +17,7 @@ use std::io::Write;
 
 /// Writes that a line is not what it should be.
 fn put_bad_line<E: Write>(errors: &mut E, line: u32, what: &[u8]) -> Result<(), Fault>
-    ensures { Puts (E.contents errors.old) (E.contents errors.new) result (bad_line line what.now) }
+    ensures { PutsText (E.contents errors.old) (E.contents errors.new) result (bad_line line what.now) }
 {
     put_parts(
         errors,
@@ -33,7 +33,7 @@ fn put_bad_line<E: Write>(errors: &mut E, line: u32, what: &[u8]) -> Result<(), 
 
 /// Writes a fault by its number and its name.
 fn put_numbered<E: Write>(errors: &mut E, number: u8, name: &str) -> Result<(), Fault>
-    ensures { Puts (E.contents errors.old) (E.contents errors.new) result (numbered_line number name.now) }
+    ensures { PutsText (E.contents errors.old) (E.contents errors.new) result (numbered_line number name.now) }
 {
     put_parts(
         errors,
@@ -49,7 +49,7 @@ fn put_numbered<E: Write>(errors: &mut E, number: u8, name: &str) -> Result<(), 
 
 /// Writes the line of a fault.
 fn put_fault<E: Write>(errors: &mut E, fault: Fault) -> Result<(), Fault>
-    ensures { Puts (E.contents errors.old) (E.contents errors.new) result (fault_line fault) }
+    ensures { PutsText (E.contents errors.old) (E.contents errors.new) result (fault_line fault) }
 {
     match fault {
         Fault::BadOptions => put_bytes(errors, b"brc: bad command line\n"),
@@ -68,7 +68,7 @@ fn put_fault<E: Write>(errors: &mut E, fault: Fault) -> Result<(), Fault>
 
 /// Writes the line of a fault, and where it is known why it came, the line that says so.
 fn put_unreplayed<E: Write>(errors: &mut E, failed: &Unreplayed) -> Result<(), Fault>
-    ensures { Puts (E.contents errors.old) (E.contents errors.new) result (unreplayed_text failed.now) }
+    ensures { PutsText (E.contents errors.old) (E.contents errors.new) result (unreplayed_text failed.now) }
 {
     let Some(why) = &failed.why else {
         return put_fault(errors, failed.fault);
@@ -79,7 +79,7 @@ fn put_unreplayed<E: Write>(errors: &mut E, failed: &Unreplayed) -> Result<(), F
 
 /// Writes what is wrong with a bad line of a script.
 fn put_mistake_line<E: Write>(errors: &mut E, mistake: &Mistake) -> Result<(), Fault>
-    ensures { Puts (E.contents errors.old) (E.contents errors.new) result (mistake_line mistake.now) }
+    ensures { PutsText (E.contents errors.old) (E.contents errors.new) result (mistake_line mistake.now) }
 {
     put_bytes(errors, b"brc: why: ")?;
     put_mistake(errors, mistake)?;
@@ -88,7 +88,7 @@ fn put_mistake_line<E: Write>(errors: &mut E, mistake: &Mistake) -> Result<(), F
 
 /// Writes which line isn't one of a script, and why.
 fn put_unscripted<E: Write>(errors: &mut E, line: u32, mistake: &Mistake) -> Result<(), Fault>
-    ensures { Puts (E.contents errors.old) (E.contents errors.new) result (unscripted_text line mistake.now) }
+    ensures { PutsText (E.contents errors.old) (E.contents errors.new) result (unscripted_text line mistake.now) }
 {
     put_bad_line(errors, line, b"a script line")?;
     put_mistake_line(errors, mistake)
@@ -96,7 +96,7 @@ fn put_unscripted<E: Write>(errors: &mut E, line: u32, mistake: &Mistake) -> Res
 
 /// Writes that the command line is bad, and why.
 fn put_uncommanded<E: Write>(errors: &mut E, unread: &Unread) -> Result<(), Fault>
-    ensures { Puts (E.contents errors.old) (E.contents errors.new) result (uncommanded_text unread.now) }
+    ensures { PutsText (E.contents errors.old) (E.contents errors.new) result (uncommanded_text unread.now) }
 {
     put_bytes(errors, b"brc: bad command line\n")?;
     put_unread(errors, unread)
@@ -104,7 +104,7 @@ fn put_uncommanded<E: Write>(errors: &mut E, unread: &Unread) -> Result<(), Faul
 
 /// Writes why nothing came of what was asked for.
 pub(crate) fn put_told<E: Write>(errors: &mut E, failed: &Failed) -> Result<(), Fault>
-    ensures { Puts (E.contents errors.old) (E.contents errors.new) result (told_text failed.now) }
+    ensures { PutsText (E.contents errors.old) (E.contents errors.new) result (told_text failed.now) }
 {
     match failed {
         Failed::Fault(unreplayed) => put_unreplayed(errors, unreplayed),

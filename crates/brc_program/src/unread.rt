@@ -1,8 +1,9 @@
 //! Why a command line asks for nothing: a second look, at words that were refused.
 
 ghost use Rattle.std.specs.Prelude.{◌≡◌, ◌↔◌, IfSome, IsTrue, drop};
-ghost use Rattle.brc_text.specs.Puts.{Puts};
-ghost use Rattle.brc_program.specs.Unreads.{least_of, most_of, IsWithin, IsUnread, IsOneOf, before_word, behind_word};
+ghost use Rattle.brc_text.specs.Puts.{PutsText};
+ghost use Rattle.brc_program.specs.Unreads.{least_of, most_of, SpellsAllowed, IsUnread, IsOneOf, before_word};
+ghost use Rattle.brc_program.specs.Unreads.{behind_word};
 ghost use Rattle.brc_program.specs.Unreads.{unread_line, word_of};
 
 use crate::command::{behind_name, brc_command};
@@ -83,7 +84,7 @@ fn most_of(option: Numbered) -> u32
 
 /// Whether the text is a number that the option takes.
 fn is_within(option: Numbered, said: &[u8]) -> bool
-    ensures { IsTrue result ↔ IsWithin option said.now }
+    ensures { IsTrue result ↔ SpellsAllowed option said.now }
 {
     match number_of(said) {
         Some(number) => least_of(option) as u64 <= number && number <= most_of(option) as u64,
@@ -243,7 +244,7 @@ fn word_of(unread: &Unread) -> &Excerpt
 
 /// Writes the line that says why the words ask for nothing.
 pub(crate) fn put_unread<E: Write>(errors: &mut E, unread: &Unread) -> Result<(), Fault>
-    ensures { Puts (E.contents errors.old) (E.contents errors.new) result (unread_line unread.now) }
+    ensures { PutsText (E.contents errors.old) (E.contents errors.new) result (unread_line unread.now) }
 {
     put_bytes(errors, before_word(*unread).as_bytes())?;
     put_quoted(errors, word_of(unread))?;

@@ -5,8 +5,8 @@ use Rattle.law.specs.world.declared.row.Hand.{Hand}
 use Rattle.law.specs.world.declared.row.Hand.TheVariants as hands
 use Rattle.law.specs.world.declared.row.Phase.TheVariants as phases
 use Rattle.law.specs.rule.declared.told.Moved.TheVariants.{Nothing}
-use Rattle.law.specs.rule.declared.told.Told.{Told}
-use Rattle.law.specs.rule.declared.told.Told.TheVariants.{Did}
+use Rattle.law.specs.rule.declared.told.LogItem.{LogItem}
+use Rattle.law.specs.rule.declared.told.LogItem.TheVariants.{Stepped}
 use Rattle.law.specs.known.Items.{is_shut_word}
 use Rattle.brc_queue.specs.declared.queue.Enqueued.{Enqueued}
 use Rattle.brc_queue.specs.declared.queue.Enqueued.TheVariants.{Accepted, Closed}
@@ -16,9 +16,9 @@ abbrev pub answer_of : ℕ → Enqueued
 answer_of number = if is_shut_word number then Closed else Accepted
 
 -- the cell was to go into a queue, and the answer is that of the number that was found there
-pub record PutIn (cell : ℕ) (answer : Enqueued) (old new : List Told) : Type 0 where
+pub record IsEnqueued (cell : ℕ) (answer : Enqueued) (old new : List LogItem) : Type 0 where
   pub found : ℕ
-  pub told : new ≡ Did (Enqueue cell) found Nothing ∷ old
+  pub told : new ≡ Stepped (Enqueue cell) found Nothing ∷ old
   pub answered : answer ≡ answer_of found
 
 -- what is in the hand then: nothing, or the reference still, which is to be merged in place of the owner

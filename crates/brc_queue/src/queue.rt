@@ -5,17 +5,17 @@ ghost use Rattle.std.specs.Prelude.{◌+◌, ◌*◌, ◌%◌, ◌^◌, ◌≡�
 ghost use Rattle.law.specs.world.Heap.{words_for};
 ghost use Rattle.law.specs.world.declared.event.Step.TheVariants as steps;
 ghost use Rattle.law.specs.rule.declared.told.Moved.TheVariants as moves;
-ghost use Rattle.law.specs.rule.declared.told.Told.TheVariants as told;
+ghost use Rattle.law.specs.rule.declared.told.LogItem.TheVariants as told;
 ghost use Rattle.law.specs.world.Steps.{added_hand};
 ghost use Rattle.law.specs.rule.Noted.{newest_step};
 ghost use Rattle.law.specs.rule.Seen.{part_seen};
 ghost use Rattle.law.specs.world.declared.row.Hand.TheVariants as hands;
 ghost use Rattle.law.specs.world.declared.row.Phase.TheVariants as phases;
-ghost use Rattle.law.specs.steps.Owing.{AddsLocal, Allowed, Closes, Enqueues, Offers, Tells};
+ghost use Rattle.law.specs.steps.Owing.{AddsLocal, MayStep, MayClose, Enqueues, Offers, MayNudge};
 ghost use Rattle.law.specs.known.Going_On.{handing, popping, closing, reopening};
-ghost use Rattle.brc_table.specs.Knowing.{known_seen, Knows, Keeps};
-ghost use Rattle.brc_table.specs.Seated.{Stays};
-ghost use Rattle.brc_queue.specs.Queue.{PutIn, hand_left};
+ghost use Rattle.brc_table.specs.Knowing.{known_seen, Knows, KeepsNotes};
+ghost use Rattle.brc_table.specs.Seated.{IsSameSeat};
+ghost use Rattle.brc_queue.specs.Queue.{IsEnqueued, hand_left};
 
 use brc_table::{HeapTable, ThreadSeat};
 use std::alloc::Allocator;
@@ -39,11 +39,11 @@ pub fn enqueue<A: Allocator>(
     requires table { seat.old.table ≡ table.now.table }
     requires inside { cell < table.now.cells }
     requires enqueues { Enqueues table.now.cells seat.old.log cell owner }
-    ensures told { PutIn cell result seat.old.log seat.new.log }
-    ensures seat { Stays seat.old seat.new }
+    ensures told { IsEnqueued cell result seat.old.log seat.new.log }
+    ensures seat { IsSameSeat seat.old seat.new }
     ensures knows { Knows table.now.cells seat.new.log
         (handing (hand_left cell result) (known_seen table.now.cells seat.old.log)) }
-    ensures keeps { Keeps table.now.cells seat.old.log seat.new.log }
+    ensures keeps { KeepsNotes table.now.cells seat.old.log seat.new.log }
 {
     let found = table.enqueue(seat, cell, owner);
     if found >= 1 << 63 {
@@ -57,11 +57,11 @@ pub fn enqueue<A: Allocator>(
 pub fn drain_word<A: Allocator>(table: &HeapTable<A>, seat: &mut ThreadSeat<A>, word: u32) -> u64
     requires table { seat.old.table ≡ table.now.table }
     requires inside { word < words_for table.now.cells }
-    requires allowed { Allowed table.now.cells seat.old.log (steps.Drain word) }
-    ensures told { seat.new.log ≡ told.Did (steps.Drain word) result moves.Nothing ∷ seat.old.log }
-    ensures seat { Stays seat.old seat.new }
+    requires allowed { MayStep table.now.cells seat.old.log (steps.Drain word) }
+    ensures told { seat.new.log ≡ told.Stepped (steps.Drain word) result moves.Nothing ∷ seat.old.log }
+    ensures seat { IsSameSeat seat.old seat.new }
     ensures knows { Knows table.now.cells seat.new.log (popping word result (known_seen table.now.cells seat.old.log)) }
-    ensures keeps { Keeps table.now.cells seat.old.log seat.new.log }
+    ensures keeps { KeepsNotes table.now.cells seat.old.log seat.new.log }
 {
     table.drain(seat, word)
 }
@@ -70,12 +70,12 @@ pub fn drain_word<A: Allocator>(table: &HeapTable<A>, seat: &mut ThreadSeat<A>, 
 pub fn close_word<A: Allocator>(table: &HeapTable<A>, seat: &mut ThreadSeat<A>, word: u32) -> u64
     requires table { seat.old.table ≡ table.now.table }
     requires inside { word < words_for table.now.cells }
-    requires closes { Closes table.now.cells seat.old.log word }
-    ensures told { seat.new.log ≡ told.Did (steps.Close word) result moves.Nothing ∷ seat.old.log }
-    ensures seat { Stays seat.old seat.new }
+    requires closes { MayClose table.now.cells seat.old.log word }
+    ensures told { seat.new.log ≡ told.Stepped (steps.Close word) result moves.Nothing ∷ seat.old.log }
+    ensures seat { IsSameSeat seat.old seat.new }
     ensures knows { Knows table.now.cells seat.new.log
         (closing table.now.cells word (popping word result (known_seen table.now.cells seat.old.log))) }
-    ensures keeps { Keeps table.now.cells seat.old.log seat.new.log }
+    ensures keeps { KeepsNotes table.now.cells seat.old.log seat.new.log }
 {
     table.close(seat, word)
 }
@@ -84,12 +84,12 @@ pub fn close_word<A: Allocator>(table: &HeapTable<A>, seat: &mut ThreadSeat<A>, 
 pub fn open_word<A: Allocator>(table: &HeapTable<A>, seat: &mut ThreadSeat<A>, word: u32)
     requires table { seat.old.table ≡ table.now.table }
     requires inside { word < words_for table.now.cells }
-    requires allowed { Allowed table.now.cells seat.old.log (steps.Reopen word) }
-    ensures told { seat.new.log ≡ told.Did (steps.Reopen word) 0 moves.Nothing ∷ seat.old.log }
-    ensures seat { Stays seat.old seat.new }
+    requires allowed { MayStep table.now.cells seat.old.log (steps.Reopen word) }
+    ensures told { seat.new.log ≡ told.Stepped (steps.Reopen word) 0 moves.Nothing ∷ seat.old.log }
+    ensures seat { IsSameSeat seat.old seat.new }
     ensures knows { Knows table.now.cells seat.new.log
         (reopening table.now.cells word (known_seen table.now.cells seat.old.log)) }
-    ensures keeps { Keeps table.now.cells seat.old.log seat.new.log }
+    ensures keeps { KeepsNotes table.now.cells seat.old.log seat.new.log }
 {
     table.open_word(seat, word);
 }
@@ -99,11 +99,11 @@ pub fn offer<A: Allocator>(table: &HeapTable<A>, seat: &mut ThreadSeat<A>, cell:
     requires table { seat.old.table ≡ table.now.table }
     requires inside { cell < table.now.cells }
     requires offers { Offers table.now.cells seat.old.log cell }
-    ensures told { seat.new.log ≡ told.Did (steps.Offer cell) result moves.Nothing ∷ seat.old.log }
-    ensures seat { Stays seat.old seat.new }
+    ensures told { seat.new.log ≡ told.Stepped (steps.Offer cell) result moves.Nothing ∷ seat.old.log }
+    ensures seat { IsSameSeat seat.old seat.new }
     ensures knows { Knows table.now.cells seat.new.log
         (handing (hands.Busy phases.Offered cell) (known_seen table.now.cells seat.old.log)) }
-    ensures keeps { Keeps table.now.cells seat.old.log seat.new.log }
+    ensures keeps { KeepsNotes table.now.cells seat.old.log seat.new.log }
 {
     table.offer(seat, cell)
 }
@@ -119,13 +119,13 @@ pub fn merge_add<A: Allocator>(
     requires table { seat.old.table ≡ table.now.table }
     requires inside { cell < table.now.cells }
     requires adds { AddsLocal table.now.cells seat.old.log cell local }
-    ensures told { seat.new.log ≡ told.Did (steps.MergeAdd cell) ((result + (local * 4 + 1)) % 2 ^ 64) moves.Nothing
+    ensures told { seat.new.log ≡ told.Stepped (steps.MergeAdd cell) ((result + (local * 4 + 1)) % 2 ^ 64) moves.Nothing
         ∷ seat.old.log }
-    ensures seat { Stays seat.old seat.new }
+    ensures seat { IsSameSeat seat.old seat.new }
     ensures knows { Knows table.now.cells seat.new.log
         (handing (added_hand cell (part_seen table.now.cells seat.old.log).row.hand)
         (known_seen table.now.cells seat.old.log)) }
-    ensures keeps { Keeps table.now.cells seat.old.log seat.new.log }
+    ensures keeps { KeepsNotes table.now.cells seat.old.log seat.new.log }
     ensures newest { newest_step seat.new.log ≡ Some (steps.MergeAdd cell) }
 {
     table.merge_add(seat, cell, local)
@@ -140,11 +140,11 @@ pub fn nudge<A: Allocator>(
     word: u32,
 ) -> u64
     requires table { seat.old.table ≡ table.now.table }
-    requires tells { Tells table.now.cells seat.old.log thread word }
-    ensures told { seat.new.log ≡ told.Did (steps.Nudge thread word) result moves.Nothing ∷ seat.old.log }
-    ensures seat { Stays seat.old seat.new }
+    requires tells { MayNudge table.now.cells seat.old.log thread word }
+    ensures told { seat.new.log ≡ told.Stepped (steps.Nudge thread word) result moves.Nothing ∷ seat.old.log }
+    ensures seat { IsSameSeat seat.old seat.new }
     ensures knows { Knows table.now.cells seat.new.log (known_seen table.now.cells seat.old.log) }
-    ensures keeps { Keeps table.now.cells seat.old.log seat.new.log }
+    ensures keeps { KeepsNotes table.now.cells seat.old.log seat.new.log }
 {
     table.nudge(seat, thread, word)
 }
@@ -152,11 +152,11 @@ pub fn nudge<A: Allocator>(
 /// Takes what the thread was told: bit k says that something was put into one of its queue words from 32 k on.
 pub fn wake<A: Allocator>(table: &HeapTable<A>, seat: &mut ThreadSeat<A>) -> u64
     requires table { seat.old.table ≡ table.now.table }
-    requires allowed { Allowed table.now.cells seat.old.log steps.Wake }
-    ensures told { seat.new.log ≡ told.Did steps.Wake result moves.Nothing ∷ seat.old.log }
-    ensures seat { Stays seat.old seat.new }
+    requires allowed { MayStep table.now.cells seat.old.log steps.Wake }
+    ensures told { seat.new.log ≡ told.Stepped steps.Wake result moves.Nothing ∷ seat.old.log }
+    ensures seat { IsSameSeat seat.old seat.new }
     ensures knows { Knows table.now.cells seat.new.log (known_seen table.now.cells seat.old.log) }
-    ensures keeps { Keeps table.now.cells seat.old.log seat.new.log }
+    ensures keeps { KeepsNotes table.now.cells seat.old.log seat.new.log }
 {
     table.wake(seat)
 }

@@ -10,7 +10,7 @@ use Rattle.std.proofs.lemmas.Iterator.Adapters.{position_from-zero}
 use Rattle.brc_report.specs.declared.content.Remain.{Remain}
 use Rattle.brc_report.specs.Holding.{has}
 use Rattle.brc_report.specs.Cycles.{Walk, IsCycle, CycleAt, CyclesAt, in_front, holder_in}
-use Rattle.brc_report.specs.Walking.{times, unseen, Walking, Walked, IsSettled, IsKnown, IsTurned, IsKept}
+use Rattle.brc_report.specs.Walking.{times, unseen, Walking, Walked, IsSettled, WalksAreKnown, IsTurned, IsKept}
 use Rattle.brc_report.proofs.Membership.{is_first_or_later, has_first, has_later, has_both, has_turned, uncounted}
 use Rattle.brc_report.proofs.Membership.{count_both, stands_at, drop_begins, drop_has, drop_times, times_later}
 use Rattle.std.proofs.lemmas.Bool.{eqb-true, eq-eqb, ne_eqb}
@@ -88,7 +88,7 @@ module _ (holder : ℕ → Option ℕ) where
   settled_stays before now from path to h cell (inr none) = inr none
 
   -- walks from what was settled stay there
-  settled_goes_on : (seen : ℕ → Bool) (found : ℕ → Option (List ℕ)) → IsKnown holder seen found
+  settled_goes_on : (seen : ℕ → Bool) (found : ℕ → Option (List ℕ)) → WalksAreKnown holder seen found
       → (cell next : ℕ) → IsSettled holder seen cell → holder cell ≡ Some next → IsSettled holder seen next
   settled_goes_on seen found known cell next (inl was) held = known.goes_on cell next was held
   settled_goes_on seen found known cell next (inr none) held =
@@ -96,7 +96,7 @@ module _ (holder : ℕ → Option ℕ) where
 
   -- walks go on from what is seen now to what is settled now
   goes_on_now : (before now : ℕ → Bool) (found : ℕ → Option (List ℕ)) (from : ℕ) (path : List ℕ) (to : ℕ)
-      → IsKnown holder before found → Walked holder before now from path to
+      → WalksAreKnown holder before found → Walked holder before now from path to
       → (cell next : ℕ) → now cell ≡ true → holder cell ≡ Some next → IsSettled holder now next
   goes_on_now before now found from path to known h cell next seen held =
       elim (or_true (before cell) (has path cell) (sym (h.way.seen cell) ∙ seen)) [
@@ -113,7 +113,7 @@ module _ (holder : ℕ → Option ℕ) where
       let wrong : None ≡ Some cycle.closed.next = sym none ∙ cycle.closed.held in absurd (cc)
 
   -- a settled cell's cycle is found
-  pub settled_told : (seen : ℕ → Bool) (found : ℕ → Option (List ℕ)) → IsKnown holder seen found
+  pub settled_told : (seen : ℕ → Bool) (found : ℕ → Option (List ℕ)) → WalksAreKnown holder seen found
       → (cell : ℕ) → IsSettled holder seen cell → CycleAt holder cell (found cell)
   settled_told seen found known cell (inl was) = known.told cell was
   settled_told seen found known cell (inr none) =
@@ -124,8 +124,8 @@ module _ (holder : ℕ → Option ℕ) where
 
   -- a walk that ends outside itself has no cycle
   pub known_without : (before now : ℕ → Bool) (found : ℕ → Option (List ℕ)) (from : ℕ) (path : List ℕ) (to : ℕ)
-      → IsKnown holder before found → Walked holder before now from path to → has path to ≡ false
-      → IsKnown holder now found
+      → WalksAreKnown holder before found → Walked holder before now from path to → has path to ≡ false
+      → WalksAreKnown holder now found
   known_without before now found from path to known h outside = record {
     goes_on = goes_on_now before now found from path to known h;
     told = λ cell seen. elim (or_true (before cell) (has path cell) (sym (h.way.seen cell) ∙ seen)) [
@@ -191,10 +191,10 @@ module _ (holder : ℕ → Option ℕ) where
 
   -- a walk that ends within itself has the cycle from there on, and no other
   pub known_with : (before now : ℕ → Bool) (found new : ℕ → Option (List ℕ)) (from : ℕ) (path : List ℕ) (to place : ℕ)
-      (first : ℕ) (others : List ℕ) → IsKnown holder before found → Walked holder before now from path to
+      (first : ℕ) (others : List ℕ) → WalksAreKnown holder before found → Walked holder before now from path to
       → place < length path → slice_index path place ≡ to → IsTurned (drop place path) (first ∷ others)
       → ((cell : ℕ) → new cell ≡ (if first == cell then Some (first ∷ others) else found cell))
-      → IsKnown holder now new
+      → WalksAreKnown holder now new
   known_with before now found new from path to place first others known h within at turned put = record {
     goes_on = goes_on_now before now found from path to known h;
     told = λ cell seen. elim (num_cases first cell) [
@@ -255,7 +255,7 @@ module _ (holder : ℕ → Option ℕ) where
 
   -- nothing is seen yet
   pub known_nothing : (seen : ℕ → Bool) (found : ℕ → Option (List ℕ)) → ((cell : ℕ) → seen cell ≡ false)
-      → ((cell : ℕ) → found cell ≡ None) → IsKnown holder seen found
+      → ((cell : ℕ) → found cell ≡ None) → WalksAreKnown holder seen found
   known_nothing seen found unseen_all none = record {
     goes_on = λ cell next was held. let wrong : true ≡ false = sym was ∙ unseen_all cell in absurd (cc);
     told = λ cell was. let wrong : true ≡ false = sym was ∙ unseen_all cell in absurd (cc);
@@ -272,8 +272,8 @@ module _ (holder : ℕ → Option ℕ) where
 
   -- one walk more, and what is kept of it
   pub known_kept : (before now : ℕ → Bool) (found new : ℕ → Option (List ℕ)) (from : ℕ) (path : List ℕ) (to : ℕ)
-      → IsKnown holder before found → Walked holder before now from path to → IsKept path to found new
-      → IsKnown holder now new
+      → WalksAreKnown holder before found → Walked holder before now from path to → IsKept path to found new
+      → WalksAreKnown holder now new
   known_kept before now found new from path to known h (inl outside) =
       let same = known_without before now found from path to known h outside.0 in
       record {

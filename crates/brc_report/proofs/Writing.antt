@@ -3,12 +3,12 @@ use Rattle.std.proofs.Common.{◌≡◌, ◌<◌, ◌+◌, ◌++◌, ℕ, suc, L
 use Rattle.std.proofs.Common.{drop, drop-cons, add-one}
 use Rattle.std.specs.Io.KnownBytes.{Appends}
 use Rattle.brc_words.specs.declared.fault.Fault.{Fault}
-use Rattle.brc_text.specs.Puts.{Puts, PutsUpTo}
+use Rattle.brc_text.specs.Puts.{PutsText, PutsUpTo}
 use Rattle.brc_text.proofs.PutLaws.{starts, goes_on, fails, rest_puts}
 
 -- the second piece is put, or a front of it
 pub second_puts : (old mid new : Option (List ℕ)) (result : Result (Unit {0}) Fault) (piece behind text : List ℕ)
-    → text ≡ piece ++ behind → Appends old mid piece → Puts mid new result behind → Puts old new result text
+    → text ≡ piece ++ behind → Appends old mid piece → PutsText mid new result behind → PutsText old new result text
 second_puts old mid new result piece behind text split first second =
     rest_puts new result (goes_on mid piece behind (starts old text) split first) second
 

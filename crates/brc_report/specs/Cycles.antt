@@ -9,7 +9,7 @@ holder_in [] cell = None
 holder_in (remain ∷ remains) cell = if remain.cell == cell then Some remain.held_by else holder_in remains cell
 
 -- a walk's first step: its first cell is where it begins, and the rest goes on from that cell's holder
-pub record Steps (holder : ℕ → Option ℕ) (from cell : ℕ) (Rest : ℕ → Type 0) : Type 0 where
+pub record WalksOn (holder : ℕ → Option ℕ) (from cell : ℕ) (Rest : ℕ → Type 0) : Type 0 where
   pub is : cell ≡ from
   pub next : ℕ
   pub held : holder from ≡ Some next
@@ -19,7 +19,7 @@ pub record Steps (holder : ℕ → Option ℕ) (from cell : ℕ) (Rest : ℕ →
 -- holder is where the walk ends
 abbrev pub Walk : (ℕ → Option ℕ) → ℕ → List ℕ → ℕ → Type 0
 Walk holder from [] to = from ≡ to
-Walk holder from (cell ∷ cells) to = Steps holder from cell (λ next. Walk holder next cells to)
+Walk holder from (cell ∷ cells) to = WalksOn holder from cell (λ next. Walk holder next cells to)
 
 -- a walk along the holders that comes back to its lowest cell, which begins it
 pub record IsCycle (holder : ℕ → Option ℕ) (first : ℕ) (others : List ℕ) : Type 0 where

@@ -32,7 +32,7 @@ pub record Walked (holder : ℕ → Option ℕ) (before now : ℕ → Bool) (fro
   pub ends : IsSettled holder now to
 
 -- walks go on from what was seen to what was seen; the cycles that begin at cells that were seen are found
-pub record IsKnown (holder : ℕ → Option ℕ) (seen : ℕ → Bool) (found : ℕ → Option (List ℕ)) : Type 0 where
+pub record WalksAreKnown (holder : ℕ → Option ℕ) (seen : ℕ → Bool) (found : ℕ → Option (List ℕ)) : Type 0 where
   pub goes_on : (cell next : ℕ) → seen cell ≡ true → holder cell ≡ Some next → IsSettled holder seen next
   pub told : (cell : ℕ) → seen cell ≡ true → CycleAt holder cell (found cell)
   pub untold : (cell : ℕ) → seen cell ≡ false → found cell ≡ None

@@ -1,7 +1,7 @@
 //! A report, and its text.
 
 ghost use Rattle.std.specs.Prelude.{◌≡◌, ◌++◌, ◌⊎◌, true, false, IfSome, IfNone};
-ghost use Rattle.brc_text.specs.Puts.{Puts};
+ghost use Rattle.brc_text.specs.Puts.{PutsText};
 ghost use Rattle.brc_report.specs.Spelled.{is_spelled, all_spelled, has_cells, all_have_cells};
 ghost use Rattle.brc_report.specs.Texts.{kind_word, ledger_line, remain_line, remains_text, cycle_line, cycles_text};
 ghost use Rattle.brc_report.specs.Texts.{report_text};
@@ -116,7 +116,7 @@ fn word_of_kind(kind: Kind) -> Keyword
 
 /// Writes the ledger and how many objects live.
 fn put_ledger<W: Write>(writer: &mut W, ledger: &Ledger, live: u64) -> Result<(), Fault>
-    ensures { Puts (W.contents writer.old) (W.contents writer.new) result (ledger_line ledger.now live) }
+    ensures { PutsText (W.contents writer.old) (W.contents writer.new) result (ledger_line ledger.now live) }
 {
     put_line(
         writer,
@@ -131,7 +131,7 @@ fn put_ledger<W: Write>(writer: &mut W, ledger: &Ledger, live: u64) -> Result<()
 
 /// Writes one remain.
 fn put_remain<W: Write>(writer: &mut W, remain: Remain) -> Result<(), Fault>
-    ensures { Puts (W.contents writer.old) (W.contents writer.new) result (remain_line remain) }
+    ensures { PutsText (W.contents writer.old) (W.contents writer.new) result (remain_line remain) }
 {
     put_headed_line(
         writer,
@@ -145,7 +145,7 @@ fn put_remain<W: Write>(writer: &mut W, remain: Remain) -> Result<(), Fault>
 }
 
 fn put_remains<W: Write>(writer: &mut W, remains: &[Remain]) -> Result<(), Fault>
-    ensures { Puts (W.contents writer.old) (W.contents writer.new) result (remains_text remains.now) }
+    ensures { PutsText (W.contents writer.old) (W.contents writer.new) result (remains_text remains.now) }
 {
     for remain in remains {
         put_remain(writer, *remain)?;
@@ -155,13 +155,13 @@ fn put_remains<W: Write>(writer: &mut W, remains: &[Remain]) -> Result<(), Fault
 
 /// Writes one cycle.
 fn put_cycle<W: Write>(writer: &mut W, cells: &[u32]) -> Result<(), Fault>
-    ensures { Puts (W.contents writer.old) (W.contents writer.new) result (cycle_line cells.now) }
+    ensures { PutsText (W.contents writer.old) (W.contents writer.new) result (cycle_line cells.now) }
 {
     put_numbers_line(writer, b"cycle", cells)
 }
 
 fn put_cycles<A: Allocator, W: Write>(writer: &mut W, cycles: &[Cells<A>]) -> Result<(), Fault>
-    ensures { Puts (W.contents writer.old) (W.contents writer.new) result (cycles_text cycles.now) }
+    ensures { PutsText (W.contents writer.old) (W.contents writer.new) result (cycles_text cycles.now) }
 {
     for cycle in cycles {
         put_cycle(writer, cycle.as_slice())?;
@@ -173,7 +173,7 @@ fn put_report_remains<A: Allocator, W: Write>(
     report: &Report<A>,
     writer: &mut W,
 ) -> Result<(), Fault>
-    ensures { Puts (W.contents writer.old) (W.contents writer.new) result (remains_text report.now.remains.items) }
+    ensures { PutsText (W.contents writer.old) (W.contents writer.new) result (remains_text report.now.remains.items) }
 {
     put_remains(writer, report.remains.as_slice())
 }
@@ -182,14 +182,14 @@ fn put_report_cycles<A: Allocator, W: Write>(
     report: &Report<A>,
     writer: &mut W,
 ) -> Result<(), Fault>
-    ensures { Puts (W.contents writer.old) (W.contents writer.new) result (cycles_text report.now.cycles.items) }
+    ensures { PutsText (W.contents writer.old) (W.contents writer.new) result (cycles_text report.now.cycles.items) }
 {
     put_cycles(writer, report.cycles.as_slice())
 }
 
 /// Writes what stands behind the ledger.
 fn put_rest<A: Allocator, W: Write>(report: &Report<A>, writer: &mut W) -> Result<(), Fault>
-    ensures { Puts (W.contents writer.old) (W.contents writer.new) result
+    ensures { PutsText (W.contents writer.old) (W.contents writer.new) result
         (remains_text report.now.remains.items ++ cycles_text report.now.cycles.items) }
 {
     put_report_remains(report, writer)?;
@@ -198,7 +198,7 @@ fn put_rest<A: Allocator, W: Write>(report: &Report<A>, writer: &mut W) -> Resul
 
 /// Writes the text of the report: all of it, or Io after a front of it. No memory is taken.
 pub fn write_report<A: Allocator, W: Write>(report: &Report<A>, writer: &mut W) -> Result<(), Fault>
-    ensures { Puts (W.contents writer.old) (W.contents writer.new) result
+    ensures { PutsText (W.contents writer.old) (W.contents writer.new) result
         (report_text report.now.ledger report.now.live report.now.remains.items report.now.cycles.items) }
 {
     put_ledger(writer, &report.ledger, report.live)?;

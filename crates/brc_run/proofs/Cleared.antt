@@ -9,8 +9,8 @@ use Rattle.brc_count.specs.law.world.declared.event.Step.TheVariants.{Lock, Unlo
 use Rattle.brc_count.proofs.law.known.Kept_Law.{places_kept}
 use Rattle.brc_count.specs.law.rule.declared.contents.Contents.{Contents}
 use Rattle.brc_count.specs.law.rule.declared.told.Moved.TheVariants as moves
-use Rattle.brc_count.specs.law.rule.declared.told.Told.{Told}
-use Rattle.brc_count.specs.law.rule.declared.told.Told.TheVariants.{Did, Saw, Lost}
+use Rattle.brc_count.specs.law.rule.declared.told.LogItem.{LogItem}
+use Rattle.brc_count.specs.law.rule.declared.told.LogItem.TheVariants.{Stepped, Loaded, Lost}
 use Rattle.brc_count.specs.law.rule.Logs.{log_items, put_in, entries_in}
 use Rattle.brc_count.specs.law.living.Quiet.{is_quiet, only_lets_go, Quietly, NoItem, OneMore}
 use Rattle.brc_count.proofs.law.living.Quiet_Items.{lock_names}
@@ -23,15 +23,15 @@ use Rattle.brc_run.specs.Runs.{left_in, LeavesNone}
 
 -- ---- what quiet items leave
 
-quiet_puts : (x : Told) (c : ℕ) (before : Contents) → is_quiet x ≡ true → put_in x c before ≡ before
-quiet_puts (Did s m moves.Nothing) c before quiet = refl
-quiet_puts (Did s m (moves.Found d contents)) c before quiet = refl
-quiet_puts (Did s m (moves.Put d contents)) c before quiet =
+quiet_puts : (x : LogItem) (c : ℕ) (before : Contents) → is_quiet x ≡ true → put_in x c before ≡ before
+quiet_puts (Stepped s m moves.Nothing) c before quiet = refl
+quiet_puts (Stepped s m (moves.Found d contents)) c before quiet = refl
+quiet_puts (Stepped s m (moves.Put d contents)) c before quiet =
     absurd (true≢false (sym (and_parts (only_lets_go s) false quiet).1))
-quiet_puts (Saw word m) c before quiet = refl
+quiet_puts (Loaded word m) c before quiet = refl
 quiet_puts (Lost word m) c before quiet = refl
 
-pub quietly_left : (old log : List Told) (c : ℕ) (before : Contents) → Quietly old log
+pub quietly_left : (old log : List LogItem) (c : ℕ) (before : Contents) → Quietly old log
     → left_in log c before ≡ left_in old c before
 quietly_left old _ c before NoItem = refl
 quietly_left old _ c before (OneMore x log more quiet) =
@@ -46,18 +46,19 @@ no_place : (j : ℕ) → None ≡ Some j → ⊥
 no_place j bad = cc
 
 -- a look leaves the place that it is at as it was
-look_keeps : (n : ℕ) (log : List Told) (k c : ℕ) (found put : Contents) → place_seen n log k ≡ Some c
-    → place_seen n (Did (Unlock Keep) 0 (moves.Put c put) ∷ Did (Lock k) 0 (moves.Found c found) ∷ log) k ≡ Some c
+look_keeps : (n : ℕ) (log : List LogItem) (k c : ℕ) (found put : Contents) → place_seen n log k ≡ Some c
+    → place_seen n (Stepped (Unlock Keep) 0 (moves.Put c put) ∷ Stepped (Lock k) 0 (moves.Found c found) ∷ log) k ≡ Some
+    c
 look_keeps n log k c found put at =
-    let locked : List Told = Did (Lock k) 0 (moves.Found c found) ∷ log in
+    let locked : List LogItem = Stepped (Lock k) 0 (moves.Found c found) ∷ log in
     places_kept n (log_items locked) (Unlock Keep) c 0 [] k
     (lock_names n log k 0 c (moves.Found c found) at) (no_place k)
     ∙ places_kept n (log_items log) (Lock k) c 0 (entries_in found) k at (no_place k)
     ∙ at
 
 -- it found no entry in the globals, and put that home
-looked : (log : List Told) (cell : ℕ) (found : Contents) (before : Contents) → cell ≡ GLOBALS → entries_in found ≡ []
-    → entries_in (put_in (Did (Unlock Keep) 0 (moves.Put cell found)) GLOBALS before) ≡ []
+looked : (log : List LogItem) (cell : ℕ) (found : Contents) (before : Contents) → cell ≡ GLOBALS → entries_in found ≡ []
+    → entries_in (put_in (Stepped (Unlock Keep) 0 (moves.Put cell found)) GLOBALS before) ≡ []
 looked log cell found before globals none =
     ap (λ b. entries_in (if b then found else before)) (eq-eqb cell GLOBALS globals) ∙ none
 
@@ -73,7 +74,7 @@ module _ {A : Type 0} where
       let found : Contents = clears.takes.last.found in
       let globals : cell ≡ GLOBALS = some_same (sym looks.of_place ∙ clears.takes.same_cell ∙ clears.given.has) in
       let at : cell_in taken k ≡ Some GLOBALS = looks.of_place ∙ ap Some globals in
-      let left_log : clears.left.seat.log ≡ Did (Unlock Keep) 0 (moves.Put cell found) ∷ Did (Lock k) 0
+      let left_log : clears.left.seat.log ≡ Stepped (Unlock Keep) 0 (moves.Put cell found) ∷ Stepped (Lock k) 0
       (moves.Found cell found) ∷ taken.seat.log = looks.events in
       let place : cell_in clears.left k ≡ Some GLOBALS =
       ap (λ (h : TableSeen). place_seen h.cells clears.left.seat.log k) looks.keeps.heap
@@ -84,5 +85,5 @@ module _ {A : Type 0} where
       (release_quietly clears.left new k GLOBALS (clears.gives_back GLOBALS place)))
       ∙ ap (λ log. entries_in (left_in log GLOBALS before)) left_log
       ∙ looked taken.seat.log cell found
-      (left_in (Did (Lock k) 0 (moves.Found cell found) ∷ taken.seat.log) GLOBALS before) globals
+      (left_in (Stepped (Lock k) 0 (moves.Found cell found) ∷ taken.seat.log) GLOBALS before) globals
       clears.takes.last.none

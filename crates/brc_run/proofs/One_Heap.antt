@@ -9,7 +9,7 @@ use Rattle.std.proofs.lemmas.List.Elements.{All-head, All-rest, All-push}
 use Rattle.brc_count.specs.Frames.{FrameSeen}
 use Rattle.brc_count.specs.table.Seated.{TableSeen, RootSeen}
 use Rattle.brc_run.specs.declared.crew.Done.{Done}
-use Rattle.brc_run.specs.Runs.{IsReady, Life, TakesIn}
+use Rattle.brc_run.specs.Runs.{IsReady, ThreadLife, RootTakesIn}
 use Rattle.brc_run.proofs.Taken.{takes_none, takes_both}
 
 no_others : {D : Type 0} (left : List D) → length left ≡ 0 → left ≡ []
@@ -44,12 +44,12 @@ module _ {A : Type 0} where
   others_done heap x before left next all = All-rest (λ (one : Done A). one.retired.heap ≡ heap) x left before next all
 
 -- of all of them, those before these are taken in
-pub record Gathering {D : Type 0} (life : D → Life) (old now : RootSeen) (all left : List D) : Type 0 where
-  pub lives : List Life
-  pub took : TakesIn old now 0 lives
+pub record Gathering {D : Type 0} (life : D → ThreadLife) (old now : RootSeen) (all left : List D) : Type 0 where
+  pub lives : List ThreadLife
+  pub took : RootTakesIn old now 0 lives
   pub those : reverse (map life all) ≡ reverse (map life left) ++ lives
 
-module _ {D : Type 0} (life : D → Life) where
+module _ {D : Type 0} (life : D → ThreadLife) where
   pub gathers_first : (root : RootSeen) (all left : List D) → left ≡ all → Gathering life root root all left
   gathers_first root all left same = record {
     lives = [];
@@ -58,15 +58,15 @@ module _ {D : Type 0} (life : D → Life) where
   }
 
   -- the last one's life comes first
-  lives_next : (one : D) (left : List D) (lives : List Life)
+  lives_next : (one : D) (left : List D) (lives : List ThreadLife)
       → reverse (map life (one ∷ left)) ++ lives ≡ reverse (map life left) ++ life one ∷ lives
   lives_next one left lives =
-      ap (λ (front : List Life). front ++ lives) (reverse-append (life one ∷ []) (map life left))
+      ap (λ (front : List ThreadLife). front ++ lives) (reverse-append (life one ∷ []) (map life left))
       ∙ append_assoc (reverse (map life left)) (life one ∷ []) lives
 
   pub gathers_next : (old mid new : RootSeen) (all before left : List D) (one : D) → before ≡ one ∷ left
       → Gathering life old mid all before
-      → TakesIn mid new 0 (life one ∷ []) → Gathering life old new all left
+      → RootTakesIn mid new 0 (life one ∷ []) → Gathering life old new all left
   gathers_next old mid new all before left one next so took = record {
     lives = life one ∷ so.lives;
     took = takes_both old mid new 0 so.lives 0 (life one ∷ []) 0 (life one ∷ so.lives) so.took took refl refl;
@@ -74,9 +74,10 @@ module _ {D : Type 0} (life : D → Life) where
   }
 
   pub gathers_last : (old now : RootSeen) (all left : List D) → left ≡ [] → Gathering life old now all left
-      → TakesIn old now 0 (reverse (map life all))
+      → RootTakesIn old now 0 (reverse (map life all))
   gathers_last old now all left none so =
-      subst (TakesIn old now 0) (sym (so.those ∙ ap (λ (ds : List D). reverse (map life ds) ++ so.lives) none)) so.took
+      subst (RootTakesIn old now 0)
+      (sym (so.those ∙ ap (λ (ds : List D). reverse (map life ds) ++ so.lives) none)) so.took
 
 module _ {V X D : Type 0} where
   -- the ends are there of all before these

@@ -10,7 +10,7 @@ use Rattle.brc_count.specs.table.Seated.{TableSeen, RootSeen}
 use Rattle.brc_run.specs.declared.crew.Done.{Done}
 use Rattle.brc_count.specs.law.rule.declared.view.View.{View}
 use Rattle.brc_count.specs.law.rule.declared.told.Moved.TheVariants.{Nothing}
-use Rattle.brc_count.specs.law.rule.declared.told.Told.TheVariants.{Did}
+use Rattle.brc_count.specs.law.rule.declared.told.LogItem.TheVariants.{Stepped}
 use Rattle.brc_count.specs.law.rule.Logs.{Run, own_of, lives_of, world, entries_in, contents_at}
 use Rattle.brc_count.specs.law.steps.Joining.{next_thread}
 use Rattle.brc_count.specs.law.world.declared.event.Step.TheVariants.{Register, Gather}
@@ -22,10 +22,11 @@ use Rattle.brc_close.specs.Contents.{content_at, contents_of_heap}
 use Rattle.brc_count.specs.law.rule.Opening.{first_view}
 use Rattle.brc_report.specs.declared.report.Report.{Report}
 use Rattle.brc_thread.specs.Counting.{registrations, gatherings}
-use Rattle.brc_close.specs.Closing.{Closes}
+use Rattle.brc_close.specs.Closing.{IsReportOfEnd}
 use Rattle.brc_run.specs.declared.options.RunOptions.{RunOptions}
 use Rattle.brc_run.specs.Options.{AreRunOptions}
-use Rattle.brc_run.specs.Runs.{InOrder, EndsAs, EachTells, IsDone, Life, TakesIn, ClearsUp, TakesInAll, IsReportOf}
+use Rattle.brc_run.specs.Runs.{InOrder, EndsAs, EachTells, CameBack, ThreadLife, RootTakesIn, ClearsUp, TakesInAll}
+use Rattle.brc_run.specs.Runs.{IsReportOf}
 use Rattle.brc_run.specs.Runs.{life_of, left_in}
 use Rattle.brc_run.proofs.Left_Alone.{left_alone}
 use Rattle.brc_run.proofs.Ordered.{as_many}
@@ -36,7 +37,7 @@ module _ {A : Type 0} where
   -- where each thread has an end, these are the sections'
   pub ends_in_order : (heap : TableSeen) (refuses : ℕ → ℕ → Type 0) (n : ℕ) (sections : List (Section A))
       (done : List (Done A)) (ends : List (SectionEnd A))
-      → map (λ (one : Done A). one.end) done ≡ map Some ends → InOrder (IsDone heap refuses) n sections done
+      → map (λ (one : Done A). one.end) done ≡ map Some ends → InOrder (CameBack heap refuses) n sections done
       → InOrder (EndsAs refuses) n sections ends
   ends_in_order heap refuses n [] [] [] same so = tt {0}
   ends_in_order heap refuses n [] [] (end ∷ ends) same so = cc
@@ -70,10 +71,10 @@ module _ {A : Type 0} where
       → TakesInAll n script ends old new → new.view.gathered ≡ lives_of run
       → EachTells n script ends (reverse (lives_of run))
   lives_told n run script ends old new first took lived =
-      let last : Life = (took.clears.thread.thread, took.clears.thread.log) in
+      let last : ThreadLife = (took.clears.thread.thread, took.clears.thread.log) in
       let taken : new.view.gathered ≡ last ∷ reverse took.lives =
       ap (λ (v : View). v.gathered) took.clears.did
-      ∙ ap (λ (lives : List Life). last ∷ lives) (took.took.gathered
+      ∙ ap (λ (lives : List ThreadLife). last ∷ lives) (took.took.gathered
       ∙ ap (λ (v : View). reverse took.lives ++ v.gathered) first ∙ append-nil (reverse took.lives)) in
       let turned : reverse (lives_of run) ≡ took.lives ++ last ∷ [] =
       ap reverse (sym lived ∙ taken) ∙ turned_round last took.lives in
@@ -109,8 +110,9 @@ module _ {A : Type 0} where
   -- the root registers a thread for each section, takes the threads of all in, and then one more
   pub takes_all : (heap : TableSeen) (refuses : ℕ → ℕ → Type 0) (script : List (Section A)) (done : List (Done A))
       (ends : List (SectionEnd A)) (old mid taken new : RootSeen)
-      → TakesIn old mid (length script) [] → TakesIn mid taken 0 (reverse (map life_of done)) → ClearsUp taken new
-      → InOrder (IsDone heap refuses) 1 script done → map (λ (one : Done A). one.end) done ≡ map Some ends
+      → RootTakesIn old mid (length script) [] → RootTakesIn mid taken 0 (reverse (map life_of done))
+      → ClearsUp taken new
+      → InOrder (CameBack heap refuses) 1 script done → map (λ (one : Done A). one.end) done ≡ map Some ends
       → TakesInAll heap.cells script ends old new
   takes_all heap refuses script done ends old mid taken new registered gathered one so same =
       let lives = reverse (map life_of done) in record {
@@ -119,30 +121,31 @@ module _ {A : Type 0} where
         took = takes_both old mid taken (length script) [] 0 lives (length script) lives registered gathered
             (omega arith) (sym (append-nil lives));
         clears = one;
-        many = length-map done life_of ∙ sym (as_many (IsDone heap refuses) 1 script done so);
+        many = length-map done life_of ∙ sym (as_many (CameBack heap refuses) 1 script done so);
         told = each_tells heap refuses 1 script done ends same so;
       }
 
   -- what stands in the globals in the end is what the last thread left there
   none_left : (n limit : ℕ) (script : List (Section A)) (ends : List (SectionEnd A)) (report : Report A)
       (old new : RootSeen) → AreOptions n limit
-      → (closes : Closes n limit new.view report) → TakesInAll n script ends old new
+      → (closes : IsReportOfEnd n limit new.view report) → TakesInAll n script ends old new
       → entries_in (contents_at closes.run GLOBALS) ≡ []
   none_left n limit script ends report old new options closes took =
       let thread : View = took.clears.thread in
       let mid : View = took.mid.view in
-      let log : own_of 0 closes.run ≡ Did (Gather thread.thread) 0 Nothing ∷ Did (Register (next_thread mid)) 0 Nothing
+      let log : own_of 0 closes.run ≡ Stepped (Gather thread.thread) 0 Nothing ∷ Stepped
+      (Register (next_thread mid)) 0 Nothing
       ∷ mid.log = closes.root_did ∙ ap (λ (v : View). v.log) took.clears.did in
       let lives : lives_of closes.run ≡ (thread.thread, thread.log) ∷ mid.gathered =
       sym closes.lives_did ∙ ap (λ (v : View). v.gathered) took.clears.did in
       let left = left_alone n limit options closes.run thread.thread 0 Nothing (next_thread mid) 0 Nothing mid.log GLOBALS
       closes.legal closes.everyone log in
-      ap entries_in (left.stands ∙ ap (λ (life : Life). left_in life.1 GLOBALS left.before)
+      ap entries_in (left.stands ∙ ap (λ (life : ThreadLife). left_in life.1 GLOBALS left.before)
       (first_is (sym left.lives ∙ lives)))
       ∙ took.clears.none left.before
 
   report_by : (options : RunOptions) (script : List (Section A)) (ends : List (SectionEnd A)) (report : Report A)
-      (old new : RootSeen) → AreRunOptions options → Closes options.cells options.local_limit new.view report
+      (old new : RootSeen) → AreRunOptions options → IsReportOfEnd options.cells options.local_limit new.view report
       → old.view ≡ first_view → TakesInAll options.cells script ends old new
       → IsReportOf options script ends report
   report_by options script ends report old new within closes first took =
@@ -171,11 +174,11 @@ module _ {A : Type 0} where
   pub report_of : (options : RunOptions) (script : List (Section A)) (ends : List (SectionEnd A)) (report : Report A)
       (heap : TableSeen) (old new : RootSeen) → AreRunOptions options → heap.cells ≡ options.cells
       → heap.local_limit ≡ options.local_limit
-      → Closes heap.cells heap.local_limit new.view report
+      → IsReportOfEnd heap.cells heap.local_limit new.view report
       → old.view ≡ first_view → TakesInAll heap.cells script ends old new
       → IsReportOf options script ends report
   report_of options script ends report heap old new within cells limit closes first took =
       report_by options script ends report old new within
-      (subst (λ (n : ℕ). Closes n options.local_limit new.view report) cells
-      (subst (λ (n : ℕ). Closes heap.cells n new.view report) limit closes)) first
+      (subst (λ (n : ℕ). IsReportOfEnd n options.local_limit new.view report) cells
+      (subst (λ (n : ℕ). IsReportOfEnd heap.cells n new.view report) limit closes)) first
       (subst (λ (n : ℕ). TakesInAll n script ends old new) cells took)

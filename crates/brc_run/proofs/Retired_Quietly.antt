@@ -3,8 +3,8 @@
 use Rattle.std.proofs.Common.{◌≡◌, ℕ, List, ◌∷◌, Option, refl, sym, ap, subst, ◌∙◌}
 use Rattle.brc_count.specs.law.rule.declared.contents.Contents.{Contents}
 use Rattle.brc_count.specs.law.rule.declared.told.Moved.TheVariants.{Nothing}
-use Rattle.brc_count.specs.law.rule.declared.told.Told.{Told}
-use Rattle.brc_count.specs.law.rule.declared.told.Told.TheVariants.{Did, Saw}
+use Rattle.brc_count.specs.law.rule.declared.told.LogItem.{LogItem}
+use Rattle.brc_count.specs.law.rule.declared.told.LogItem.TheVariants.{Stepped, Loaded}
 use Rattle.brc_count.specs.law.world.declared.event.LastDropped.TheVariants as lasts
 use Rattle.brc_count.specs.law.world.declared.event.Step.TheVariants.{Close, Offer, Untie, MergeAdd, LastDown}
 use Rattle.brc_count.specs.law.living.Quiet.{Quietly, NoItem, OneMore}
@@ -20,7 +20,7 @@ use Rattle.brc_count.specs.table.Seated.{SeatSeen}
 use Rattle.brc_count.specs.biased.Released.{HandsOver}
 use Rattle.brc_count.proofs.biased.Quiet.{ends_quietly}
 use Rattle.brc_count.specs.Closing as closing
-use Rattle.brc_count.specs.Closing.{Closes, HandsEach, GoesOut, TurnedLeaving, TurnsLeaving}
+use Rattle.brc_count.specs.Closing.{ClosesWords, HandsEach, GoesOut, TurnedLeaving, TurnsLeaving}
 use Rattle.brc_count.specs.Frames.{FrameSeen}
 use Rattle.brc_count.proofs.Quiet.{GoesQuietly, turned_quietly, turns_quietly, polled_quietly}
 use Rattle.brc_thread.specs.Retiring.{RetiresAs}
@@ -31,32 +31,32 @@ use Rattle.brc_run.specs.Runs.{left_in}
 use Rattle.brc_run.proofs.Cleared.{quietly_left}
 
 -- the log goes on, no object is born, and nothing is put home
-pub record BearsNothing (before log : List Told) : Type 0 where
+pub record BearsNothing (before log : List LogItem) : Type 0 where
   pub later : IsLater before log
   pub allocs : (n : ℕ) → (part_seen n log).row.allocs ≡ (part_seen n before).row.allocs
   pub puts : (c : ℕ) (there : Contents) → left_in log c there ≡ left_in before c there
 
-quietly_bears : (before log : List Told) → Quietly before log → BearsNothing before log
+quietly_bears : (before log : List LogItem) → Quietly before log → BearsNothing before log
 quietly_bears before log quiet = record {
   later = quietly_later before log quiet;
   allocs = λ n. allocs_quietly n before log quiet;
   puts = λ c there. quietly_left before log c there quiet;
 }
 
-bears_both : (before mid log : List Told) → BearsNothing before mid → BearsNothing mid log → BearsNothing before log
+bears_both : (before mid log : List LogItem) → BearsNothing before mid → BearsNothing mid log → BearsNothing before log
 bears_both before mid log first second = record {
   later = later_both before mid log first.later second.later;
   allocs = λ n. second.allocs n ∙ first.allocs n;
   puts = λ c there. second.puts c there ∙ first.puts c there;
 }
 
-bears_same : (log : List Told) → BearsNothing log log
+bears_same : (log : List LogItem) → BearsNothing log log
 bears_same log = record { later = later_same log; allocs = λ n. refl; puts = λ c there. refl }
 
-closes_quietly : (before : List Told) (n : ℕ) (log : List Told) → Closes before n log → Quietly before log
+closes_quietly : (before : List LogItem) (n : ℕ) (log : List LogItem) → ClosesWords before n log → Quietly before log
 closes_quietly before _ _ closing.NoWord = NoItem
 closes_quietly before _ _ (closing.Closed k bits log more) =
-    OneMore (Did (Close k) bits Nothing) log (closes_quietly before k log more) refl
+    OneMore (Stepped (Close k) bits Nothing) log (closes_quietly before k log more) refl
 
 module _ {A : Type 0} where
   goes_quietly : (old new : FrameSeen A) → PollsAndWorks old new → GoesQuietly old new
@@ -85,20 +85,20 @@ module _ {A : Type 0} where
       (turned_leaving mid new turned)
 
   -- an Offer ends what was private, so it isn't quiet; but it bears nothing
-  hands_over : (c : ℕ) (block : Option (ℕ × Payload A)) (before log : List Told) → HandsOver c block before log
+  hands_over : (c : ℕ) (block : Option (ℕ × Payload A)) (before log : List LogItem) → HandsOver c block before log
       → BearsNothing before log
   hands_over c block before log hands =
-      let offered : List Told = Did (Offer c) hands.offered Nothing ∷ before in
-      let untied : List Told = Did (Untie c) 0 Nothing ∷ offered in
-      let seen : List Told = Saw (Of Local c) hands.local ∷ untied in
+      let offered : List LogItem = Stepped (Offer c) hands.offered Nothing ∷ before in
+      let untied : List LogItem = Stepped (Untie c) 0 Nothing ∷ offered in
+      let seen : List LogItem = Loaded (Of Local c) hands.local ∷ untied in
       bears_both before offered log (record {
-        later = later_one (Did (Offer c) hands.offered Nothing) before before (later_same before);
+        later = later_one (Stepped (Offer c) hands.offered Nothing) before before (later_same before);
         allocs = λ n. refl;
         puts = λ c there. refl;
       })
       (quietly_bears offered log
-      (quietly_joined offered untied log (OneMore (Did (Untie c) 0 Nothing) offered NoItem refl)
-      (quietly_joined untied seen log (OneMore (Saw (Of Local c) hands.local) untied NoItem refl)
+      (quietly_joined offered untied log (OneMore (Stepped (Untie c) 0 Nothing) offered NoItem refl)
+      (quietly_joined untied seen log (OneMore (Loaded (Of Local c) hands.local) untied NoItem refl)
       (ends_quietly (MergeAdd c) c block seen log refl hands.ends))))
 
   hands_each : (old : FrameSeen A) (c : ℕ) (new : FrameSeen A) → HandsEach old c new

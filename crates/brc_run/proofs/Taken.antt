@@ -21,7 +21,7 @@ use Rattle.brc_count.specs.Frames.{FrameSeen}
 use Rattle.brc_thread.specs.Counting.{registrations}
 use Rattle.brc_thread.specs.Retiring.{EndsThread}
 use Rattle.brc_thread.specs.Threads.{RefusesThread}
-use Rattle.brc_run.specs.Runs.{Life, TakesIn, LeavesNone, ClearsUp}
+use Rattle.brc_run.specs.Runs.{ThreadLife, RootTakesIn, LeavesNone, ClearsUp}
 use Rattle.brc_run.proofs.Retired_Quietly.{retired_bears}
 
 first_low : (xs : List Bool) → first_gathered xs ≤ length xs
@@ -69,43 +69,47 @@ registered v = refl
 not_registered : (v w : View) → registrations (gathering v w) ≡ registrations v
 not_registered v w = refl
 
-pub takes_none : (root : RootSeen) → TakesIn root root 0 []
+pub takes_none : (root : RootSeen) → RootTakesIn root root 0 []
 takes_none root = record { same_table = refl; more_registered = omega arith; gathered = refl }
 
-pub takes_registered : (old mid new : RootSeen) (r : ℕ) (lives : List Life) (more : ℕ) → TakesIn old mid r lives
+pub takes_registered : (old mid new : RootSeen) (r : ℕ) (lives : List ThreadLife) (more : ℕ)
+    → RootTakesIn old mid r lives
     → new.view ≡ registering mid.view
     → new.table ≡ mid.table
-    → more ≡ r + 1 → TakesIn old new more lives
+    → more ≡ r + 1 → RootTakesIn old new more lives
 takes_registered old mid new r lives more took view table next = record {
   same_table = table ∙ took.same_table;
   more_registered = omega (arith, ap registrations view, registered mid.view, took.more_registered, next);
   gathered = ap (λ (v : View). v.gathered) view ∙ took.gathered;
 }
 
-pub takes_gathered : (old mid new : RootSeen) (w : View) (r : ℕ) (lives more : List Life) → TakesIn old mid r lives
+pub takes_gathered : (old mid new : RootSeen) (w : View) (r : ℕ) (lives more : List ThreadLife)
+    → RootTakesIn old mid r lives
     → new.view ≡ gathering mid.view w → new.table ≡ mid.table
-    → more ≡ (w.thread, w.log) ∷ lives → TakesIn old new r more
+    → more ≡ (w.thread, w.log) ∷ lives → RootTakesIn old new r more
 takes_gathered old mid new w r lives more took view table next = record {
   same_table = table ∙ took.same_table;
   more_registered = ap registrations view ∙ not_registered mid.view w ∙ took.more_registered;
-  gathered = ap (λ (v : View). v.gathered) view ∙ ap (λ (later : List Life). (w.thread, w.log) ∷ later) took.gathered
-      ∙ ap (λ (all : List Life). all ++ old.view.gathered) (sym next);
+  gathered = ap (λ (v : View). v.gathered) view ∙ ap
+      (λ (later : List ThreadLife). (w.thread, w.log) ∷ later) took.gathered
+      ∙ ap (λ (all : List ThreadLife). all ++ old.view.gathered) (sym next);
 }
 
-pub takes_both : (old mid new : RootSeen) (r : ℕ) (lives : List Life) (r' : ℕ) (later : List Life) (all_r : ℕ)
-    (all : List Life) → TakesIn old mid r lives → TakesIn mid new r' later
+pub takes_both : (old mid new : RootSeen) (r : ℕ) (lives : List ThreadLife) (r' : ℕ) (later : List ThreadLife)
+    (all_r : ℕ)
+    (all : List ThreadLife) → RootTakesIn old mid r lives → RootTakesIn mid new r' later
     → all_r ≡ r + r' → all ≡ later ++ lives
-    → TakesIn old new all_r all
+    → RootTakesIn old new all_r all
 takes_both old mid new r lives r' later all_r all first second rs is = record {
   same_table = second.same_table ∙ first.same_table;
   more_registered = omega (arith, first.more_registered, second.more_registered, rs);
-  gathered = second.gathered ∙ ap (λ (before : List Life). later ++ before) first.gathered
+  gathered = second.gathered ∙ ap (λ (before : List ThreadLife). later ++ before) first.gathered
       ∙ sym (append_assoc later lives old.view.gathered)
-      ∙ ap (λ (taken : List Life). taken ++ old.view.gathered) (sym is);
+      ∙ ap (λ (taken : List ThreadLife). taken ++ old.view.gathered) (sym is);
 }
 
-pub one_registered : (old mid new : RootSeen) (n : ℕ) → TakesIn old mid n [] → TakesIn mid new 1 []
-    → TakesIn old new (n + 1) []
+pub one_registered : (old mid new : RootSeen) (n : ℕ) → RootTakesIn old mid n [] → RootTakesIn mid new 1 []
+    → RootTakesIn old new (n + 1) []
 one_registered old mid new n first second = takes_both old mid new n [] 1 [] (n + 1) [] first second refl refl
 
 -- a thread is registered, leaves no entry in the globals, and is gathered

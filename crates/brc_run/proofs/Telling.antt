@@ -9,7 +9,7 @@ use Rattle.brc_words.specs.declared.limits.TheConstants.{MOST_BIRTHS}
 use Rattle.brc_words.specs.Faults.{number_of}
 use Rattle.brc_script.specs.declared.script.Section.{Section}
 use Rattle.brc_script.specs.Scripts.{is_private}
-use Rattle.brc_count.specs.law.rule.declared.told.Told.{Told}
+use Rattle.brc_count.specs.law.rule.declared.told.LogItem.{LogItem}
 use Rattle.brc_count.specs.law.living.Later.{IsLater}
 use Rattle.brc_count.proofs.law.living.Earlier.{later_both}
 use Rattle.brc_count.specs.table.Seated.{TableSeen}
@@ -22,15 +22,15 @@ use Rattle.brc_section.specs.Isolation.{is_own_end}
 use Rattle.brc_thread.specs.Retiring.{RetiresAs}
 use Rattle.brc_thread.specs.Threads.{RetiredSeen, ledger_of}
 use Rattle.brc_run.specs.declared.crew.Done.{Done}
-use Rattle.brc_run.specs.Runs.{Life, Tells, EachTells, EndsAs, IsDone, IsReady, InOrder, life_of}
+use Rattle.brc_run.specs.Runs.{ThreadLife, LifeTells, EachTells, EndsAs, CameBack, IsReady, InOrder, life_of}
 use Rattle.brc_run.proofs.Retired_Quietly.{retired_bears}
 
 -- every log is the empty one with its items after it
-from_nothing : (log : List Told) → IsLater [] log
+from_nothing : (log : List LogItem) → IsLater [] log
 from_nothing log = record { items = log; is = sym (append-nil log) }
 
 -- a search that the log has once the thread has retired, too
-none_at_last : (n : ℕ) (old mid new : List Told) → IsLater mid new → NoneWasFree n old mid → NoneWasFree n [] new
+none_at_last : (n : ℕ) (old mid new : List LogItem) → IsLater mid new → NoneWasFree n old mid → NoneWasFree n [] new
 none_at_last n old mid new later none = record {
   before = none.before;
   after = none.after;
@@ -48,7 +48,7 @@ module _ {A : Type 0} where
       → NoneWasFree old.heap.cells old.seat.log new.seat.log)
       → (is_private section ≡ true → (line : ℕ) → end.fault ≡ Some (number_of faults.LedgerFull, line)
       → MOST_BIRTHS ≤ (ledger_seen new).allocs)
-      → Tells heap.cells section end (retired.seat.thread, retired.seat.log)
+      → LifeTells heap.cells section end (retired.seat.thread, retired.seat.log)
   tells heap section end old new retired ready same retires bore searched many =
       let bears = retired_bears new retired retires in
       let counted : (ledger_of heap.cells retired.seat.log).allocs ≡ (ledger_seen new).allocs
@@ -74,11 +74,11 @@ module _ {A : Type 0} where
 
     -- the section wasn't run
     pub done_unrun : mutator ≡ woken → end ≡ None
-        → IsDone heap refuses number section (record { retired = retired; end = end })
+        → CameBack heap refuses number section (record { retired = retired; end = end })
     done_unrun same none = record {
       heap_is = retires.heap ∙ ap (λ (f : FrameSeen A). f.heap) same ∙ woken_ready.heap_is;
       ended = subst (λ (e : Option (SectionEnd A)). IfSome e (EndsAs refuses number section)) (sym none) tt;
-      told = subst (λ (e : Option (SectionEnd A)). IfSome e (λ one. Tells heap.cells section one
+      told = subst (λ (e : Option (SectionEnd A)). IfSome e (λ one. LifeTells heap.cells section one
           (retired.seat.thread, retired.seat.log))) (sym none) tt;
     }
 
@@ -91,13 +91,13 @@ module _ {A : Type 0} where
         → NoneWasFree woken.heap.cells woken.seat.log new.seat.log)
         → (is_private section ≡ true → (line : ℕ) → one.fault ≡ Some (number_of faults.LedgerFull, line)
         → MOST_BIRTHS ≤ (ledger_seen new).allocs)
-        → IsDone heap refuses number section (record { retired = retired; end = end })
+        → CameBack heap refuses number section (record { retired = retired; end = end })
     done_run new one same is home ended bore searched many =
         let retired_so : RetiresAs new retired = subst (λ (f : FrameSeen A). RetiresAs f retired) same retires in
         record {
           heap_is = retired_so.heap ∙ home ∙ woken_ready.heap_is;
           ended = subst (λ (e : Option (SectionEnd A)). IfSome e (EndsAs refuses number section)) (sym is) ended;
-          told = subst (λ (e : Option (SectionEnd A)). IfSome e (λ one. Tells heap.cells section one
+          told = subst (λ (e : Option (SectionEnd A)). IfSome e (λ one. LifeTells heap.cells section one
               (retired.seat.thread, retired.seat.log))) (sym is)
               (tells heap section one woken new retired woken_ready home retired_so bore searched many);
         }
@@ -105,7 +105,7 @@ module _ {A : Type 0} where
   -- where each thread has an end, their lives tell why the sections ended
   pub each_tells : (heap : TableSeen) (refuses : ℕ → ℕ → Type 0) (number : ℕ) (sections : List (Section A))
       (done : List (Done A)) (ends : List (SectionEnd A))
-      → map (λ (one : Done A). one.end) done ≡ map Some ends → InOrder (IsDone heap refuses) number sections done
+      → map (λ (one : Done A). one.end) done ≡ map Some ends → InOrder (CameBack heap refuses) number sections done
       → EachTells heap.cells sections ends (map life_of done)
   each_tells heap refuses number [] [] [] same so = tt
   each_tells heap refuses number [] [] (end ∷ ends) same so = cc
@@ -115,12 +115,13 @@ module _ {A : Type 0} where
   each_tells heap refuses number (section ∷ sections) (one ∷ done) (end ∷ ends) same so =
       let head : one.end ≡ Some end = cc in
       let tail : map (λ (one : Done A). one.end) done ≡ map Some ends = cc in (
-        subst (λ e. IfSome e (λ (end : SectionEnd A). Tells heap.cells section end (life_of one))) head so.0.told,
+        subst (λ e. IfSome e (λ (end : SectionEnd A). LifeTells heap.cells section end (life_of one))) head so.0.told,
         each_tells heap refuses (suc number) sections done ends tail so.1,
       )
 
   -- whatever other lives come behind them
-  pub each_tells_before : (n : ℕ) (sections : List (Section A)) (ends : List (SectionEnd A)) (lives more : List Life)
+  pub each_tells_before : (n : ℕ) (sections : List (Section A)) (ends : List (SectionEnd A))
+      (lives more : List ThreadLife)
       → EachTells n sections ends lives → EachTells n sections ends (lives ++ more)
   each_tells_before n [] [] lives more so = tt
   each_tells_before n [] (end ∷ ends) lives more so = absurd so
@@ -130,7 +131,7 @@ module _ {A : Type 0} where
       (so.0, each_tells_before n sections ends lives more so.1)
 
 -- the other way round the other thread's life comes last
-pub turned_round : (last : Life) (lives : List Life) → reverse (last ∷ reverse lives) ≡ lives ++ last ∷ []
+pub turned_round : (last : ThreadLife) (lives : List ThreadLife) → reverse (last ∷ reverse lives) ≡ lives ++ last ∷ []
 turned_round last lives =
     reverse-append (last ∷ []) (reverse lives)
-    ∙ ap (λ (front : List Life). front ++ last ∷ []) (reverse-reverse lives)
+    ∙ ap (λ (front : List ThreadLife). front ++ last ∷ []) (reverse-reverse lives)

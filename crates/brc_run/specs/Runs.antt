@@ -15,7 +15,7 @@ use Rattle.brc_report.specs.declared.report.Report.{Report}
 use Rattle.brc_report.specs.Cycles.{holder_in}
 use Rattle.brc_report.specs.Running.{entries_of_first, RunsInto}
 use Rattle.brc_count.specs.law.rule.declared.contents.Contents.{Contents}
-use Rattle.brc_count.specs.law.rule.declared.told.Told.{Told}
+use Rattle.brc_count.specs.law.rule.declared.told.LogItem.{LogItem}
 use Rattle.brc_count.specs.law.rule.declared.view.View.{View}
 use Rattle.brc_count.specs.law.rule.Logs.{lives_of, put_in, entries_in}
 use Rattle.brc_count.specs.law.steps.Joining.{registering, gathering}
@@ -23,7 +23,7 @@ use Rattle.brc_count.specs.table.Seated.{TableSeen, RootSeen}
 use Rattle.brc_count.specs.Frames.{FrameSeen, ledger_seen}
 use Rattle.brc_thread.specs.Counting.{registrations, gatherings}
 use Rattle.brc_thread.specs.Threads.{ledger_of}
-use Rattle.brc_close.specs.Closing.{Closes}
+use Rattle.brc_close.specs.Closing.{IsReportOfEnd}
 use Rattle.brc_run.specs.declared.crew.Done.{Done}
 use Rattle.brc_run.specs.declared.options.RunOptions.{RunOptions}
 use Rattle.brc_run.specs.declared.starting.Begun.{Begun}
@@ -47,15 +47,15 @@ module _ {A : Type 0} where
     pub fits : is_private section ≡ true → (line : ℕ) → end.fault ≢ Some (number_of faults.FrameFull, line)
 
 -- a thread's number, and all that it did, newest first: what the root takes in as it gathers the thread
-abbrev pub Life : Type 0
-Life = ℕ × List Told
+abbrev pub ThreadLife : Type 0
+ThreadLife = ℕ × List LogItem
 
 module _ {A : Type 0} where
   -- The life of a section's thread tells of the section's end, of one that shares nothing. Where neither a want nor a
   -- gate stopped it, its thread had made as many objects as the section means to. It ended by HeapFull only where its
   -- thread had searched once for a free cell, with a note of each mortal cell that it wasn't free; and by LedgerFull
   -- only where its thread had made 2^47 objects since it was registered.
-  pub record Tells (n : ℕ) (section : Section A) (end : SectionEnd A) (life : Life) : Type 0 where
+  pub record LifeTells (n : ℕ) (section : Section A) (end : SectionEnd A) (life : ThreadLife) : Type 0 where
     pub births : is_private section ≡ true → is_own_end end.fault ≡ true
         → (ledger_of n life.1).allocs ≡ (meaning section).made
     pub heap_full : is_private section ≡ true → (line : ℕ) → end.fault ≡ Some (number_of faults.HeapFull, line)
@@ -65,13 +65,13 @@ module _ {A : Type 0} where
 
   -- The first life is that of the first section's thread, the next that of the second's, and so on. Those of threads
   -- that run no section come after them.
-  abbrev pub EachTells : ℕ → List (Section A) → List (SectionEnd A) → List Life → Type 0
+  abbrev pub EachTells : ℕ → List (Section A) → List (SectionEnd A) → List ThreadLife → Type 0
   EachTells n [] [] lives = Unit {0}
   EachTells n (section ∷ sections) (end ∷ ends) (life ∷ lives) =
-      Tells n section end life × EachTells n sections ends lives
+      LifeTells n section end life × EachTells n sections ends lives
   EachTells n sections ends lives = ⊥
 
-  abbrev pub life_of : Done A → Life
+  abbrev pub life_of : Done A → ThreadLife
   life_of done = (done.retired.seat.thread, done.retired.seat.log)
 
 module _ {A : Type 0} where
@@ -81,11 +81,11 @@ module _ {A : Type 0} where
     pub nothing : ledger_seen resting ≡ record { allocs = 0; frees = 0 }
 
   -- A section's thread came back from this heap, and its section, if it ran, ended so; of that its life tells.
-  pub record IsDone (heap : TableSeen) (refuses : ℕ → ℕ → Type 0) (number : ℕ) (section : Section A)
+  pub record CameBack (heap : TableSeen) (refuses : ℕ → ℕ → Type 0) (number : ℕ) (section : Section A)
       (done : Done A) : Type 0 where
     pub heap_is : done.retired.heap ≡ heap
     pub ended : IfSome done.end (EndsAs refuses number section)
-    pub told : IfSome done.end (λ end. Tells heap.cells section end (life_of done))
+    pub told : IfSome done.end (λ end. LifeTells heap.cells section end (life_of done))
 
 module _ {G : Type 0} where
   -- A section was begun: its thread was promised to be of this heap, gate, number and section; or it is done.
@@ -93,21 +93,21 @@ module _ {G : Type 0} where
   IsBegun heap gate refuses number section (Started handle) =
       (handle.promise.heap.now ≡ heap) × (handle.promise.gate.now ≡ gate)
       × (handle.promise.number ≡ number) × (handle.promise.section.now ≡ section)
-  IsBegun heap gate refuses number section (LeftOut done) = IsDone heap refuses number section done
+  IsBegun heap gate refuses number section (LeftOut done) = CameBack heap refuses number section done
 
 -- The root registered so many threads more, and took in the lives of those that it gathered, the last one's first.
-pub record TakesIn (old new : RootSeen) (registered : ℕ) (lives : List Life) : Type 0 where
+pub record RootTakesIn (old new : RootSeen) (registered : ℕ) (lives : List ThreadLife) : Type 0 where
   pub same_table : new.table ≡ old.table
   pub more_registered : registrations new.view ≡ registrations old.view + registered
   pub gathered : new.view.gathered ≡ lives ++ old.view.gathered
 
 -- What a log leaves in a cell in which this was: what its last Birth or Unlock of the cell put home, if it has one.
-abbrev pub left_in : List Told → ℕ → Contents → Contents
+abbrev pub left_in : List LogItem → ℕ → Contents → Contents
 left_in [] c before = before
 left_in (x ∷ log) c before = put_in x c (left_in log c before)
 
 -- whatever the globals held before, the log leaves no entry in them
-abbrev pub LeavesNone : List Told → Type 0
+abbrev pub LeavesNone : List LogItem → Type 0
 LeavesNone log = (before : Contents) → entries_in (left_in log GLOBALS before) ≡ []
 
 -- It registered one thread more, which left no entry in the globals, gathered it, and did nothing else.
@@ -122,9 +122,9 @@ module _ {A : Type 0} where
   -- the globals.
   pub record TakesInAll (n : ℕ) (sections : List (Section A)) (ends : List (SectionEnd A)) (old new : RootSeen)
       : Type 0 where
-    pub lives : List Life
+    pub lives : List ThreadLife
     pub mid : RootSeen
-    pub took : TakesIn old mid (length sections) (reverse lives)
+    pub took : RootTakesIn old mid (length sections) (reverse lives)
     pub clears : ClearsUp mid new
     pub many : length lives ≡ length sections
     pub told : EachTells n sections ends lives
@@ -138,7 +138,7 @@ module _ {A : Type 0} where
   pub record IsReportOf (options : RunOptions) (script : List (Section A)) (ends : List (SectionEnd A))
       (report : Report A) : Type 0 where
     pub root : View
-    pub closes : Closes options.cells options.local_limit root report
+    pub closes : IsReportOfEnd options.cells options.local_limit root report
     pub registered : registrations root ≡ length script + 1
     pub gathered : gatherings root ≡ length script + 1
     pub balance : report.ledger.allocs ≡ report.ledger.frees + report.live

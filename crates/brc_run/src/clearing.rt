@@ -6,7 +6,7 @@ ghost use Rattle.brc_count.specs.Frames.{IsUnlocked};
 ghost use Rattle.brc_thread.specs.Counting.{registrations};
 ghost use Rattle.brc_run.specs.Runs.{ClearsUp, LeavesNone};
 
-use brc_count::biased::Home;
+use brc_count::biased::HasTable;
 use brc_heap::{Heap, Root};
 use brc_thread::Mutator;
 use brc_words::Fault;
@@ -15,7 +15,7 @@ use std::sync::Wait;
 
 /// Clears the globals, in as many rounds as they need. FrameFull and OutOfMemory as a round answers them.
 #[tactic(auto, using(crate::proofs::Cleared::cleared))]
-fn clear_rounds<R: Wait, H: Home<A>, A: Allocator>(
+fn clear_rounds<R: Wait, H: HasTable<A>, A: Allocator>(
     rt: &R,
     mutator: &mut Mutator<H, A>,
 ) -> Result<(), Fault>
@@ -55,7 +55,7 @@ pub(crate) fn clear<R: Wait, A: Allocator + Copy>(
 {
     let mut mutator = root.register(alloc, heap)?;
     let cleared = clear_rounds(rt, &mut mutator);
-    let _ledger = mutator.end(rt, root, heap);
+    let _ledger = mutator.settle_and_join(rt, root, heap);
     match cleared {
         Ok(()) => Ok(()),
         Err(_) => Err(Fault::OutOfMemory),

@@ -3,7 +3,7 @@
 ghost use Rattle.std.specs.Prelude.{◌≡◌, ◌<◌, ◌≤◌, ◌+◌, [], All, IfOk, IfErr, OnOk, length, vec_capacity};
 ghost use Rattle.brc_words.specs.declared.fault.Fault.TheVariants as faults;
 ghost use Rattle.brc_thread.specs.Counting.{registrations};
-ghost use Rattle.brc_run.specs.Runs.{IsDone, IsReady, TakesIn};
+ghost use Rattle.brc_run.specs.Runs.{CameBack, IsReady, RootTakesIn};
 
 use brc_heap::{Heap, Resting, Retired, Root};
 use brc_script::Section;
@@ -32,7 +32,7 @@ fn register_one(
 
     ensures heap { root.new.table ≡ root.old.table }
     ensures ready { IfOk result (IsReady heap.now) }
-    ensures registered { OnOk result (TakesIn root.old root.new 1 []) }
+    ensures registered { OnOk result (RootTakesIn root.old root.new 1 []) }
     ensures refused { IfErr result (λ fault. fault ≡ faults.OutOfMemory) }
 {
     let mutator = root.register(alloc, heap)?;
@@ -57,7 +57,7 @@ pub(crate) fn register_all(
     ensures heap { root.new.table ≡ root.old.table }
     ensures crew { All (IsReady heap.now) crew.new.items }
     ensures all { OnOk result (length crew.new.items ≡ sections) }
-    ensures registered { OnOk result (TakesIn root.old root.new sections []) }
+    ensures registered { OnOk result (RootTakesIn root.old root.new sections []) }
     ensures refused { IfErr result (λ fault. fault ≡ faults.OutOfMemory) }
 {
     for _ in 0..sections {
@@ -80,7 +80,7 @@ pub(crate) fn run_one<R: Wait, G: Gate, A: Allocator + Copy>(
     gate: &G,
 ) -> Done<A>
     requires ready { IsReady heap.now resting }
-    ensures { IsDone heap.now (G.may_refuse gate.now) number section.now result }
+    ensures { CameBack heap.now (G.may_refuse gate.now) number section.now result }
 {
     let mut mutator = resting.wake(heap);
     let end = if board.has_ended(rt, number) {
@@ -98,7 +98,7 @@ pub(crate) fn run_one<R: Wait, G: Gate, A: Allocator + Copy>(
         ))
     };
     Done {
-        retired: mutator.retire(rt),
+        retired: mutator.settle_and_leave(rt),
         end,
     }
 }

@@ -2,7 +2,7 @@
 
 ghost use Rattle.std.specs.Prelude.{◌≡◌, ◌<◌, ◌≤◌, ◌++◌, ◌∷◌, [], All, Some, IfSome, IsSomeAnd, length, map};
 ghost use Rattle.std.specs.Prelude.{reverse, vec_capacity};
-ghost use Rattle.brc_run.specs.Runs.{IsReady, TakesIn, life_of};
+ghost use Rattle.brc_run.specs.Runs.{IsReady, RootTakesIn, life_of};
 
 use crate::crew::Done;
 use brc_heap::{Heap, Resting, Retired, Root};
@@ -30,7 +30,7 @@ fn with_end<A: Allocator>(
 fn gather_one<A: Allocator>(heap: &Heap<A>, root: &mut Root<A>, retired: Retired<A>)
     requires heap { root.old.table ≡ heap.now.table }
     requires same_heap { retired.heap ≡ heap.now }
-    ensures { TakesIn root.old root.new 0 ((retired.seat.thread, retired.seat.log) ∷ []) }
+    ensures { RootTakesIn root.old root.new 0 ((retired.seat.thread, retired.seat.log) ∷ []) }
 {
     root.gather(heap, retired);
 }
@@ -48,7 +48,7 @@ pub(crate) fn gather_all<A: Allocator>(
     requires none { ends.items ≡ [] }
     requires room { length done.items ≤ vec_capacity ends }
 
-    ensures gathered { TakesIn root.old root.new 0 (reverse (map life_of done.items)) }
+    ensures gathered { RootTakesIn root.old root.new 0 (reverse (map life_of done.items)) }
     ensures ends { IfSome result (λ ends. map (λ one. one.end) done.items ≡ map Some ends.items) }
 {
     let mut ends = Some(ends);
@@ -67,7 +67,7 @@ fn dismiss<A: Allocator>(rt: &impl Wait, heap: &Heap<A>, root: &mut Root<A>, res
     ensures heap { root.new.table ≡ root.old.table }
 {
     let mutator = resting.wake(heap);
-    let _ledger = mutator.end(rt, root, heap);
+    let _ledger = mutator.settle_and_join(rt, root, heap);
 }
 
 /// Threads that were registered, and never ran, end.

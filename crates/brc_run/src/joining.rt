@@ -3,7 +3,7 @@
 ghost use Rattle.std.specs.Prelude.{◌≡◌, ◌<◌, ◌≤◌, List, [], All, length, vec_capacity};
 ghost use Rattle.brc_script.specs.declared.script.Section.{Section as section_data};
 ghost use Rattle.brc_count.specs.table.Seated.{TableSeen};
-ghost use Rattle.brc_run.specs.Runs.{IsDone, IsBegun, IsReady, InOrder};
+ghost use Rattle.brc_run.specs.Runs.{CameBack, IsBegun, IsReady, InOrder};
 
 use crate::crew::{Done, run_one};
 use crate::starting::{Begun, begin, end_from};
@@ -63,7 +63,7 @@ fn join_each<R: Threads, G: Gate>(
 
     ensures done { (heap : TableSeen) (gate : G) (sections : List (section_data Global))
         → InOrder (IsBegun heap gate (G.may_refuse gate)) 1 sections begun.entry.items
-        → InOrder (IsDone heap (G.may_refuse gate)) 1 sections result.items }
+        → InOrder (CameBack heap (G.may_refuse gate)) 1 sections result.items }
 {
     let mut done = done;
     for one in begun {
@@ -91,7 +91,7 @@ fn leave_all_out<R: Wait, G: Gate>(
     requires none { done.items ≡ [] }
     requires room { length sections.now ≤ vec_capacity done }
 
-    ensures done { InOrder (IsDone heap.now (G.may_refuse gate.now)) 1 sections.now result.items }
+    ensures done { InOrder (CameBack heap.now (G.may_refuse gate.now)) 1 sections.now result.items }
 {
     end_from(rt, board, 1);
     let mut done = done;
@@ -128,7 +128,7 @@ fn run_in<'s, E: 's, R: Threads + Wait + Sync, G: Gate>(
     requires none { done.items ≡ [] }
     requires room { length sections.now ≤ vec_capacity done }
 
-    ensures done { InOrder (IsDone heap.now (G.may_refuse gate.now)) 1 sections.now result.items }
+    ensures done { InOrder (CameBack heap.now (G.may_refuse gate.now)) 1 sections.now result.items }
 {
     match Vec::with_capacity(alloc, sections.len()) {
         Ok(begun) => {
@@ -159,7 +159,7 @@ pub(crate) fn run_all<R: Threads + Wait + Sync, G: Gate>(
     requires none { done.items ≡ [] }
     requires room { length sections.now ≤ vec_capacity done }
 
-    ensures done { InOrder (IsDone heap.now (G.may_refuse gate.now)) 1 sections.now result.items }
+    ensures done { InOrder (CameBack heap.now (G.may_refuse gate.now)) 1 sections.now result.items }
 {
     thread::scope(
         thread::scope_env(),
@@ -170,7 +170,7 @@ pub(crate) fn run_all<R: Threads + Wait + Sync, G: Gate>(
             requires few { length sections.now < 64 }
             requires none { done.items ≡ [] }
             requires room { length sections.now ≤ vec_capacity done }
-            ensures done { InOrder (IsDone heap.entry.now (G.may_refuse gate.entry.now)) 1 sections.entry.now
+            ensures done { InOrder (CameBack heap.entry.now (G.may_refuse gate.entry.now)) 1 sections.entry.now
                 result.items }
         {
             run_in(

@@ -21,11 +21,14 @@ pub const MOST_TURNS: usize = 1_000_000;
 
 impl RunOptions {
     /// 4,096 cells, 64 turns, and the largest limit.
-    pub const USUAL: RunOptions = RunOptions {
+    pub const DEFAULT: RunOptions = RunOptions {
         cells: 4_096,
         budget: 64,
         local_limit: 4_294_967_294,
     };
+
+    /// The name of before of `DEFAULT`.
+    pub const USUAL: RunOptions = RunOptions::DEFAULT;
 
     /// Whether each number is within its limits.
     pub fn are_within(&self) -> bool
@@ -36,5 +39,15 @@ impl RunOptions {
         let budget = 1 <= self.budget && self.budget <= MOST_TURNS;
         let local_limit = 1 <= self.local_limit && self.local_limit <= MOST_LOCAL;
         cells && budget && local_limit
+    }
+}
+
+impl Default for RunOptions {
+    ghost use Rattle.std.specs.Prelude.{◌≡◌};
+
+    ghost is_default = { λ o. (o.cells ≡ 4096) × (o.budget ≡ 64) × (o.local_limit ≡ 4294967294) };
+
+    fn default() -> RunOptions {
+        RunOptions::DEFAULT
     }
 }

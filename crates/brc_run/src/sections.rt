@@ -3,7 +3,7 @@
 ghost use Rattle.std.specs.Prelude.{◌≡◌, ◌↔◌, ◌⊎◌, ◌<◌, ◌≤◌, ◌+◌, [], Err, IfOk, IfErr, length, vec_capacity};
 ghost use Rattle.brc_words.specs.declared.fault.Fault.TheVariants as faults;
 ghost use Rattle.brc_thread.specs.Counting.{registrations, gatherings};
-ghost use Rattle.brc_close.specs.Closing.{Closes};
+ghost use Rattle.brc_close.specs.Closing.{IsReportOfEnd};
 ghost use Rattle.brc_run.specs.Options.{AreRunOptions};
 ghost use Rattle.brc_run.specs.Runs.{EndsAs, InOrder, TakesInAll, IsReportOf};
 
@@ -103,7 +103,7 @@ fn run_on<R: Threads + Wait + Sync, G: Gate>(
 fn closed(alloc: Global, heap: Heap<Global>, root: Root<Global>) -> Result<Report<Global>, Fault>
     requires heap { root.table ≡ heap.table }
     requires all { registrations root.view ≡ gatherings root.view }
-    ensures report { IfOk result (Closes heap.cells heap.local_limit root.view) }
+    ensures report { IfOk result (IsReportOfEnd heap.cells heap.local_limit root.view) }
     ensures refused { IfErr result (λ fault. fault ≡ faults.OutOfMemory) }
 {
     match close(alloc, heap, root) {

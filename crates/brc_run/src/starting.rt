@@ -3,7 +3,7 @@
 ghost use Rattle.std.specs.Prelude.{ℕ};
 ghost use Rattle.brc_script.specs.declared.script.Section.{Section as section_data};
 ghost use Rattle.brc_count.specs.table.Seated.{TableSeen};
-ghost use Rattle.brc_run.specs.Runs.{IsDone, IsBegun, IsReady};
+ghost use Rattle.brc_run.specs.Runs.{CameBack, IsBegun, IsReady};
 
 use crate::crew::{Done, run_one};
 use brc_heap::{Heap, Resting};
@@ -34,7 +34,7 @@ impl<'s, G> Drop for Given<'s, G> {
 }
 
 impl<'s, G: Gate> Promise<Done<Global>> for Given<'s, G> {
-    ghost kept_by = { λ given done. IsDone given.heap.now (G.may_refuse given.gate.now) given.number
+    ghost kept_by = { λ given done. CameBack given.heap.now (G.may_refuse given.gate.now) given.number
         given.section.now done };
 }
 
@@ -58,7 +58,7 @@ impl<'s, G: Gate> Begun<'s, G> {
     pub(crate) fn joined<R: Threads>(self, rt: &R) -> Done<Global>
         ensures { (heap : TableSeen) (gate : G) (number : ℕ) (section : section_data Global)
             → IsBegun heap gate (G.may_refuse gate) number section self.entry
-            → IsDone heap (G.may_refuse gate) number section result }
+            → CameBack heap (G.may_refuse gate) number section result }
     {
         match self {
             Begun::Started(handle) => handle.join(rt),
@@ -107,7 +107,7 @@ pub(crate) fn begin<'s, E: 's, R: Threads + Wait + Sync, G: Gate>(
         given,
         move || -> Done<Global>
             requires ready { IsReady heap.now resting }
-            ensures done { IsDone heap.entry.now (G.may_refuse gate.entry.now) number section.entry.now result }
+            ensures done { CameBack heap.entry.now (G.may_refuse gate.entry.now) number section.entry.now result }
         {
             run_one(
                 rt, alloc, heap, resting, section, number, budget, board, gate,

@@ -11,7 +11,7 @@ use Rattle.brc_words.specs.declared.fault.Fault.TheVariants as faults
 use Rattle.brc_words.specs.declared.limits.TheConstants.{MOST_INPUT}
 use Rattle.brc_text.specs.Puts.{PutsUpTo}
 use Rattle.brc_script.specs.declared.script.Section.{Section}
-use Rattle.brc_script.specs.Walks.{script_at, Refuses}
+use Rattle.brc_script.specs.Walks.{script_at, RefusesScript}
 use Rattle.brc_run.specs.Words.{SectionEnd}
 use Rattle.brc_report.specs.declared.report.Report.{Report}
 use Rattle.brc_run.specs.declared.options.RunOptions.{RunOptions}
@@ -46,7 +46,7 @@ module _ (options : RunOptions) (refuses : ℕ → ℕ → Type 0) where
 
   pub not_spelled : (input old : Option (List ℕ)) (bytes : List ℕ) (fault : Fault)
       → IfSome input (λ all. bytes ≡ take (MOST_INPUT + 1) all)
-      → Refuses fault (script_at {A = Global} bytes) → Runs options refuses input old old (Err fault)
+      → RefusesScript fault (script_at {A = Global} bytes) → Runs options refuses input old old (Err fault)
   not_spelled input old bytes faults.OutOfMemory is h = Keeps-refl old
   not_spelled input old bytes (faults.BadScript line) is h = (Keeps-refl old, bad input bytes line is h)
   not_spelled input old bytes _ is h = absurd h

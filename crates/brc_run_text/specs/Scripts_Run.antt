@@ -12,7 +12,7 @@ use Rattle.brc_report.specs.declared.report.Report.{Report}
 use Rattle.brc_run.specs.declared.options.RunOptions.{RunOptions}
 use Rattle.brc_run.specs.Options.{AreRunOptions}
 use Rattle.brc_run.specs.Runs.{InOrder, EndsAs, IsReportOf}
-use Rattle.brc_run_text.specs.declared.ended.Ended.{Ended}
+use Rattle.brc_run_text.specs.declared.ended.RunEnded.{RunEnded}
 use Rattle.brc_run_text.specs.Tellings.{run_text, ends_by_fault}
 
 -- The input spells this script, where its bytes are known. Its sections ended so, each with a fault of one of its lines
@@ -26,8 +26,8 @@ pub record IsRunOf (options : RunOptions) (refuses : ℕ → ℕ → Type 0) (in
   pub reported : IsReportOf options script ends report
 
 -- the whole text of a run is written, and it is said whether an object lives and whether a fault ended a section
-pub record IsTold (options : RunOptions) (refuses : ℕ → ℕ → Type 0) (input old new : Option (List ℕ))
-    (ended : Ended) : Type 0 where
+pub record IsRunWritten (options : RunOptions) (refuses : ℕ → ℕ → Type 0) (input old new : Option (List ℕ))
+    (ended : RunEnded) : Type 0 where
   pub script : List (Section Global)
   pub ends : List (SectionEnd Global)
   pub report : Report Global
@@ -49,8 +49,8 @@ pub record IsHalfTold (options : RunOptions) (refuses : ℕ → ℕ → Type 0) 
 -- What a run from bytes to bytes does, by its answer. Nothing is written until all sections have ended and their heap
 -- is closed; a read or a write that fails ends it, the write after a front of the text.
 abbrev pub Runs : RunOptions → (ℕ → ℕ → Type 0) → Option (List ℕ) → Option (List ℕ) → Option (List ℕ)
-    → Result Ended Fault → Type 0
-Runs options refuses input old new (Ok ended) = IsTold options refuses input old new ended
+    → Result RunEnded Fault → Type 0
+Runs options refuses input old new (Ok ended) = IsRunWritten options refuses input old new ended
 Runs options refuses input old new (Err faults.BadOptions) = Keeps old new × ¬ (AreRunOptions options)
 Runs options refuses input old new (Err (faults.BadScript line)) =
     Keeps old new × IfSome input (λ bytes. script_at {A = Global} bytes ≡ Err line)

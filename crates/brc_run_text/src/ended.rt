@@ -2,7 +2,7 @@
 
 /// What is asked of a run for its status.
 #[derive(Clone, Copy, Debug, PartialEq, Eq)]
-pub struct Ended {
+pub struct RunEnded {
     /// Whether a mortal object lives at the end.
     pub lives: bool,
     /// Whether a fault ended a section.

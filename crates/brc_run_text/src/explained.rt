@@ -9,7 +9,7 @@ ghost use Rattle.brc_run.specs.Options.{AreRunOptions};
 ghost use Rattle.brc_run_text.specs.Notes.{nowhere};
 ghost use Rattle.brc_run_text.specs.Scripts_Run.{Runs};
 
-use crate::ended::Ended;
+use crate::ended::RunEnded;
 use crate::notes::Notes;
 use crate::telling::{has_fault, write_run};
 use crate::watch::Watch;
@@ -25,7 +25,7 @@ use std::thread::Threads;
 /// A run, and what is known of why it came so.
 #[derive(Drop)]
 pub struct Explained {
-    pub ended: Result<Ended, Fault>,
+    pub ended: Result<RunEnded, Fault>,
     /// The bytes that were read, where they spell no script.
     pub text: Option<Vec<u8>>,
     /// Where all of the run's text was written.
@@ -100,7 +100,7 @@ pub fn run_script_explained<T: Threads + Wait + Sync, R: Read + Drop, W: Write>(
             notes: None,
         },
     }
-    let ended = Ended {
+    let ended = RunEnded {
         lives: run.report.live > 0,
         faulted: has_fault(run.sections.as_slice()),
     };

@@ -16,7 +16,7 @@ mod whole;
 mod words;
 
 pub use brc_run::{Gate, MOST_TURNS, RunOptions};
-pub use ended::Ended;
+pub use ended::RunEnded;
 pub use explained::{Explained, run_script_explained};
 pub use notes::{Notes, put_notes};
 pub use telling::write_run;

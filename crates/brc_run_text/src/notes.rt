@@ -6,7 +6,7 @@ use crate::phrases::Phrase;
 use crate::places::place_of;
 use crate::reasons::reason_of;
 use crate::watch::Watch;
-use crate::words::{NOTHING, Word, name, put_words, quoted};
+use crate::words::{NOTHING, NoteWord, name, put_words, quoted};
 use brc_report::Remain;
 use brc_run::{RunReport, SectionEnd};
 use brc_script::{Instruction, Script};
@@ -47,9 +47,9 @@ fn put_fault<W: Write>(
     );
     let (in_turn, turn, of_repeat) = if place.repeats {
         (
-            Word::Said(Phrase::InTurn),
-            Word::Count(noted.turn),
-            Word::Said(Phrase::OfItsRepeat),
+            NoteWord::Said(Phrase::InTurn),
+            NoteWord::Count(noted.turn),
+            NoteWord::Said(Phrase::OfItsRepeat),
         )
     } else {
         (NOTHING, NOTHING, NOTHING)
@@ -57,11 +57,11 @@ fn put_fault<W: Write>(
     put_words(
         errors,
         &[
-            Word::Said(Phrase::Why),
+            NoteWord::Said(Phrase::Why),
             name(&place.section.name),
-            Word::Said(Phrase::Line),
-            Word::Count(line),
-            Word::Said(Phrase::Colon),
+            NoteWord::Said(Phrase::Line),
+            NoteWord::Count(line),
+            NoteWord::Said(Phrase::Colon),
             reason[0],
             reason[1],
             reason[2],
@@ -73,7 +73,7 @@ fn put_fault<W: Write>(
             in_turn,
             turn,
             of_repeat,
-            Word::Said(Phrase::Ends),
+            NoteWord::Said(Phrase::Ends),
         ],
     )
 }
@@ -87,21 +87,21 @@ fn put_remain<W: Write>(errors: &mut W, notes: &Notes, remain: &Remain) -> Resul
         return Ok(());
     };
     let (comma, text) = match place.line.instruction() {
-        Instruction::Text { text, .. } => (Word::Said(Phrase::Text), quoted(text)),
+        Instruction::Text { text, .. } => (NoteWord::Said(Phrase::Text), quoted(text)),
         _ => (NOTHING, NOTHING),
     };
     put_words(
         errors,
         &[
-            Word::Said(Phrase::WhyCell),
-            Word::Count(remain.cell),
-            Word::Said(Phrase::WasMadeBy),
+            NoteWord::Said(Phrase::WhyCell),
+            NoteWord::Count(remain.cell),
+            NoteWord::Said(Phrase::WasMadeBy),
             name(&place.section.name),
-            Word::Said(Phrase::Line),
-            Word::Count(line),
+            NoteWord::Said(Phrase::Line),
+            NoteWord::Count(line),
             comma,
             text,
-            Word::Said(Phrase::Ends),
+            NoteWord::Said(Phrase::Ends),
         ],
     )
 }

@@ -2,8 +2,8 @@
 
 use crate::phrases::Phrase;
 use crate::places::place_of;
-use crate::watch::{Noted, Operand};
-use crate::words::{NOTHING, Word, quoted};
+use crate::watch::{HeldOperand, Noted};
+use crate::words::{NOTHING, NoteWord, quoted};
 use brc_run::{first_operand, second_operand};
 use brc_script::{Instruction, Register, Section};
 use brc_words::{Fault, GLOBALS, Key, Kind, MOST_CELLS};
@@ -13,7 +13,7 @@ use std::alloc::Allocator;
 const MOST_WORDS: usize = 8;
 
 /// The words of a reason, in order.
-pub(crate) type Reason = [Word; MOST_WORDS];
+pub(crate) type Reason = [NoteWord; MOST_WORDS];
 
 /// The cell of the immortal integer 0; those of the others from -5 to 256 stand around it.
 const CELL_OF_ZERO: i64 = 8;
@@ -22,7 +22,7 @@ const CELL_OF_ZERO: i64 = 8;
 const LEAST_INT: u32 = 3;
 
 /// These words, at most as many as a reason has.
-fn worded(words: &[Word]) -> Reason {
+fn worded(words: &[NoteWord]) -> Reason {
     let mut all = [NOTHING; MOST_WORDS];
     for (at, word) in words.iter().enumerate() {
         if at < MOST_WORDS {
@@ -34,7 +34,7 @@ fn worded(words: &[Word]) -> Reason {
 
 /// What is known of an object by the line that made it.
 #[derive(Clone, Copy)]
-enum Known {
+enum KnownOfObject {
     /// An integer of which the number is known.
     Integer(i64),
     /// An object of this kind, made by this line.
@@ -43,30 +43,33 @@ enum Known {
 }
 
 /// What the instruction of this line makes.
-fn made_by<A: Allocator>(instruction: &Instruction<A>, line: u32) -> Known {
+fn made_by<A: Allocator>(instruction: &Instruction<A>, line: u32) -> KnownOfObject {
     match instruction {
-        Instruction::Int { number, .. } => Known::Integer(*number),
-        Instruction::Text { .. } => Known::Made(Kind::Text, line),
-        Instruction::List { .. } => Known::Made(Kind::List, line),
-        Instruction::Dict { .. } => Known::Made(Kind::Dict, line),
-        Instruction::Mailbox { .. } => Known::Made(Kind::Mailbox, line),
-        Instruction::Len { .. } | Instruction::Add { .. } => Known::Made(Kind::Int, line),
-        _ => Known::Nothing,
+        Instruction::Int { number, .. } => KnownOfObject::Integer(*number),
+        Instruction::Text { .. } => KnownOfObject::Made(Kind::Text, line),
+        Instruction::List { .. } => KnownOfObject::Made(Kind::List, line),
+        Instruction::Dict { .. } => KnownOfObject::Made(Kind::Dict, line),
+        Instruction::Mailbox { .. } => KnownOfObject::Made(Kind::Mailbox, line),
+        Instruction::Len { .. } | Instruction::Add { .. } => KnownOfObject::Made(Kind::Int, line),
+        _ => KnownOfObject::Nothing,
     }
 }
 
-fn known_of<A: Allocator>(sections: &[Section<A>], operand: Operand) -> Known {
+fn known_of<A: Allocator>(sections: &[Section<A>], operand: HeldOperand) -> KnownOfObject {
     if LEAST_INT <= operand.cell && operand.cell < GLOBALS {
-        return Known::Integer(i64::from(operand.cell) - CELL_OF_ZERO);
+        return KnownOfObject::Integer(i64::from(operand.cell) - CELL_OF_ZERO);
     }
     match place_of(sections, operand.line) {
         Some(place) => made_by(place.line.instruction(), operand.line),
-        None => Known::Nothing,
+        None => KnownOfObject::Nothing,
     }
 }
 
-fn is_integer(known: Known) -> bool {
-    matches!(known, Known::Integer(_) | Known::Made(Kind::Int, _))
+fn is_integer(known: KnownOfObject) -> bool {
+    matches!(
+        known,
+        KnownOfObject::Integer(_) | KnownOfObject::Made(Kind::Int, _)
+    )
 }
 
 /// What a register holds, but for the line that made it.
@@ -82,12 +85,20 @@ fn holds_made(kind: Kind) -> Phrase {
 }
 
 /// The three words of what a register holds.
-fn holds(register: Register, known: Known) -> (Word, Word, Word) {
-    let name = Word::Register(register);
+fn holds(register: Register, known: KnownOfObject) -> (NoteWord, NoteWord, NoteWord) {
+    let name = NoteWord::Register(register);
     match known {
-        Known::Integer(number) => (name, Word::Said(Phrase::HoldsInteger), Word::Number(number)),
-        Known::Made(kind, line) => (name, Word::Said(holds_made(kind)), Word::Count(line)),
-        Known::Nothing => (name, Word::Said(Phrase::HoldsObject), NOTHING),
+        KnownOfObject::Integer(number) => (
+            name,
+            NoteWord::Said(Phrase::HoldsInteger),
+            NoteWord::Number(number),
+        ),
+        KnownOfObject::Made(kind, line) => (
+            name,
+            NoteWord::Said(holds_made(kind)),
+            NoteWord::Count(line),
+        ),
+        KnownOfObject::Nothing => (name, NoteWord::Said(Phrase::HoldsObject), NOTHING),
     }
 }
 
@@ -101,11 +112,11 @@ struct Refused<'s, A: Allocator> {
 
 impl<'s, A: Allocator> Refused<'s, A> {
     /// The first register that it read, what is known of the object there, and these words of it.
-    fn first(&self, said: Phrase, word: Word) -> Reason {
+    fn first(&self, said: Phrase, word: NoteWord) -> Reason {
         match (first_operand(self.instruction), self.noted.first) {
             (Some(register), Some(operand)) => {
                 let (name, holds, object) = holds(register, known_of(self.sections, operand));
-                worded(&[name, holds, object, Word::Said(said), word])
+                worded(&[name, holds, object, NoteWord::Said(said), word])
             }
             _ => worded(&[]),
         }
@@ -116,7 +127,7 @@ impl<'s, A: Allocator> Refused<'s, A> {
         match (second_operand(self.instruction), self.noted.second) {
             (Some(register), Some(operand)) => {
                 let (name, holds, object) = holds(register, known_of(self.sections, operand));
-                worded(&[name, holds, object, Word::Said(said)])
+                worded(&[name, holds, object, NoteWord::Said(said)])
             }
             _ => worded(&[]),
         }
@@ -134,13 +145,16 @@ impl<'s, A: Allocator> Refused<'s, A> {
         };
         match (first, second) {
             (Some(first), Some(second)) => worded(&[
-                Word::Register(first),
-                Word::Said(Phrase::And),
-                Word::Register(second),
-                Word::Said(Phrase::AreEmpty),
+                NoteWord::Register(first),
+                NoteWord::Said(Phrase::And),
+                NoteWord::Register(second),
+                NoteWord::Said(Phrase::AreEmpty),
             ]),
             (Some(register), None) | (None, Some(register)) => {
-                worded(&[Word::Register(register), Word::Said(Phrase::IsEmpty)])
+                worded(&[
+                    NoteWord::Register(register),
+                    NoteWord::Said(Phrase::IsEmpty),
+                ])
             }
             (None, None) => self.no_such_entry(),
         }
@@ -149,7 +163,7 @@ impl<'s, A: Allocator> Refused<'s, A> {
     fn no_such_entry(&self) -> Reason {
         match self.instruction {
             Instruction::Get { index, .. } | Instruction::Set { index, .. } => {
-                self.first(Phrase::NoEntry, Word::Count(*index))
+                self.first(Phrase::NoEntry, NoteWord::Count(*index))
             }
             Instruction::Receive { .. } => self.first(Phrase::NoLetters, NOTHING),
             _ => self.first(Phrase::NoEntries, NOTHING),
@@ -178,7 +192,7 @@ impl<'s, A: Allocator> Refused<'s, A> {
     fn no_summand(&self) -> Reason {
         let first = match self.noted.first {
             Some(operand) => known_of(self.sections, operand),
-            None => Known::Nothing,
+            None => KnownOfObject::Nothing,
         };
         if is_integer(first) {
             self.second(Phrase::IntegerNeeded)
@@ -194,12 +208,12 @@ impl<'s, A: Allocator> Refused<'s, A> {
                 self.first(Phrase::NothingUnder, word_of_key(key))
             }
             Instruction::Fetch { name, .. } => worded(&[
-                Word::Said(Phrase::NothingUnderName),
+                NoteWord::Said(Phrase::NothingUnderName),
                 quoted(name),
-                Word::Said(Phrase::NobodyShares),
+                NoteWord::Said(Phrase::NobodyShares),
             ]),
             Instruction::Unshare { name, .. } => {
-                worded(&[Word::Said(Phrase::NothingUnderName), quoted(name)])
+                worded(&[NoteWord::Said(Phrase::NothingUnderName), quoted(name)])
             }
             _ => worded(&[]),
         }
@@ -207,7 +221,7 @@ impl<'s, A: Allocator> Refused<'s, A> {
 
     fn full(&self) -> Reason {
         match self.instruction {
-            Instruction::Share { .. } => { worded(&[Word::Said(Phrase::AllGlobals)]) }
+            Instruction::Share { .. } => { worded(&[NoteWord::Said(Phrase::AllGlobals)]) }
             _ => self.first(Phrase::AllEntries, NOTHING),
         }
     }
@@ -221,9 +235,9 @@ impl<'s, A: Allocator> Refused<'s, A> {
     }
 }
 
-fn word_of_key<A: Allocator>(key: &Key<A>) -> Word {
+fn word_of_key<A: Allocator>(key: &Key<A>) -> NoteWord {
     match key {
-        Key::Int(number) => Word::Number(*number),
+        Key::Int(number) => NoteWord::Number(*number),
         Key::Text(text) => quoted(text),
     }
 }
@@ -236,9 +250,9 @@ fn heap_full(cells: u32) -> Reason {
         Phrase::MostCellsTaken
     };
     worded(&[
-        Word::Said(Phrase::All),
-        Word::Count(cells),
-        Word::Said(advice),
+        NoteWord::Said(Phrase::All),
+        NoteWord::Count(cells),
+        NoteWord::Said(advice),
     ])
 }
 
@@ -269,11 +283,11 @@ pub(crate) fn reason_of<A: Allocator>(
     } else if fault == Fault::Overflow.number() {
         refused.overflow()
     } else if fault == Fault::OutOfMemory.number() {
-        worded(&[Word::Said(Phrase::NoMemory)])
+        worded(&[NoteWord::Said(Phrase::NoMemory)])
     } else if fault == Fault::FrameFull.number() {
-        worded(&[Word::Said(Phrase::AllPlaces)])
+        worded(&[NoteWord::Said(Phrase::AllPlaces)])
     } else if fault == Fault::LedgerFull.number() {
-        worded(&[Word::Said(Phrase::AllBirths)])
+        worded(&[NoteWord::Said(Phrase::AllBirths)])
     } else {
         worded(&[])
     }

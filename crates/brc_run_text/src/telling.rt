@@ -2,7 +2,7 @@
 
 ghost use Rattle.std.specs.Prelude.{◌≡◌};
 ghost use Rattle.std.specs.List.{list_any};
-ghost use Rattle.brc_text.specs.Puts.{Puts};
+ghost use Rattle.brc_text.specs.Puts.{PutsText};
 ghost use Rattle.brc_run_text.specs.Tellings.{sections_text, run_text, ends_by_fault};
 
 use brc_output::write_section;
@@ -19,7 +19,7 @@ fn put_sections<A: Allocator, W: Write>(
     sections: &[Section<A>],
     ends: &[SectionEnd<A>],
 ) -> Result<(), Fault>
-    ensures { Puts (W.contents writer.old) (W.contents writer.new) result (sections_text sections.now ends.now) }
+    ensures { PutsText (W.contents writer.old) (W.contents writer.new) result (sections_text sections.now ends.now) }
 {
     for (at, section) in sections.iter().enumerate() {
         let Some(end) = ends.get(at) else {
@@ -39,7 +39,7 @@ pub fn write_run<A: Allocator, W: Write>(
     run: &RunReport<A>,
     writer: &mut W,
 ) -> Result<(), Fault>
-    ensures { Puts (W.contents writer.old) (W.contents writer.new) result
+    ensures { PutsText (W.contents writer.old) (W.contents writer.new) result
         (run_text script.now run.now.sections.items run.now.report) }
 {
     put_sections(writer, script.sections(), run.sections.as_slice())?;

@@ -13,7 +13,7 @@ const NO_CELL: u32 = u32::MAX;
 
 /// The object that an operand's register held.
 #[derive(Clone, Copy, Debug, PartialEq, Eq)]
-pub(crate) struct Operand {
+pub(crate) struct HeldOperand {
     pub(crate) cell: u32,
     /// The line that made it, counted from 1; 0 of an immortal.
     pub(crate) line: u32,
@@ -24,37 +24,37 @@ pub(crate) struct Operand {
 pub(crate) struct Noted {
     /// How often its line was reached.
     pub(crate) turn: u32,
-    pub(crate) first: Option<Operand>,
-    pub(crate) second: Option<Operand>,
+    pub(crate) first: Option<HeldOperand>,
+    pub(crate) second: Option<HeldOperand>,
 }
 
 /// Room for an operand.
 #[derive(Drop)]
-struct Kept {
+struct KeptOperand {
     cell: AtomicU32,
     line: AtomicU32,
 }
 
-impl Kept {
-    fn nothing() -> Kept {
-        Kept {
+impl KeptOperand {
+    fn nothing() -> KeptOperand {
+        KeptOperand {
             cell: AtomicU32::new(NO_CELL),
             line: AtomicU32::new(0),
         }
     }
 
-    fn keep(&self, operand: Operand) {
+    fn keep(&self, operand: HeldOperand) {
         self.cell.store(operand.cell, Ordering::SeqCst);
         self.line.store(operand.line, Ordering::SeqCst);
     }
 
-    fn operand(&self) -> Option<Operand> {
+    fn operand(&self) -> Option<HeldOperand> {
         let cell = self.cell.load(Ordering::SeqCst);
         let line = self.line.load(Ordering::SeqCst);
         if cell == NO_CELL {
             return None;
         }
-        Some(Operand { cell, line })
+        Some(HeldOperand { cell, line })
     }
 }
 
@@ -67,8 +67,8 @@ struct Course {
     highest: AtomicU32,
     /// How often the last line was reached.
     turn: AtomicU32,
-    first: Kept,
-    second: Kept,
+    first: KeptOperand,
+    second: KeptOperand,
 }
 
 impl Course {
@@ -77,8 +77,8 @@ impl Course {
             last: AtomicU32::new(0),
             highest: AtomicU32::new(0),
             turn: AtomicU32::new(0),
-            first: Kept::nothing(),
-            second: Kept::nothing(),
+            first: KeptOperand::nothing(),
+            second: KeptOperand::nothing(),
         }
     }
 
@@ -148,9 +148,9 @@ impl Watch {
     }
 
     /// The object of the cell, as it is while a register holds it.
-    fn operand(&self, cell: Option<u32>) -> Option<Operand> {
+    fn operand(&self, cell: Option<u32>) -> Option<HeldOperand> {
         match cell {
-            Some(cell) => Some(Operand {
+            Some(cell) => Some(HeldOperand {
                 cell,
                 line: self.maker(cell),
             }),

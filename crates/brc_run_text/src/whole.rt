@@ -5,7 +5,7 @@ ghost use Rattle.brc_words.specs.declared.fault.Fault.TheVariants as faults;
 ghost use Rattle.brc_run.specs.Options.{AreRunOptions};
 ghost use Rattle.brc_run_text.specs.Scripts_Run.{Runs};
 
-use crate::ended::Ended;
+use crate::ended::RunEnded;
 use crate::telling::{has_fault, write_run};
 use brc_input::read_input;
 use brc_run::{Gate, RunOptions, run_sections};
@@ -27,7 +27,7 @@ pub fn run_script<T: Threads + Wait + Sync, R: Read + Drop, W: Write, G: Gate>(
     mut reader: R,
     writer: &mut W,
     gate: &G,
-) -> Result<Ended, Fault>
+) -> Result<RunEnded, Fault>
     ensures runs { Runs options (G.may_refuse gate.now) (R.remaining reader) (W.contents writer.old)
         (W.contents writer.new) result }
     ensures options { (result ≡ Err faults.BadOptions) ↔ ¬ (AreRunOptions options) }
@@ -39,7 +39,7 @@ pub fn run_script<T: Threads + Wait + Sync, R: Read + Drop, W: Write, G: Gate>(
     let script = parse(alloc, input.as_slice())?;
     let run = run_sections(rt, alloc, &script, options, gate)?;
     write_run(&script, &run, writer)?;
-    Ok(Ended {
+    Ok(RunEnded {
         lives: run.report.live > 0,
         faulted: has_fault(run.sections.as_slice()),
     })

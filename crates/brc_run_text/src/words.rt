@@ -14,7 +14,7 @@ use std::io::Write;
 
 /// A word of a note: plain data, so that a note is put together before any of it is written.
 #[derive(Clone, Copy)]
-pub(crate) enum Word {
+pub(crate) enum NoteWord {
     Said(Phrase),
     /// How many, or the number of a line or of a cell.
     Count(u32),
@@ -29,16 +29,16 @@ pub(crate) enum Word {
 }
 
 /// No word.
-pub(crate) const NOTHING: Word = Word::Said(Phrase::Nothing);
+pub(crate) const NOTHING: NoteWord = NoteWord::Said(Phrase::Nothing);
 
 /// A text of the script, by its first bytes.
-pub(crate) fn quoted<A: Allocator>(text: &Text<A>) -> Word {
-    Word::Quoted(Excerpt::of(text.as_str().as_bytes()))
+pub(crate) fn quoted<A: Allocator>(text: &Text<A>) -> NoteWord {
+    NoteWord::Quoted(Excerpt::of(text.as_str().as_bytes()))
 }
 
 /// A section's name.
-pub(crate) fn name<A: Allocator>(text: &Text<A>) -> Word {
-    Word::Name(Excerpt::of(text.as_str().as_bytes()))
+pub(crate) fn name<A: Allocator>(text: &Text<A>) -> NoteWord {
+    NoteWord::Name(Excerpt::of(text.as_str().as_bytes()))
 }
 
 fn put_text<W: Write>(errors: &mut W, text: &[u8]) -> Result<(), Fault>
@@ -63,21 +63,21 @@ fn put_between_quotes<W: Write>(errors: &mut W, excerpt: &Excerpt) -> Result<(),
 }
 
 /// Writes a word.
-fn put_word<W: Write>(errors: &mut W, word: &Word) -> Result<(), Fault>
+fn put_word<W: Write>(errors: &mut W, word: &NoteWord) -> Result<(), Fault>
     ensures { PutsSome (W.contents errors.old) (W.contents errors.new) result }
 {
     match word {
-        Word::Said(phrase) => put_text(errors, phrase.text().as_bytes()),
-        Word::Count(count) => put_text(errors, Buffer::new().format(*count).as_bytes()),
-        Word::Number(number) => put_text(errors, Buffer::new().format(*number).as_bytes()),
-        Word::Register(register) => put_register(errors, *register),
-        Word::Name(excerpt) => put_text(errors, excerpt.bytes()),
-        Word::Quoted(excerpt) => put_between_quotes(errors, excerpt),
+        NoteWord::Said(phrase) => put_text(errors, phrase.text().as_bytes()),
+        NoteWord::Count(count) => put_text(errors, Buffer::new().format(*count).as_bytes()),
+        NoteWord::Number(number) => put_text(errors, Buffer::new().format(*number).as_bytes()),
+        NoteWord::Register(register) => put_register(errors, *register),
+        NoteWord::Name(excerpt) => put_text(errors, excerpt.bytes()),
+        NoteWord::Quoted(excerpt) => put_between_quotes(errors, excerpt),
     }
 }
 
 /// Writes words in order, with nothing between them. The first error ends it.
-pub(crate) fn put_words<W: Write>(errors: &mut W, words: &[Word]) -> Result<(), Fault>
+pub(crate) fn put_words<W: Write>(errors: &mut W, words: &[NoteWord]) -> Result<(), Fault>
     ensures { PutsSome (W.contents errors.old) (W.contents errors.new) result }
 {
     for word in words {

@@ -9,7 +9,7 @@ use Rattle.brc_text.proofs.TokenLaws.{some_bind}
 use Rattle.brc_script.specs.declared.first_word.FirstWord.{FirstWord}
 use Rattle.brc_script.specs.declared.first_word.FirstWord.TheVariants as words
 use Rattle.brc_script.specs.declared.instruction.Instruction.{Instruction}
-use Rattle.brc_script.specs.declared.instruction.Instruction.TheVariants as does
+use Rattle.brc_script.specs.declared.instruction.Instruction.TheVariants as instructions
 use Rattle.brc_script.specs.Instructions.{is_register, is_index, is_integer, is_text, is_name, is_key, registers_of}
 use Rattle.brc_script.specs.Instructions.{operands_fit}
 use Rattle.brc_script.specs.Operands.{register_at, within, integer_at, if_it_is, ahead, key_at, two_at, three_at}
@@ -188,10 +188,11 @@ module _ {A : Type 0} where
   unfolding put_at
   put_takes bytes i e =
       let a = some_bind (ahead register_at bytes)
-      (λ dict. ahead key_at dict.1 >>= λ k. register_at k.1 >>= λ value. Some (does.Put dict.0 k.0 value)) i e in
+      (λ dict. ahead key_at dict.1 >>= λ k. register_at k.1 >>= λ value. Some (instructions.Put dict.0 k.0 value)) i e
+      in
       let b = some_bind (ahead (key_at {A = A}) a.0.1)
-      (λ k. register_at k.1 >>= λ value. Some (does.Put a.0.0 k.0 value)) i a.2 in
-      let d = some_bind (register_at b.0.1) (λ value. Some (does.Put a.0.0 b.0.0 value)) i b.2 in
+      (λ k. register_at k.1 >>= λ value. Some (instructions.Put a.0.0 k.0 value)) i a.2 in
+      let d = some_bind (register_at b.0.1) (λ value. Some (instructions.Put a.0.0 b.0.0 value)) i b.2 in
       let dict = register_ahead bytes a.0 a.1 in
       let k = ahead_takes key is_key key_at key_takes a.0.1 b.0 b.1 in
       let value = register_takes b.0.1 d.0 d.1 in
@@ -209,8 +210,8 @@ module _ {A : Type 0} where
   unfolding share_at
   share_takes bytes i e =
       let a = some_bind (ahead (if_it_is is_name) bytes)
-      (λ name. register_at name.1 >>= λ value. Some (does.Share name.0 value)) i e in
-      let b = some_bind (register_at a.0.1) (λ value. Some (does.Share a.0.0 value)) i a.2 in
+      (λ name. register_at name.1 >>= λ value. Some (instructions.Share name.0 value)) i e in
+      let b = some_bind (register_at a.0.1) (λ value. Some (instructions.Share a.0.0 value)) i a.2 in
       let name = ahead_takes itself is_name (if_it_is is_name) (if_takes is_name) bytes a.0 a.1 in
       let value = register_takes a.0.1 b.0 b.1 in
       subst (AreInstruction words.Share bytes) (same_some b.2) (record {
@@ -225,47 +226,53 @@ module _ {A : Type 0} where
   pub instruction_takes : (word : FirstWord) (bytes : List ℕ) (i : Instruction A) → instruction_at word bytes ≡ Some i
       → AreInstruction word bytes i
   unfolding instruction_at text_at find_at delete_at fetch_at unshare_at
-  instruction_takes words.Int bytes i e = made words.Int bytes (with_integer_at bytes) (λ o. does.Int o.0 o.1) i
+  instruction_takes words.Int bytes i e = made words.Int bytes (with_integer_at bytes) (λ o. instructions.Int o.0 o.1) i
       (λ o h. record { named = refl; rest = with_integer_takes bytes o h }) (first_alone _ i e)
-  instruction_takes words.List bytes i e = made words.List bytes (register_at bytes) (λ to. does.List to) i
+  instruction_takes words.List bytes i e = made words.List bytes (register_at bytes) (λ to. instructions.List to) i
       (λ to h. record { named = refl; rest = one_takes bytes to h }) (first_alone _ i e)
-  instruction_takes words.Dict bytes i e = made words.Dict bytes (register_at bytes) (λ to. does.Dict to) i
+  instruction_takes words.Dict bytes i e = made words.Dict bytes (register_at bytes) (λ to. instructions.Dict to) i
       (λ to h. record { named = refl; rest = one_takes bytes to h }) (first_alone _ i e)
-  instruction_takes words.Mailbox bytes i e = made words.Mailbox bytes (register_at bytes) (λ to. does.Mailbox to) i
+  instruction_takes words.Mailbox bytes i e = made words.Mailbox bytes (register_at bytes)
+      (λ to. instructions.Mailbox to) i
       (λ to h. record { named = refl; rest = one_takes bytes to h }) (first_alone _ i e)
-  instruction_takes words.Copy bytes i e = made words.Copy bytes (two_at bytes) (λ o. does.Copy o.0 o.1) i
+  instruction_takes words.Copy bytes i e = made words.Copy bytes (two_at bytes) (λ o. instructions.Copy o.0 o.1) i
       (λ o h. record { named = refl; rest = two_takes bytes o h }) (first_alone _ i e)
-  instruction_takes words.Drop bytes i e = made words.Drop bytes (register_at bytes) (λ from. does.Drop from) i
+  instruction_takes words.Drop bytes i e = made words.Drop bytes (register_at bytes) (λ from. instructions.Drop from) i
       (λ from h. record { named = refl; rest = one_takes bytes from h }) (first_alone _ i e)
-  instruction_takes words.Push bytes i e = made words.Push bytes (two_at bytes) (λ o. does.Push o.0 o.1) i
+  instruction_takes words.Push bytes i e = made words.Push bytes (two_at bytes) (λ o. instructions.Push o.0 o.1) i
       (λ o h. record { named = refl; rest = two_takes bytes o h }) (first_alone _ i e)
-  instruction_takes words.Pop bytes i e = made words.Pop bytes (two_at bytes) (λ o. does.Pop o.0 o.1) i
+  instruction_takes words.Pop bytes i e = made words.Pop bytes (two_at bytes) (λ o. instructions.Pop o.0 o.1) i
       (λ o h. record { named = refl; rest = two_takes bytes o h }) (first_alone _ i e)
-  instruction_takes words.Get bytes i e = made words.Get bytes (two_with_index_at bytes) (λ o. does.Get o.0 o.1 o.2) i
+  instruction_takes words.Get bytes i e = made words.Get bytes (two_with_index_at bytes)
+      (λ o. instructions.Get o.0 o.1 o.2) i
       (λ o h. record { named = refl; rest = two_with_index_takes bytes o h }) (first_alone _ i e)
-  instruction_takes words.Set bytes i e = made words.Set bytes (index_between_at bytes) (λ o. does.Set o.0 o.1 o.2) i
+  instruction_takes words.Set bytes i e = made words.Set bytes (index_between_at bytes)
+      (λ o. instructions.Set o.0 o.1 o.2) i
       (λ o h. record { named = refl; rest = index_between_takes bytes o h }) (first_alone _ i e)
-  instruction_takes words.Len bytes i e = made words.Len bytes (two_at bytes) (λ o. does.Len o.0 o.1) i
+  instruction_takes words.Len bytes i e = made words.Len bytes (two_at bytes) (λ o. instructions.Len o.0 o.1) i
       (λ o h. record { named = refl; rest = two_takes bytes o h }) (first_alone _ i e)
-  instruction_takes words.Send bytes i e = made words.Send bytes (two_at bytes) (λ o. does.Send o.0 o.1) i
+  instruction_takes words.Send bytes i e = made words.Send bytes (two_at bytes) (λ o. instructions.Send o.0 o.1) i
       (λ o h. record { named = refl; rest = two_takes bytes o h }) (first_alone _ i e)
-  instruction_takes words.Recv bytes i e = made words.Recv bytes (two_at bytes) (λ o. does.Receive o.0 o.1) i
+  instruction_takes words.Recv bytes i e = made words.Recv bytes (two_at bytes) (λ o. instructions.Receive o.0 o.1) i
       (λ o h. record { named = refl; rest = two_takes bytes o h }) (first_alone _ i e)
-  instruction_takes words.Add bytes i e = made words.Add bytes (three_at bytes) (λ o. does.Add o.0 o.1 o.2) i
+  instruction_takes words.Add bytes i e = made words.Add bytes (three_at bytes) (λ o. instructions.Add o.0 o.1 o.2) i
       (λ o h. record { named = refl; rest = three_takes bytes o h }) (first_alone _ i e)
-  instruction_takes words.Print bytes i e = made words.Print bytes (register_at bytes) (λ from. does.Print from) i
+  instruction_takes words.Print bytes i e = made words.Print bytes (register_at bytes)
+      (λ from. instructions.Print from) i
       (λ from h. record { named = refl; rest = one_takes bytes from h }) (first_alone _ i e)
-  instruction_takes words.Text bytes i e = with_bytes is_text (λ to text. does.Text to text) words.Text bytes i
+  instruction_takes words.Text bytes i e = with_bytes is_text (λ to text. instructions.Text to text) words.Text bytes i
       (λ to text h. record { named = refl; rest = h }) e
   instruction_takes words.Put bytes i e = put_takes bytes i e
-  instruction_takes words.Find bytes i e = with_key (λ to dict k. does.Find to dict k) words.Find bytes i
+  instruction_takes words.Find bytes i e = with_key (λ to dict k. instructions.Find to dict k) words.Find bytes i
       (λ to dict k h. record { named = refl; rest = h }) e
-  instruction_takes words.Del bytes i e = with_key (λ to dict k. does.Delete to dict k) words.Del bytes i
+  instruction_takes words.Del bytes i e = with_key (λ to dict k. instructions.Delete to dict k) words.Del bytes i
       (λ to dict k h. record { named = refl; rest = h }) e
   instruction_takes words.Share bytes i e = share_takes bytes i e
-  instruction_takes words.Fetch bytes i e = with_bytes is_name (λ to name. does.Fetch to name) words.Fetch bytes i
+  instruction_takes words.Fetch bytes i e = with_bytes is_name
+      (λ to name. instructions.Fetch to name) words.Fetch bytes i
       (λ to name h. record { named = refl; rest = h }) e
-  instruction_takes words.Unshare bytes i e = with_bytes is_name (λ to name. does.Unshare to name) words.Unshare bytes i
+  instruction_takes words.Unshare bytes i e = with_bytes is_name
+      (λ to name. instructions.Unshare to name) words.Unshare bytes i
       (λ to name h. record { named = refl; rest = h }) e
   instruction_takes words.Section bytes i e = absurd cc
   instruction_takes words.Repeat bytes i e = absurd cc

@@ -17,9 +17,9 @@ use Rattle.brc_script.specs.declared.limits.TheConstants.{REGISTERS, MOST_TIMES,
 use Rattle.brc_script.specs.declared.first_word.FirstWord.{FirstWord}
 use Rattle.brc_script.specs.declared.first_word.FirstWord.TheVariants as words
 use Rattle.brc_script.specs.declared.instruction.Instruction.{Instruction}
-use Rattle.brc_script.specs.declared.instruction.Instruction.TheVariants as does
-use Rattle.brc_script.specs.declared.row.Row.{Row}
-use Rattle.brc_script.specs.declared.row.Row.TheVariants as rows
+use Rattle.brc_script.specs.declared.instruction.Instruction.TheVariants as instructions
+use Rattle.brc_script.specs.declared.row.ScriptRow.{ScriptRow}
+use Rattle.brc_script.specs.declared.row.ScriptRow.TheVariants as rows
 use Rattle.brc_script.specs.Instructions.{NumberedLine, is_visible, is_register, is_index, is_integer, is_text, is_name}
 use Rattle.brc_script.specs.Instructions.{is_key, registers_of, operands_fit, HasLine}
 use Rattle.brc_script.specs.FirstWords.{first_word, first_word_at}
@@ -199,52 +199,52 @@ module _ {A : Type 0} where
   instruction_again : (i : Instruction A) → list_all is_register (registers_of i) ≡ true → operands_fit i ≡ true
       → instruction_at (word_of i) (operands i) ≡ Some i
   unfolding instruction_at text_at put_at find_at delete_at share_at fetch_at unshare_at
-  instruction_again (does.Int to number) h fit = rw (with_integer_again to number h fit) refl
-  instruction_again (does.Text to text) h fit =
+  instruction_again (instructions.Int to number) h fit = rw (with_integer_again to number h fit) refl
+  instruction_again (instructions.Text to text) h fit =
       rw (register_first to text (first_of to [] h), if_again is_text text fit) refl
-  instruction_again (does.List to) h fit = rw (one_again to h) refl
-  instruction_again (does.Dict to) h fit = rw (one_again to h) refl
-  instruction_again (does.Mailbox to) h fit = rw (one_again to h) refl
-  instruction_again (does.Copy to from) h fit = rw (two_again to from h) refl
-  instruction_again (does.Drop from) h fit = rw (one_again from h) refl
-  instruction_again (does.Push list value) h fit = rw (two_again list value h) refl
-  instruction_again (does.Pop to list) h fit = rw (two_again to list h) refl
-  instruction_again (does.Get to list index) h fit = rw (two_with_index_again to list index h fit) refl
-  instruction_again (does.Set list index value) h fit = rw (index_between_again list index value h fit) refl
-  instruction_again (does.Len to container) h fit = rw (two_again to container h) refl
-  instruction_again (does.Put dict k value) h fit =
+  instruction_again (instructions.List to) h fit = rw (one_again to h) refl
+  instruction_again (instructions.Dict to) h fit = rw (one_again to h) refl
+  instruction_again (instructions.Mailbox to) h fit = rw (one_again to h) refl
+  instruction_again (instructions.Copy to from) h fit = rw (two_again to from h) refl
+  instruction_again (instructions.Drop from) h fit = rw (one_again from h) refl
+  instruction_again (instructions.Push list value) h fit = rw (two_again list value h) refl
+  instruction_again (instructions.Pop to list) h fit = rw (two_again to list h) refl
+  instruction_again (instructions.Get to list index) h fit = rw (two_with_index_again to list index h fit) refl
+  instruction_again (instructions.Set list index value) h fit = rw (index_between_again list index value h fit) refl
+  instruction_again (instructions.Len to container) h fit = rw (two_again to container h) refl
+  instruction_again (instructions.Put dict k value) h fit =
       rw (
         register_first dict (spaced (key k) (register value)) (first_of dict (value ∷ []) h),
         key_first k (register value) fit,
         register_again value (second_of dict value [] h),
       ) refl
-  instruction_again (does.Find to dict k) h fit =
+  instruction_again (instructions.Find to dict k) h fit =
       rw (
         register_first to (spaced (register dict) (key k)) (first_of to (dict ∷ []) h),
         register_first dict (key k)
             (second_of to dict [] h),
         key_again k fit,
       ) refl
-  instruction_again (does.Delete to dict k) h fit =
+  instruction_again (instructions.Delete to dict k) h fit =
       rw (
         register_first to (spaced (register dict) (key k)) (first_of to (dict ∷ []) h),
         register_first dict (key k)
             (second_of to dict [] h),
         key_again k fit,
       ) refl
-  instruction_again (does.Share name value) h fit =
+  instruction_again (instructions.Share name value) h fit =
       rw (
         ahead_again (if_it_is is_name) name (register value) name (if_again is_name name fit) (name_lacks name fit),
         register_again value (first_of value [] h),
       ) refl
-  instruction_again (does.Fetch to name) h fit =
+  instruction_again (instructions.Fetch to name) h fit =
       rw (register_first to name (first_of to [] h), if_again is_name name fit) refl
-  instruction_again (does.Unshare to name) h fit =
+  instruction_again (instructions.Unshare to name) h fit =
       rw (register_first to name (first_of to [] h), if_again is_name name fit) refl
-  instruction_again (does.Send mailbox value) h fit = rw (two_again mailbox value h) refl
-  instruction_again (does.Receive to mailbox) h fit = rw (two_again to mailbox h) refl
-  instruction_again (does.Add to first second) h fit = rw (three_again to first second h) refl
-  instruction_again (does.Print from) h fit = rw (one_again from h) refl
+  instruction_again (instructions.Send mailbox value) h fit = rw (two_again mailbox value h) refl
+  instruction_again (instructions.Receive to mailbox) h fit = rw (two_again to mailbox h) refl
+  instruction_again (instructions.Add to first second) h fit = rw (three_again to first second h) refl
+  instruction_again (instructions.Print from) h fit = rw (one_again from h) refl
 
   -- ---- lines
 
@@ -257,7 +257,7 @@ module _ {A : Type 0} where
   row_by_word : (number : ℕ) (i : Instruction A) (rest : List ℕ)
       → row_by {A = A} number (word_of i) (Some rest)
       ≡ (line_at number (word_of i) rest >>= λ line. Some (rows.Does line))
-  row_by_word number (does.Int to n) rest = refl
+  row_by_word number (instructions.Int to n) rest = refl
   row_by_word number _ rest = refl
 
 word_again : (word : FirstWord) → first_word_at (first_word word) ≡ Some word
@@ -282,7 +282,7 @@ module _ {A : Type 0} where
   spaced_row number word rest =
       rw (word_works word (32 ∷ rest), cut_until 32 (first_word word) rest (word_lacks word), word_again word) refl
 
-  pub row_again : (number : ℕ) (line : List ℕ) (row : Row A) → Says line row → IsNumbered number row
+  pub row_again : (number : ℕ) (line : List ℕ) (row : ScriptRow A) → Says line row → IsNumbered number row
       → row_at number line ≡ Some row
   unfolding row_at spelled
   row_again number line rows.Idle says same = rw says refl

@@ -16,8 +16,8 @@ use Rattle.brc_text.proofs.LineLaws.{cut_parts, behind_mark}
 use Rattle.brc_script.specs.declared.first_word.FirstWord.{FirstWord}
 use Rattle.brc_script.specs.declared.first_word.FirstWord.TheVariants as words
 use Rattle.brc_script.specs.declared.first_word.TheConstants.{FIRST_WORDS}
-use Rattle.brc_script.specs.declared.row.Row.{Row}
-use Rattle.brc_script.specs.declared.row.Row.TheVariants as rows
+use Rattle.brc_script.specs.declared.row.ScriptRow.{ScriptRow}
+use Rattle.brc_script.specs.declared.row.ScriptRow.TheVariants as rows
 use Rattle.brc_script.specs.Instructions.{NumberedLine, registers_differ}
 use Rattle.brc_script.specs.FirstWords.{first_word, first_word_at}
 use Rattle.brc_script.specs.Operands.{within, is_times, if_it_is}
@@ -57,11 +57,11 @@ idle_opening (first ∷ bytes) h =
 -- ---- rows
 
 -- the line says so, and has this number
-pub record Tells {A : Type 0} (number : ℕ) (line : List ℕ) (row : Row A) : Type 0 where
+pub record Tells {A : Type 0} (number : ℕ) (line : List ℕ) (row : ScriptRow A) : Type 0 where
   pub says : Says line row
   pub is_numbered : IsNumbered number row
 
-abbrev pub frames : {A : Type 0} → Row A → Bool
+abbrev pub frames : {A : Type 0} → ScriptRow A → Bool
 frames rows.Idle = false
 frames (rows.Section name) = true
 frames (rows.Repeat times) = true
@@ -69,7 +69,7 @@ frames rows.End = true
 frames (rows.Does line) = false
 
 module _ {A : Type 0} where
-  does_tells : (number : ℕ) (word : FirstWord) (rest line : List ℕ) (row : Row A)
+  does_tells : (number : ℕ) (word : FirstWord) (rest line : List ℕ) (row : ScriptRow A)
       → (line_at number word rest >>= λ l. Some (rows.Does l)) ≡ Some row
       → line ≡ spaced (first_word word) rest → Tells number line row
   unfolding line_at spelled
@@ -88,7 +88,7 @@ module _ {A : Type 0} where
         is_numbered = refl;
       }))
 
-  row_by_tells : (number : ℕ) (word : FirstWord) (behind : Option (List ℕ)) (line : List ℕ) (row : Row A)
+  row_by_tells : (number : ℕ) (word : FirstWord) (behind : Option (List ℕ)) (line : List ℕ) (row : ScriptRow A)
       → row_by number word behind ≡ Some row
       → line ≡ first_word word ++ behind_mark 32 behind → Tells number line row
   row_by_tells number words.End None line row e whole =
@@ -108,7 +108,8 @@ module _ {A : Type 0} where
   row_by_tells number word None line row e whole = absurd cc
   row_by_tells number word (Some rest) line row e whole = does_tells number word rest line row e whole
 
-  pub row_tells : (number : ℕ) (line : List ℕ) (row : Row A) → row_at number line ≡ Some row → Tells number line row
+  pub row_tells : (number : ℕ) (line : List ℕ) (row : ScriptRow A) → row_at number line ≡ Some row
+      → Tells number line row
   unfolding row_at
   row_tells number line row e = by_idle (is_idle line) refl e
     where
@@ -124,10 +125,10 @@ module _ {A : Type 0} where
 
   -- ---- which lines decide an open `repeat`
 
-  not_a_frame : (row frame : Row A) → frames frame ≡ true → Some frame ≡ Some row → frames row ≡ false → ⊥
+  not_a_frame : (row frame : ScriptRow A) → frames frame ≡ true → Some frame ≡ Some row → frames row ≡ false → ⊥
   not_a_frame row frame is e h = absurd (let same = ap frames (same_some e) in cc)
 
-  undecided : (number : ℕ) (word : FirstWord) (behind : Option (List ℕ)) (row : Row A)
+  undecided : (number : ℕ) (word : FirstWord) (behind : Option (List ℕ)) (row : ScriptRow A)
       → row_by number word behind ≡ Some row → frames row ≡ false
       → decided (Some word) ≡ None
   undecided number words.End None row e h = absurd (not_a_frame row rows.End refl e h)
@@ -142,7 +143,8 @@ module _ {A : Type 0} where
       absurd (not_a_frame row (rows.Repeat times.0) refl times.2 h)
   undecided number _ behind row e h = refl
 
-  pub decides_nothing : (number : ℕ) (line : List ℕ) (row : Row A) → row_at number line ≡ Some row → frames row ≡ false
+  pub decides_nothing : (number : ℕ) (line : List ℕ) (row : ScriptRow A) → row_at number line ≡ Some row
+      → frames row ≡ false
       → decided (opening line) ≡ None
   unfolding row_at opening
   decides_nothing number line row e h = by_idle (is_idle line) refl e

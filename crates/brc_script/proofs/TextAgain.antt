@@ -12,8 +12,8 @@ use Rattle.brc_script.specs.declared.first_word.FirstWord.{FirstWord}
 use Rattle.brc_script.specs.declared.script.Piece.{Piece}
 use Rattle.brc_script.specs.declared.script.Piece.TheVariants as piece
 use Rattle.brc_script.specs.declared.script.Section.{Section}
-use Rattle.brc_script.specs.declared.row.Row.{Row}
-use Rattle.brc_script.specs.declared.row.Row.TheVariants as rows
+use Rattle.brc_script.specs.declared.row.ScriptRow.{ScriptRow}
+use Rattle.brc_script.specs.declared.row.ScriptRow.TheVariants as rows
 use Rattle.brc_script.specs.declared.progress.Progress.{Progress}
 use Rattle.brc_script.specs.Instructions.{NumberedLine}
 use Rattle.brc_script.specs.Scripts.{IsScript}
@@ -28,48 +28,48 @@ use Rattle.brc_script.proofs.RowAgain.{row_again, opens_section, opens_end}
 module _ {A : Type 0} where
   -- ---- rows that are the same
 
-  abbrev tag : Row A → ℕ
+  abbrev tag : ScriptRow A → ℕ
   tag rows.Idle = 0
   tag (rows.Section name) = 1
   tag (rows.Repeat times) = 2
   tag rows.End = 3
   tag (rows.Does line) = 4
 
-  abbrev first_tag : List (Row A) → ℕ
+  abbrev first_tag : List (ScriptRow A) → ℕ
   first_tag [] = 5
   first_tag (row ∷ others) = tag row
 
-  abbrev name_in : List ℕ → List (Row A) → List ℕ
+  abbrev name_in : List ℕ → List (ScriptRow A) → List ℕ
   name_in other (rows.Section name ∷ others) = name
   name_in other _ = other
 
-  abbrev times_in : ℕ → List (Row A) → ℕ
+  abbrev times_in : ℕ → List (ScriptRow A) → ℕ
   times_in other (rows.Repeat times ∷ others) = times
   times_in other _ = other
 
-  abbrev line_in : NumberedLine A → List (Row A) → NumberedLine A
+  abbrev line_in : NumberedLine A → List (ScriptRow A) → NumberedLine A
   line_in other (rows.Does line ∷ others) = line
   line_in other _ = other
 
-  abbrev behind : List (Row A) → List (Row A)
+  abbrev behind : List (ScriptRow A) → List (ScriptRow A)
   behind [] = []
   behind (row ∷ others) = others
 
-  differ : (xs ys : List (Row A)) → xs ≡ ys → (eqb (first_tag xs) (first_tag ys) ≡ false) → ⊥
+  differ : (xs ys : List (ScriptRow A)) → xs ≡ ys → (eqb (first_tag xs) (first_tag ys) ≡ false) → ⊥
   differ xs ys e h = let same : eqb (first_tag xs) (first_tag xs) ≡ false =
-      ap (λ (l : List (Row A)). eqb (first_tag xs) (first_tag l)) e ∙ h in absurd (omega_same (first_tag xs) same)
+      ap (λ (l : List (ScriptRow A)). eqb (first_tag xs) (first_tag l)) e ∙ h in absurd (omega_same (first_tag xs) same)
     where
       omega_same : (n : ℕ) → eqb n n ≡ false → ⊥
       omega_same n h = grind (arith, h)
 
   -- ---- an open `repeat` is closed below
 
-  abbrev in_repeat : List (NumberedLine A) → List (Row A) → List (Row A)
+  abbrev in_repeat : List (NumberedLine A) → List (ScriptRow A) → List (ScriptRow A)
   in_repeat [] others = rows.End ∷ others
   in_repeat (line ∷ lines) others = rows.Does line ∷ in_repeat lines others
 
-  closed_again : (number : ℕ) (lines : List (List ℕ)) (them : List (Row A)) (ls : List (NumberedLine A))
-      (others : List (Row A)) → AreRows number lines them
+  closed_again : (number : ℕ) (lines : List (List ℕ)) (them : List (ScriptRow A)) (ls : List (NumberedLine A))
+      (others : List (ScriptRow A)) → AreRows number lines them
       → said them ≡ in_repeat ls others → is_closed lines ≡ true
   unfolding is_closed
   closed_again number [] [] [] others tell e = absurd (differ [] (rows.End ∷ others) e refl)
@@ -100,7 +100,7 @@ module _ {A : Type 0} where
   -- ---- what is still to be said
 
   -- inside a `repeat` or not, the pieces of the section that are left, and the sections behind it
-  abbrev left_rows : Option ℕ → List (NumberedLine A) → List (Piece A) → List (Section A) → List (Row A)
+  abbrev left_rows : Option ℕ → List (NumberedLine A) → List (Piece A) → List (Section A) → List (ScriptRow A)
   left_rows None ls pieces sections = flat_map piece_rows pieces ++ script_rows sections
   left_rows (Some times) ls pieces sections = in_repeat ls (flat_map piece_rows pieces ++ script_rows sections)
 
@@ -113,10 +113,10 @@ module _ {A : Type 0} where
   all_pieces pieces None lines ls left = pieces ++ left
   all_pieces pieces (Some times) lines ls left = pieces ++ (piece.Repeat times (lines ++ ls) ∷ left)
 
-  in_repeat_is : (ls : List (NumberedLine A)) (others : List (Row A))
+  in_repeat_is : (ls : List (NumberedLine A)) (others : List (ScriptRow A))
       → map (λ line. rows.Does line) ls ++ (rows.End ∷ others) ≡ in_repeat ls others
   in_repeat_is [] others = refl
-  in_repeat_is (l ∷ ls) others = ap (λ (x : List (Row A)). rows.Does l ∷ x) (in_repeat_is ls others)
+  in_repeat_is (l ∷ ls) others = ap (λ (x : List (ScriptRow A)). rows.Does l ∷ x) (in_repeat_is ls others)
 
   new_at : (before xs ys : List (Section A)) (s : Section A) → are_new before (xs ++ (s ∷ ys)) ≡ true
       → is_named s.name (before ++ xs) ≡ false
@@ -132,12 +132,12 @@ module _ {A : Type 0} where
       (and_parts (not (is_named first.name before)) (are_new (before ++ first ∷ []) (xs ++ (s ∷ ys))) h).1
 
   -- one turn
-  turned : (progress next : Progress A) (number : ℕ) (line : List ℕ) (lines : List (List ℕ)) (row : Row A)
+  turned : (progress next : Progress A) (number : ℕ) (line : List ℕ) (lines : List (List ℕ)) (row : ScriptRow A)
       → Says line row → IsNumbered number row
       → taken progress row lines ≡ Some next → walk progress number (line ∷ lines) ≡ walk next (number + 1) lines
   unfolding walk turn_at
   turned progress next number line lines row says same takes =
-      ap (λ (o : Option (Row A)). onward number (λ next. walk next (number + 1) lines)
+      ap (λ (o : Option (ScriptRow A)). onward number (λ next. walk next (number + 1) lines)
       (o >>= λ row. taken progress row lines)) (row_again number line row says same)
       ∙ ap (onward number (λ next. walk next (number + 1) lines)) takes
 
@@ -198,7 +198,8 @@ module _ {A : Type 0} where
   unfolding close_repeat
   closes done name pieces times lines = refl
 
-  walk_again : (number : ℕ) (lines : List (List ℕ)) (them : List (Row A)) (done : List (Section A)) (name : List ℕ)
+  walk_again : (number : ℕ) (lines : List (List ℕ)) (them : List (ScriptRow A)) (done : List (Section A))
+      (name : List ℕ)
       (pieces : List (Piece A)) (times : Option ℕ)
       (ours ls : List (NumberedLine A)) (left : List (Piece A)) (sections target : List (Section A))
       → AreRows number lines them → said them ≡ left_rows times ls left sections → Fine target
@@ -347,7 +348,8 @@ module _ {A : Type 0} where
   unfolding begin
   first_begins n = refl
 
-  start_again : (number : ℕ) (lines : List (List ℕ)) (them : List (Row A)) (s : Section A) (sections : List (Section A))
+  start_again : (number : ℕ) (lines : List (List ℕ)) (them : List (ScriptRow A)) (s : Section A)
+      (sections : List (Section A))
       → AreRows number lines them → said them ≡ script_rows (s ∷ sections) → Fine (s ∷ sections)
       → (finished (walk nothing number lines) ≡ Ok (s ∷ sections)) × (list_any starts_section lines ≡ true)
   start_again number [] [] s sections tell e fine = absurd (differ [] (script_rows (s ∷ sections)) e refl)

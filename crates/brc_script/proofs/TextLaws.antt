@@ -15,8 +15,8 @@ use Rattle.brc_script.specs.declared.limits.TheConstants.{MOST_SECTIONS}
 use Rattle.brc_script.specs.declared.script.Piece.{Piece}
 use Rattle.brc_script.specs.declared.script.Piece.TheVariants as piece
 use Rattle.brc_script.specs.declared.script.Section.{Section}
-use Rattle.brc_script.specs.declared.row.Row.{Row}
-use Rattle.brc_script.specs.declared.row.Row.TheVariants as rows
+use Rattle.brc_script.specs.declared.row.ScriptRow.{ScriptRow}
+use Rattle.brc_script.specs.declared.row.ScriptRow.TheVariants as rows
 use Rattle.brc_script.specs.declared.progress.Progress.{Progress}
 use Rattle.brc_script.specs.Instructions.{NumberedLine}
 use Rattle.brc_script.specs.Rows.{row_at}
@@ -52,19 +52,19 @@ not_open false h = refl
 module _ {A : Type 0} where
   -- what the section that is being read says, and the open `repeat` in it
 
-  abbrev pub open_rows : Option (List ℕ) → List (Piece A) → List (Row A)
+  abbrev pub open_rows : Option (List ℕ) → List (Piece A) → List (ScriptRow A)
   open_rows None pieces = []
   open_rows (Some name) pieces = rows.Section name ∷ flat_map piece_rows pieces
 
-  abbrev pub repeat_rows : Option ℕ → List (NumberedLine A) → List (Row A)
+  abbrev pub repeat_rows : Option ℕ → List (NumberedLine A) → List (ScriptRow A)
   repeat_rows None lines = []
   repeat_rows (Some times) lines = rows.Repeat times ∷ map (λ line. rows.Does line) lines
 
   abbrev pub built_by : List (Section A) → Option (List ℕ) → List (Piece A) → Option ℕ → List (NumberedLine A)
-      → List (Row A)
+      → List (ScriptRow A)
   built_by done name pieces times lines = script_rows done ++ (open_rows name pieces ++ repeat_rows times lines)
 
-  abbrev pub built : Progress A → List (Row A)
+  abbrev pub built : Progress A → List (ScriptRow A)
   built progress = built_by progress.done progress.name progress.pieces progress.times progress.lines
 
   closed_rows : (done : List (Section A)) (name : Option (List ℕ)) (pieces : List (Piece A))
@@ -72,7 +72,7 @@ module _ {A : Type 0} where
   closed_rows done None pieces = sym (append-nil (script_rows done))
   closed_rows done (Some name) pieces =
       flat_map-append section_rows done (record { name = name; pieces = pieces } ∷ [])
-      ∙ ap (λ (l : List (Row A)). script_rows done ++ l) (append-nil (open_rows (Some name) pieces))
+      ∙ ap (λ (l : List (ScriptRow A)). script_rows done ++ l) (append-nil (open_rows (Some name) pieces))
 
   -- names
 
@@ -108,7 +108,7 @@ module _ {A : Type 0} where
     pub inside : is_some progress.times ≡ true → is_some progress.name ≡ true
     pub names : are_new [] (sections_of progress) ≡ true
 
-  pub record Steps (progress next : Progress A) (row : Row A) (later : List (List ℕ)) : Type 0 where
+  pub record Steps (progress next : Progress A) (row : ScriptRow A) (later : List (List ℕ)) : Type 0 where
     pub are : built progress ++ said (row ∷ []) ≡ built next
     pub sound : IsSound next
     -- what a line opens is closed below, and a line that neither opens nor closes leaves it so
@@ -122,9 +122,9 @@ module _ {A : Type 0} where
       ++ (open_rows name (pieces ++ p ∷ []) ++ [])
   more_pieces done None pieces p h = absurd cc
   more_pieces done (Some name) pieces p h =
-      ap (λ (l : List (Row A)). script_rows done ++ (rows.Section name ∷ l))
+      ap (λ (l : List (ScriptRow A)). script_rows done ++ (rows.Section name ∷ l))
       (sym (append-nil (flat_map piece_rows (pieces ++ p ∷ [])) ∙ flat_map-append piece_rows pieces (p ∷ [])
-      ∙ ap (λ (l : List (Row A)). flat_map piece_rows pieces ++ l) (append-nil (piece_rows p))))
+      ∙ ap (λ (l : List (ScriptRow A)). flat_map piece_rows pieces ++ l) (append-nil (piece_rows p))))
 
   added : (progress next : Progress A) (times : Option ℕ) (line : NumberedLine A) (later : List (List ℕ))
       → progress.times ≡ times → IsSound progress
@@ -137,7 +137,7 @@ module _ {A : Type 0} where
             (open_rows progress.name progress.pieces ++ repeat_rows progress.times progress.lines) (rows.Does line ∷ [])
             ∙ ap (λ (t : Option ℕ). script_rows progress.done
             ++ ((open_rows progress.name progress.pieces ++ repeat_rows t progress.lines) ++ (rows.Does line ∷ []))) is
-            ∙ ap (λ (l : List (Row A)). script_rows progress.done ++ (l ++ (rows.Does line ∷ [])))
+            ∙ ap (λ (l : List (ScriptRow A)). script_rows progress.done ++ (l ++ (rows.Does line ∷ [])))
             (append-nil (open_rows progress.name progress.pieces))
             ∙ more_pieces progress.done progress.name progress.pieces (piece.One line) parts.0
             ∙ ap (λ (t : Option ℕ). script_rows progress.done
@@ -156,10 +156,10 @@ module _ {A : Type 0} where
             (open_rows progress.name progress.pieces ++ repeat_rows progress.times progress.lines) (rows.Does line ∷ [])
             ∙ ap (λ (t : Option ℕ). script_rows progress.done
             ++ ((open_rows progress.name progress.pieces ++ repeat_rows t progress.lines) ++ (rows.Does line ∷ []))) is
-            ∙ ap (λ (l : List (Row A)). script_rows progress.done ++ l)
+            ∙ ap (λ (l : List (ScriptRow A)). script_rows progress.done ++ l)
             (append_assoc (open_rows progress.name progress.pieces) (repeat_rows (Some times) progress.lines)
             (rows.Does line ∷ []))
-            ∙ ap (λ (l : List (Row A)). script_rows progress.done
+            ∙ ap (λ (l : List (ScriptRow A)). script_rows progress.done
             ++ (open_rows progress.name progress.pieces ++ (rows.Repeat times ∷ l)))
             (sym (map-append (λ l. rows.Does l) progress.lines (line ∷ [])))
             ∙ ap (λ (t : Option ℕ). script_rows progress.done
@@ -179,7 +179,7 @@ module _ {A : Type 0} where
             (open_rows progress.name progress.pieces ++ repeat_rows progress.times progress.lines) (rows.End ∷ [])
             ∙ ap (λ (t : Option ℕ). script_rows progress.done
             ++ ((open_rows progress.name progress.pieces ++ repeat_rows t progress.lines) ++ (rows.End ∷ []))) is
-            ∙ ap (λ (l : List (Row A)). script_rows progress.done ++ l)
+            ∙ ap (λ (l : List (ScriptRow A)). script_rows progress.done ++ l)
             (append_assoc (open_rows progress.name progress.pieces) (repeat_rows (Some times) progress.lines)
             (rows.End ∷ []))
             ∙ more_pieces progress.done progress.name progress.pieces p
@@ -209,9 +209,9 @@ module _ {A : Type 0} where
         are = ap (λ (t : Option ℕ).
             (script_rows progress.done ++ (open_rows progress.name progress.pieces ++ repeat_rows t progress.lines))
             ++ (rows.Section name ∷ [])) none
-            ∙ ap (λ (l : List (Row A)). (script_rows progress.done ++ l) ++ (rows.Section name ∷ []))
+            ∙ ap (λ (l : List (ScriptRow A)). (script_rows progress.done ++ l) ++ (rows.Section name ∷ []))
             (append-nil (open_rows progress.name progress.pieces))
-            ∙ ap (λ (l : List (Row A)). l ++ (rows.Section name ∷ []))
+            ∙ ap (λ (l : List (ScriptRow A)). l ++ (rows.Section name ∷ []))
             (sym (closed_rows progress.done progress.name progress.pieces));
         sound = record {
           inside = λ none. refl;
@@ -238,13 +238,13 @@ module _ {A : Type 0} where
             ∙ ap (λ (t : Option ℕ). script_rows progress.done
             ++ ((open_rows progress.name progress.pieces ++ repeat_rows t progress.lines)
             ++ (rows.Repeat times ∷ []))) none
-            ∙ ap (λ (l : List (Row A)). script_rows progress.done ++ (l ++ (rows.Repeat times ∷ [])))
+            ∙ ap (λ (l : List (ScriptRow A)). script_rows progress.done ++ (l ++ (rows.Repeat times ∷ [])))
             (append-nil (open_rows progress.name progress.pieces));
         sound = record { inside = λ still. tests.0; names = sound.names };
         closes = λ still. inl others.1;
       })
 
-  stepped : (progress next : Progress A) (row : Row A) (later : List (List ℕ)) → IsSound progress
+  stepped : (progress next : Progress A) (row : ScriptRow A) (later : List (List ℕ)) → IsSound progress
       → taken progress row later ≡ Some next → Steps progress next row later
   unfolding close_repeat add
   stepped progress next rows.Idle later sound e =
@@ -255,12 +255,12 @@ module _ {A : Type 0} where
   stepped progress next rows.End later sound e = ended progress next progress.times later refl sound e
   stepped progress next (rows.Does line) later sound e = added progress next progress.times line later refl sound e
 
-  said_first : (row : Row A) (others : List (Row A)) → said (row ∷ []) ++ said others ≡ said (row ∷ others)
+  said_first : (row : ScriptRow A) (others : List (ScriptRow A)) → said (row ∷ []) ++ said others ≡ said (row ∷ others)
   said_first rows.Idle others = refl
   said_first _ others = refl
 
   -- a `repeat` that stays open is closed below
-  still_closed : (progress next : Progress A) (number : ℕ) (line : List ℕ) (row : Row A) (later : List (List ℕ))
+  still_closed : (progress next : Progress A) (number : ℕ) (line : List ℕ) (row : ScriptRow A) (later : List (List ℕ))
       → row_at number line ≡ Some row
       → Steps progress next row later → (is_some progress.times ≡ true → is_closed (line ∷ later) ≡ true)
       → is_some next.times ≡ true → is_closed later ≡ true
@@ -274,7 +274,7 @@ module _ {A : Type 0} where
   -- ---- all lines
 
   pub record Walks (progress end : Progress A) (number : ℕ) (lines : List (List ℕ)) : Type 0 where
-    pub rows : List (Row A)
+    pub rows : List (ScriptRow A)
     pub tell : AreRows number lines rows
     pub are : built progress ++ said rows ≡ built end
     pub sound : IsSound end
@@ -300,9 +300,9 @@ module _ {A : Type 0} where
       record {
         rows = row.0 ∷ others.rows;
         tell = (tells.says, tells.is_numbered, others.tell);
-        are = ap (λ (l : List (Row A)). built progress ++ l) (sym (said_first row.0 others.rows))
+        are = ap (λ (l : List (ScriptRow A)). built progress ++ l) (sym (said_first row.0 others.rows))
             ∙ sym (append_assoc (built progress) (said (row.0 ∷ [])) (said others.rows))
-            ∙ ap (λ (l : List (Row A)). l ++ said others.rows) step.are ∙ others.are;
+            ∙ ap (λ (l : List (ScriptRow A)). l ++ said others.rows) step.are ∙ others.are;
         sound = others.sound;
         closed = others.closed;
       }
@@ -356,7 +356,7 @@ module _ {A : Type 0} where
         are = walks.are
             ∙ ap (λ (t : Option ℕ). script_rows end.done ++ (open_rows end.name end.pieces ++ repeat_rows t end.lines))
             (is_open end.times walks.closed)
-            ∙ ap (λ (l : List (Row A)). script_rows end.done ++ l) (append-nil (open_rows end.name end.pieces))
+            ∙ ap (λ (l : List (ScriptRow A)). script_rows end.done ++ l) (append-nil (open_rows end.name end.pieces))
             ∙ sym (closed_rows end.done end.name end.pieces);
         names = walks.sound.names;
       })

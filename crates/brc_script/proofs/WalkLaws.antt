@@ -10,8 +10,8 @@ use Rattle.brc_words.specs.declared.fault.Fault.{Fault}
 use Rattle.brc_words.specs.declared.fault.Fault.TheVariants as faults
 use Rattle.brc_text.proofs.KeywordLaws.{same_some}
 use Rattle.brc_text.proofs.TokenLaws.{some_bind}
-use Rattle.brc_script.specs.declared.row.Row.{Row}
-use Rattle.brc_script.specs.declared.row.Row.TheVariants as rows
+use Rattle.brc_script.specs.declared.row.ScriptRow.{ScriptRow}
+use Rattle.brc_script.specs.declared.row.ScriptRow.TheVariants as rows
 use Rattle.brc_script.specs.Instructions.{NumberedLine}
 use Rattle.brc_script.specs.Rows.{row_at}
 use Rattle.brc_script.specs.declared.limits.TheConstants.{MOST_SECTIONS}
@@ -20,7 +20,7 @@ use Rattle.brc_script.specs.declared.script.Section.{Section}
 use Rattle.brc_script.specs.declared.progress.Progress.{Progress}
 use Rattle.brc_script.specs.Walks.{lines_of, starts_section, is_closed, sections_of, is_named, begin, open_repeat}
 use Rattle.brc_script.specs.Walks.{close_by, close_repeat, add_by, add, taken, turn_at, onward, walk, closed_by}
-use Rattle.brc_script.specs.Walks.{nothing, finished, script_at, Refuses, Gives}
+use Rattle.brc_script.specs.Walks.{nothing, finished, script_at, RefusesScript, ReadsScript}
 use Rattle.brc_script.proofs.LinesLaws.{no_lines}
 
 module _ {A : Type 0} where
@@ -74,7 +74,8 @@ module _ {A : Type 0} where
   few_after_add progress next (Some times) line e few = subst (λ (p : Progress A). length p.done < MOST_SECTIONS)
       (same_some e) few
 
-  few_taken : (progress next : Progress A) (row : Row A) (later : List (List ℕ)) → taken progress row later ≡ Some next
+  few_taken : (progress next : Progress A) (row : ScriptRow A) (later : List (List ℕ))
+      → taken progress row later ≡ Some next
       → length progress.done < MOST_SECTIONS → length next.done < MOST_SECTIONS
   unfolding begin open_repeat close_repeat add
   few_taken progress next rows.Idle later e few = subst (λ (p : Progress A). length p.done < MOST_SECTIONS)
@@ -118,15 +119,17 @@ module _ {A : Type 0} where
   with_sections text short some = rw (le-ltb MOST_INPUT (length text) short, some) refl
 
   -- a fault of the walk is the fault of the script
-  pub refused_below : (fault : Fault) (walked : Result (Progress A) ℕ) → Refuses fault walked
-      → Refuses fault (finished walked)
+  pub refused_below : (fault : Fault) (walked : Result (Progress A) ℕ) → RefusesScript fault walked
+      → RefusesScript fault (finished walked)
   refused_below faults.OutOfMemory walked h = tt
   refused_below (faults.BadScript bad) walked h = ap finished h
   refused_below _ walked h = absurd h
 
 -- an answer to one reading is an answer to an equal one
-pub gives_same : {X : Type 0} (answer : Result X Fault) (a b : Result X ℕ) → a ≡ b → Gives answer a → Gives answer b
-gives_same answer a b e h = subst (Gives answer) e h
+pub gives_same : {X : Type 0} (answer : Result X Fault) (a b : Result X ℕ) → a ≡ b → ReadsScript answer a
+    → ReadsScript answer b
+gives_same answer a b e h = subst (ReadsScript answer) e h
 
-pub refused_same : {X : Type 0} (fault : Fault) (a b : Result X ℕ) → a ≡ b → Refuses fault a → Refuses fault b
-refused_same fault a b e h = subst (Refuses fault) e h
+pub refused_same : {X : Type 0} (fault : Fault) (a b : Result X ℕ) → a ≡ b → RefusesScript fault a
+    → RefusesScript fault b
+refused_same fault a b e h = subst (RefusesScript fault) e h

@@ -6,7 +6,7 @@ use Rattle.brc_words.specs.declared.key.Key.{Key}
 use Rattle.brc_words.specs.declared.key.Key.TheVariants as keys
 use Rattle.brc_script.specs.declared.limits.TheConstants.{REGISTERS, MOST_TEXT, MOST_NAME}
 use Rattle.brc_script.specs.declared.instruction.Instruction.{Instruction}
-use Rattle.brc_script.specs.declared.instruction.Instruction.TheVariants as does
+use Rattle.brc_script.specs.declared.instruction.Instruction.TheVariants as instructions
 
 -- an instruction, and the number of its line
 pub record NumberedLine (A : Type 0) : Type 0 where
@@ -55,28 +55,28 @@ module _ {A : Type 0} where
 
   -- the registers that an instruction names, as they stand in its line
   abbrev pub registers_of : Instruction A → List ℕ
-  registers_of (does.Int to number) = to ∷ []
-  registers_of (does.Text to text) = to ∷ []
-  registers_of (does.List to) = to ∷ []
-  registers_of (does.Dict to) = to ∷ []
-  registers_of (does.Mailbox to) = to ∷ []
-  registers_of (does.Copy to from) = to ∷ from ∷ []
-  registers_of (does.Drop from) = from ∷ []
-  registers_of (does.Push list value) = list ∷ value ∷ []
-  registers_of (does.Pop to list) = to ∷ list ∷ []
-  registers_of (does.Get to list index) = to ∷ list ∷ []
-  registers_of (does.Set list index value) = list ∷ value ∷ []
-  registers_of (does.Len to container) = to ∷ container ∷ []
-  registers_of (does.Put dict key value) = dict ∷ value ∷ []
-  registers_of (does.Find to dict key) = to ∷ dict ∷ []
-  registers_of (does.Delete to dict key) = to ∷ dict ∷ []
-  registers_of (does.Share name value) = value ∷ []
-  registers_of (does.Fetch to name) = to ∷ []
-  registers_of (does.Unshare to name) = to ∷ []
-  registers_of (does.Send mailbox value) = mailbox ∷ value ∷ []
-  registers_of (does.Receive to mailbox) = to ∷ mailbox ∷ []
-  registers_of (does.Add to first second) = to ∷ first ∷ second ∷ []
-  registers_of (does.Print from) = from ∷ []
+  registers_of (instructions.Int to number) = to ∷ []
+  registers_of (instructions.Text to text) = to ∷ []
+  registers_of (instructions.List to) = to ∷ []
+  registers_of (instructions.Dict to) = to ∷ []
+  registers_of (instructions.Mailbox to) = to ∷ []
+  registers_of (instructions.Copy to from) = to ∷ from ∷ []
+  registers_of (instructions.Drop from) = from ∷ []
+  registers_of (instructions.Push list value) = list ∷ value ∷ []
+  registers_of (instructions.Pop to list) = to ∷ list ∷ []
+  registers_of (instructions.Get to list index) = to ∷ list ∷ []
+  registers_of (instructions.Set list index value) = list ∷ value ∷ []
+  registers_of (instructions.Len to container) = to ∷ container ∷ []
+  registers_of (instructions.Put dict key value) = dict ∷ value ∷ []
+  registers_of (instructions.Find to dict key) = to ∷ dict ∷ []
+  registers_of (instructions.Delete to dict key) = to ∷ dict ∷ []
+  registers_of (instructions.Share name value) = value ∷ []
+  registers_of (instructions.Fetch to name) = to ∷ []
+  registers_of (instructions.Unshare to name) = to ∷ []
+  registers_of (instructions.Send mailbox value) = mailbox ∷ value ∷ []
+  registers_of (instructions.Receive to mailbox) = to ∷ mailbox ∷ []
+  registers_of (instructions.Add to first second) = to ∷ first ∷ second ∷ []
+  registers_of (instructions.Print from) = from ∷ []
 
   -- the registers of one instruction differ
   unfoldable pub registers_differ : Instruction A → Bool
@@ -84,16 +84,16 @@ module _ {A : Type 0} where
 
   -- its numbers, texts, keys and names are in their limits
   abbrev pub operands_fit : Instruction A → Bool
-  operands_fit (does.Int to number) = is_integer number
-  operands_fit (does.Text to text) = is_text text
-  operands_fit (does.Get to list index) = is_index index
-  operands_fit (does.Set list index value) = is_index index
-  operands_fit (does.Put dict key value) = is_key key
-  operands_fit (does.Find to dict key) = is_key key
-  operands_fit (does.Delete to dict key) = is_key key
-  operands_fit (does.Share name value) = is_name name
-  operands_fit (does.Fetch to name) = is_name name
-  operands_fit (does.Unshare to name) = is_name name
+  operands_fit (instructions.Int to number) = is_integer number
+  operands_fit (instructions.Text to text) = is_text text
+  operands_fit (instructions.Get to list index) = is_index index
+  operands_fit (instructions.Set list index value) = is_index index
+  operands_fit (instructions.Put dict key value) = is_key key
+  operands_fit (instructions.Find to dict key) = is_key key
+  operands_fit (instructions.Delete to dict key) = is_key key
+  operands_fit (instructions.Share name value) = is_name name
+  operands_fit (instructions.Fetch to name) = is_name name
+  operands_fit (instructions.Unshare to name) = is_name name
   operands_fit _ = true
 
   -- the instructions that have a line in a script
@@ -104,7 +104,7 @@ module _ {A : Type 0} where
 
   -- it looks into the globals, or changes them
   abbrev pub is_shared : Instruction A → Bool
-  is_shared (does.Share name value) = true
-  is_shared (does.Fetch to name) = true
-  is_shared (does.Unshare to name) = true
+  is_shared (instructions.Share name value) = true
+  is_shared (instructions.Fetch to name) = true
+  is_shared (instructions.Unshare to name) = true
   is_shared _ = false

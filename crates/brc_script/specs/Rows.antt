@@ -8,9 +8,9 @@ use Rattle.brc_script.specs.declared.limits.TheConstants.{MOST_SECTION_NAME}
 use Rattle.brc_script.specs.declared.first_word.FirstWord.{FirstWord}
 use Rattle.brc_script.specs.declared.first_word.FirstWord.TheVariants as words
 use Rattle.brc_script.specs.declared.instruction.Instruction.{Instruction}
-use Rattle.brc_script.specs.declared.instruction.Instruction.TheVariants as does
-use Rattle.brc_script.specs.declared.row.Row.{Row}
-use Rattle.brc_script.specs.declared.row.Row.TheVariants as rows
+use Rattle.brc_script.specs.declared.instruction.Instruction.TheVariants as instructions
+use Rattle.brc_script.specs.declared.row.ScriptRow.{ScriptRow}
+use Rattle.brc_script.specs.declared.row.ScriptRow.TheVariants as rows
 use Rattle.brc_script.specs.Instructions.{NumberedLine, registers_differ, is_text, is_name}
 use Rattle.brc_script.specs.FirstWords.{first_word_at}
 use Rattle.brc_script.specs.Operands.{register_at, within, is_times, if_it_is, ahead, key_at, two_at, three_at}
@@ -34,21 +34,21 @@ is_section_name bytes = nat_le 1 (length bytes) && nat_le (length bytes) MOST_SE
 module _ {A : Type 0} where
   -- an instruction without texts, by its first word and what stands behind it
   abbrev pub plain_at : FirstWord → List ℕ → Option (Instruction A)
-  plain_at words.Int rest = with_integer_at rest >>= λ o. Some (does.Int o.0 o.1)
-  plain_at words.List rest = register_at rest >>= λ to. Some (does.List to)
-  plain_at words.Dict rest = register_at rest >>= λ to. Some (does.Dict to)
-  plain_at words.Mailbox rest = register_at rest >>= λ to. Some (does.Mailbox to)
-  plain_at words.Copy rest = two_at rest >>= λ o. Some (does.Copy o.0 o.1)
-  plain_at words.Drop rest = register_at rest >>= λ from. Some (does.Drop from)
-  plain_at words.Push rest = two_at rest >>= λ o. Some (does.Push o.0 o.1)
-  plain_at words.Pop rest = two_at rest >>= λ o. Some (does.Pop o.0 o.1)
-  plain_at words.Get rest = two_with_index_at rest >>= λ o. Some (does.Get o.0 o.1 o.2)
-  plain_at words.Set rest = index_between_at rest >>= λ o. Some (does.Set o.0 o.1 o.2)
-  plain_at words.Len rest = two_at rest >>= λ o. Some (does.Len o.0 o.1)
-  plain_at words.Send rest = two_at rest >>= λ o. Some (does.Send o.0 o.1)
-  plain_at words.Recv rest = two_at rest >>= λ o. Some (does.Receive o.0 o.1)
-  plain_at words.Add rest = three_at rest >>= λ o. Some (does.Add o.0 o.1 o.2)
-  plain_at words.Print rest = register_at rest >>= λ from. Some (does.Print from)
+  plain_at words.Int rest = with_integer_at rest >>= λ o. Some (instructions.Int o.0 o.1)
+  plain_at words.List rest = register_at rest >>= λ to. Some (instructions.List to)
+  plain_at words.Dict rest = register_at rest >>= λ to. Some (instructions.Dict to)
+  plain_at words.Mailbox rest = register_at rest >>= λ to. Some (instructions.Mailbox to)
+  plain_at words.Copy rest = two_at rest >>= λ o. Some (instructions.Copy o.0 o.1)
+  plain_at words.Drop rest = register_at rest >>= λ from. Some (instructions.Drop from)
+  plain_at words.Push rest = two_at rest >>= λ o. Some (instructions.Push o.0 o.1)
+  plain_at words.Pop rest = two_at rest >>= λ o. Some (instructions.Pop o.0 o.1)
+  plain_at words.Get rest = two_with_index_at rest >>= λ o. Some (instructions.Get o.0 o.1 o.2)
+  plain_at words.Set rest = index_between_at rest >>= λ o. Some (instructions.Set o.0 o.1 o.2)
+  plain_at words.Len rest = two_at rest >>= λ o. Some (instructions.Len o.0 o.1)
+  plain_at words.Send rest = two_at rest >>= λ o. Some (instructions.Send o.0 o.1)
+  plain_at words.Recv rest = two_at rest >>= λ o. Some (instructions.Receive o.0 o.1)
+  plain_at words.Add rest = three_at rest >>= λ o. Some (instructions.Add o.0 o.1 o.2)
+  plain_at words.Print rest = register_at rest >>= λ from. Some (instructions.Print from)
   plain_at _ rest = None
 
   -- one with a text, a name or a key
@@ -56,46 +56,46 @@ module _ {A : Type 0} where
   text_at rest = do
     to ← ahead register_at rest
     text ← if_it_is is_text to.1
-    Some (does.Text to.0 text)
+    Some (instructions.Text to.0 text)
 
   unfoldable pub put_at : List ℕ → Option (Instruction A)
   put_at rest = do
     dict ← ahead register_at rest
     key ← ahead key_at dict.1
     value ← register_at key.1
-    Some (does.Put dict.0 key.0 value)
+    Some (instructions.Put dict.0 key.0 value)
 
   unfoldable pub find_at : List ℕ → Option (Instruction A)
   find_at rest = do
     to ← ahead register_at rest
     dict ← ahead register_at to.1
     key ← key_at dict.1
-    Some (does.Find to.0 dict.0 key)
+    Some (instructions.Find to.0 dict.0 key)
 
   unfoldable pub delete_at : List ℕ → Option (Instruction A)
   delete_at rest = do
     to ← ahead register_at rest
     dict ← ahead register_at to.1
     key ← key_at dict.1
-    Some (does.Delete to.0 dict.0 key)
+    Some (instructions.Delete to.0 dict.0 key)
 
   unfoldable pub share_at : List ℕ → Option (Instruction A)
   share_at rest = do
     name ← ahead (if_it_is is_name) rest
     value ← register_at name.1
-    Some (does.Share name.0 value)
+    Some (instructions.Share name.0 value)
 
   unfoldable pub fetch_at : List ℕ → Option (Instruction A)
   fetch_at rest = do
     to ← ahead register_at rest
     name ← if_it_is is_name to.1
-    Some (does.Fetch to.0 name)
+    Some (instructions.Fetch to.0 name)
 
   unfoldable pub unshare_at : List ℕ → Option (Instruction A)
   unshare_at rest = do
     to ← ahead register_at rest
     name ← if_it_is is_name to.1
-    Some (does.Unshare to.0 name)
+    Some (instructions.Unshare to.0 name)
 
   abbrev pub worded_at : FirstWord → List ℕ → Option (Instruction A)
   worded_at words.Text rest = text_at rest
@@ -119,7 +119,7 @@ module _ {A : Type 0} where
   line_at number word rest = instruction_at word rest >>= numbered number
 
   -- by the first word, and what stands behind the space after it, if there is one
-  abbrev pub row_by : ℕ → FirstWord → Option (List ℕ) → Option (Row A)
+  abbrev pub row_by : ℕ → FirstWord → Option (List ℕ) → Option (ScriptRow A)
   row_by number words.End None = Some rows.End
   row_by number words.End (Some rest) = None
   row_by number words.Section (Some rest) = if_it_is is_section_name rest >>= λ name. Some (rows.Section name)
@@ -127,7 +127,7 @@ module _ {A : Type 0} where
   row_by number _ None = None
   row_by number word (Some rest) = line_at number word rest >>= λ line. Some (rows.Does line)
 
-  unfoldable pub row_at : ℕ → List ℕ → Option (Row A)
+  unfoldable pub row_at : ℕ → List ℕ → Option (ScriptRow A)
   row_at number line =
       if is_idle line then Some rows.Idle
       else (first_word_at (cut 32 line).0 >>= λ word. row_by number word (cut 32 line).1)

@@ -14,8 +14,8 @@ use Rattle.brc_script.specs.declared.first_word.FirstWord.TheVariants as words
 use Rattle.brc_script.specs.declared.script.Piece.{Piece}
 use Rattle.brc_script.specs.declared.script.Piece.TheVariants as piece
 use Rattle.brc_script.specs.declared.script.Section.{Section}
-use Rattle.brc_script.specs.declared.row.Row.{Row}
-use Rattle.brc_script.specs.declared.row.Row.TheVariants as rows
+use Rattle.brc_script.specs.declared.row.ScriptRow.{ScriptRow}
+use Rattle.brc_script.specs.declared.row.ScriptRow.TheVariants as rows
 use Rattle.brc_script.specs.declared.progress.Progress.{Progress}
 use Rattle.brc_script.specs.Instructions.{NumberedLine}
 use Rattle.brc_script.specs.FirstWords.{first_word_at}
@@ -105,7 +105,7 @@ module _ {A : Type 0} where
   add progress line = add_by progress progress.times line
 
   -- what a line adds, by what it says and by the lines behind it; none where it can't stand there
-  abbrev pub taken : Progress A → Row A → List (List ℕ) → Option (Progress A)
+  abbrev pub taken : Progress A → ScriptRow A → List (List ℕ) → Option (Progress A)
   taken progress rows.Idle later = Some progress
   taken progress (rows.Section name) later = begin progress name
   taken progress (rows.Repeat times) later = open_repeat progress times (is_closed later)
@@ -145,12 +145,12 @@ module _ {A : Type 0} where
 -- ---- what a reader answers
 
 -- a bad line is told, and memory may run out; there is no other fault
-abbrev pub Refuses : {X : Type 0} → Fault → Result X ℕ → Type 0
-Refuses faults.OutOfMemory read = Unit {0}
-Refuses (faults.BadScript bad) read = read ≡ Err bad
-Refuses _ read = ⊥
+abbrev pub RefusesScript : {X : Type 0} → Fault → Result X ℕ → Type 0
+RefusesScript faults.OutOfMemory read = Unit {0}
+RefusesScript (faults.BadScript bad) read = read ≡ Err bad
+RefusesScript _ read = ⊥
 
 -- the answer is what the text spells
-abbrev pub Gives : {X : Type 0} → Result X Fault → Result X ℕ → Type 0
-Gives (Ok answer) read = read ≡ Ok answer
-Gives (Err fault) read = Refuses fault read
+abbrev pub ReadsScript : {X : Type 0} → Result X Fault → Result X ℕ → Type 0
+ReadsScript (Ok answer) read = read ≡ Ok answer
+ReadsScript (Err fault) read = RefusesScript fault read

@@ -1,7 +1,7 @@
 //! What the grammar of a line comes to.
 
 ghost use Rattle.std.specs.Prelude.{◌≡◌, ◌↔◌, ℕ, List, Some};
-ghost use Rattle.brc_script.specs.declared.row.Row.{Row as TheRow};
+ghost use Rattle.brc_script.specs.declared.row.ScriptRow.{ScriptRow as TheRow};
 ghost use Rattle.brc_script.specs.Rows.{row_at};
 ghost use Rattle.brc_script.specs.Texts.{Says, IsNumbered};
 

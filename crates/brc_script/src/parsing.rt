@@ -5,7 +5,7 @@ ghost use Rattle.brc_words.specs.declared.fault.Fault.TheVariants.{OutOfMemory};
 ghost use Rattle.brc_script.specs.declared.script.Section.{Section as TheSection};
 ghost use Rattle.brc_script.specs.Scripts.{IsScript};
 ghost use Rattle.brc_script.specs.Texts.{IsTextOf};
-ghost use Rattle.brc_script.specs.Walks.{lines_of, turn_at, walk, nothing, finished, script_at, Gives};
+ghost use Rattle.brc_script.specs.Walks.{lines_of, turn_at, walk, nothing, finished, script_at, ReadsScript};
 
 use crate::limits::MOST_SECTIONS;
 use crate::lines::{first_line, has_section};
@@ -40,7 +40,7 @@ fn turn<A: Allocator + Copy>(
 fn progress_of<A: Allocator + Copy>(alloc: A, text: &[u8]) -> Result<Progress<A>, Fault>
     requires { length text.now ≤ MOST_INPUT }
 
-    ensures read { Gives result (walk nothing 1 (lines_of text.now)) }
+    ensures read { ReadsScript result (walk nothing 1 (lines_of text.now)) }
     ensures few { IfOk result (λ progress. length progress.done < MOST_SECTIONS) }
 {
     let mut progress = Progress::new(alloc);
@@ -63,7 +63,7 @@ fn progress_of<A: Allocator + Copy>(alloc: A, text: &[u8]) -> Result<Progress<A>
 fn finish<A: Allocator + Copy>(progress: Progress<A>) -> Result<Script<A>, Fault>
     requires { length progress.done < MOST_SECTIONS }
 
-    ensures { Gives result (finished (Ok progress)) }
+    ensures { ReadsScript result (finished (Ok progress)) }
 {
     if progress.name.is_none() {
         return Err(Fault::BadScript { line: 1 });
@@ -74,7 +74,7 @@ fn finish<A: Allocator + Copy>(progress: Progress<A>) -> Result<Script<A>, Fault
 
 /// The script that the text spells, or its first bad line.
 fn script_of<A: Allocator + Copy>(alloc: A, text: &[u8]) -> Result<Script<A>, Fault>
-    ensures { Gives result (script_at text.now) }
+    ensures { ReadsScript result (script_at text.now) }
 {
     if text.len() > MOST_INPUT {
         return Err(Fault::BadScript { line: 0 });
@@ -94,9 +94,9 @@ pub fn parse<A: Allocator + Copy>(alloc: A, text: &[u8]) -> Result<Script<A>, Fa
     ensures found { IfOk result (λ script. IsTextOf text.now script) }
     // A script of which the text is, is answered, unless memory runs out.
     ensures only { (sections : List (TheSection A)) → IsTextOf text.now sections → IsScript sections →
-        Gives result (Ok sections) }
+        ReadsScript result (Ok sections) }
     // Which line is told.
-    ensures exact { Gives result (script_at text.now) }
+    ensures exact { ReadsScript result (script_at text.now) }
 {
     script_of(alloc, text)
 }

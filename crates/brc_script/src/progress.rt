@@ -8,7 +8,7 @@ ghost use Rattle.brc_script.specs.Walks.{add, taken, nothing};
 
 use crate::limits::MOST_SECTIONS;
 use crate::lines::is_closed;
-use crate::row::Row;
+use crate::row::ScriptRow;
 use crate::script::{Line, Piece, Section};
 use crate::sequence::Sequence;
 use brc_words::{Fault, Text};
@@ -196,25 +196,30 @@ impl<A: Allocator + Copy> Progress<A> {
     }
 
     /// With one more line, by what it says and by the text behind it; none where it can't stand there.
-    pub(crate) fn take(self, alloc: A, row: Row<A>, behind: &[u8]) -> Result<Option<Self>, Fault>
+    pub(crate) fn take(
+        self,
+        alloc: A,
+        row: ScriptRow<A>,
+        behind: &[u8],
+    ) -> Result<Option<Self>, Fault>
         ensures taken { IfOk result (λ next. next ≡ taken self row (lines_of behind.now)) }
         ensures refused { IfErr result (λ fault. fault ≡ OutOfMemory) }
     {
         match row {
-            Row::Idle => Ok(Some(self)),
-            Row::Section(name) => {
+            ScriptRow::Idle => Ok(Some(self)),
+            ScriptRow::Section(name) => {
                 let next = self.begin(alloc, name)?;
                 Ok(next)
             }
-            Row::Repeat(times) => {
+            ScriptRow::Repeat(times) => {
                 let closed = is_closed(behind);
                 Ok(self.open_repeat(alloc, times, closed))
             }
-            Row::End => {
+            ScriptRow::End => {
                 let next = self.close_repeat(alloc)?;
                 Ok(next)
             }
-            Row::Does(line) => {
+            ScriptRow::Does(line) => {
                 let next = self.add(line)?;
                 Ok(next)
             }

@@ -14,7 +14,7 @@ use std::alloc::Allocator;
 
 /// A line of a script by itself.
 #[derive(Drop)]
-pub(crate) enum Row<A: Allocator> {
+pub(crate) enum ScriptRow<A: Allocator> {
     /// An empty line, or a comment.
     Idle,
     Section(Text<A>),

@@ -10,7 +10,7 @@ use Rattle.brc_count.specs.Frames.{FrameSeen, HandleSeen}
 use Rattle.brc_count.specs.law.living.Later.{IsLater}
 use Rattle.law_isolation.specs.Asked.{Follows}
 use Rattle.brc_instructions.specs.Causes.{Caused}
-use Rattle.brc_instructions.specs.Registers.{Stands}
+use Rattle.brc_instructions.specs.Registers.{OwnsRegisters}
 use Rattle.brc_section.specs.Lines.{Led}
 use Rattle.brc_section.specs.Stepping.{WantsOfOwn}
 
@@ -39,7 +39,7 @@ module _ {A : Type 0} where
   module _ {old new : FrameSeen A} {before now : List (Option HandleSeen)} {instruction : Instruction A}
       {answer : Result (Unit {0}) Fault} where
     -- one that shares nothing leads on as is meant
-    pub led : Stands new now → new.heap ≡ old.heap → IfErr answer (λ fault. fault ≢ faults.Busy)
+    pub led : OwnsRegisters new now → new.heap ≡ old.heap → IfErr answer (λ fault. fault ≢ faults.Busy)
         → IsLater old.seat.log new.seat.log → IfErr answer (Caused old new)
         → (registers_differ instruction ≡ true → Follows old new before now instruction answer)
         → Led old new before now instruction answer
@@ -53,7 +53,7 @@ module _ {A : Type 0} where
     }
 
     -- where one leads that shares, no plain meaning tells
-    pub led_shared : Stands new now → new.heap ≡ old.heap → IfErr answer (λ fault. fault ≢ faults.Busy)
+    pub led_shared : OwnsRegisters new now → new.heap ≡ old.heap → IfErr answer (λ fault. fault ≢ faults.Busy)
         → IsLater old.seat.log new.seat.log → is_shared instruction ≡ true
         → Led old new before now instruction answer
     led_shared stands heap waits later shared = record {

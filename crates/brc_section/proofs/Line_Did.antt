@@ -3,7 +3,7 @@ use Rattle.std.proofs.Common.{◌≡◌, ◌∙◌, ℕ, List, ◌++◌, [], ◌
 use Rattle.std.proofs.Common.{sym, ap, subst, false, true≢false}
 use Rattle.brc_words.specs.declared.fault.Fault.{Fault}
 use Rattle.brc_script.specs.declared.instruction.Instruction.{Instruction}
-use Rattle.brc_script.specs.declared.instruction.Instruction.TheVariants as does
+use Rattle.brc_script.specs.declared.instruction.Instruction.TheVariants as instructions
 use Rattle.brc_count.specs.table.Seated.{TableSeen}
 use Rattle.brc_count.specs.Frames.{FrameSeen, HandleSeen, KeepsHandles, Turns}
 use Rattle.brc_count.specs.Polling.{Polled}
@@ -15,13 +15,13 @@ use Rattle.brc_count.specs.law.living.Living.{OwnLog}
 use Rattle.brc_count.specs.law.living.Later.{IsLater}
 use Rattle.brc_count.proofs.law.living.Earlier.{own_earlier, quietly_later}
 use Rattle.law_isolation.specs.Asked.{Follows}
-use Rattle.law_isolation.specs.Means.{Means, Shows}
+use Rattle.law_isolation.specs.Means.{Means, ShowsState}
 use Rattle.law_isolation.specs.Goes.{is_want}
 use Rattle.law_isolation.specs.Lines.{At}
 use Rattle.brc_count.proofs.Quiet.{turns_quietly}
 use Rattle.law_isolation.proofs.Dropping_References.{means_polled, means_worked}
 use Rattle.brc_section.specs.Stepping.{is_print}
-use Rattle.brc_section.specs.Running.{Notes, Did}
+use Rattle.brc_section.specs.Running.{NotesShown, Did}
 use Rattle.brc_section.proofs.Silent.{prints_nothing}
 
 abbrev fault_in : Result (Unit {0}) Fault → Fault → Fault
@@ -33,7 +33,7 @@ module _ {A : Type 0} where
   means_printed : (base : ℕ) (frame : FrameSeen A) (registers : List (Option HandleSeen)) (s : State A) (text : List ℕ)
       → Means base frame registers s → Means base frame registers (with_line text s)
   means_printed base frame registers s text means =
-      let shows : Shows base means.cells means.part frame registers s = means.shows
+      let shows : ShowsState base means.cells means.part frame registers s = means.shows
       in record {
         cells = means.cells;
         part = means.part;
@@ -120,8 +120,8 @@ module _ {A : Type 0} (base : ℕ) (old mid polled : FrameSeen A) (registers : L
 
   -- it was refused, or what it shows couldn't be noted
   pub print_refused : (read : Result (Shown A) Fault) (fault : Fault) → PrintsFrom from old mid registers read
-      → Notes read had has (Err fault)
-      → Did base polled registers has s (after (does.Print from) s) (Err fault)
+      → NotesShown read had has (Err fault)
+      → Did base polled registers has s (after (instructions.Print from) s) (Err fault)
   print_refused (Ok shown) fault prints notes =
       (here.same ∙ sym notes.1, λ none. absurd (true≢false (ap is_want (sym notes.0) ∙ none)))
   print_refused (Err own_fault) fault prints notes =
@@ -138,9 +138,9 @@ module _ {A : Type 0} (base : ℕ) (old mid polled : FrameSeen A) (registers : L
 
   -- it was read, and noted
   pub print_done : (read : Result (Shown A) Fault) (new : FrameSeen A) (turns : ℕ)
-      → PrintsFrom from old mid registers read → Notes read had has (Ok tt)
+      → PrintsFrom from old mid registers read → NotesShown read had has (Ok tt)
       → Turns polled turns new → KeepsHandles polled new
-      → Did base new registers has s (after (does.Print from) s) (Ok tt)
+      → Did base new registers has s (after (instructions.Print from) s) (Ok tt)
   print_done (Ok shown) new turns prints notes worked kept =
       let led = prints base s own meant_when_read
       in let printed : s.printed ++ (text_shown shown ++ 10 ∷ []) ≡ has =

@@ -13,7 +13,7 @@ use Rattle.brc_count.specs.Frames.{FrameSeen, HandleSeen, ledger_seen}
 use Rattle.brc_handles.specs.Handles.{IsBare}
 use Rattle.brc_meaning.specs.declared.state.State.{State}
 use Rattle.brc_meaning.specs.States.{start}
-use Rattle.brc_meaning.specs.Sections.{Stop, Meaning, lines_after, written_out, told, meaning}
+use Rattle.brc_meaning.specs.Sections.{SectionStop, Meaning, lines_after, written_out, told, meaning}
 use Rattle.brc_meaning.specs.Wholes.{ended}
 use Rattle.brc_meaning.proofs.WrittenOut.{section_written_out}
 use Rattle.law_means.specs.Fronts.{IsFront}
@@ -29,7 +29,7 @@ use Rattle.law_isolation.proofs.Quiet_Lives.{allocs_quietly}
 use Rattle.law_isolation.proofs.Registers_Kept.{means_begins}
 use Rattle.brc_section.specs.declared.running.Halt.{Halt}
 use Rattle.brc_section.specs.Isolation.{is_own_end, PrintsPlainly}
-use Rattle.brc_section.specs.Running.{AreOwn, Ran, HaltOf, FaultOf, Bore, MetFault, Ended}
+use Rattle.brc_section.specs.Running.{AreOwn, Ran, HaltOf, FaultOf, Bore, MetFault, SectionEnded}
 use Rattle.brc_section.proofs.Runs.{all_own}
 
 -- a fault of a section's own is none of the machine's
@@ -95,7 +95,7 @@ module _ {A : Type 0} where
   pub ended_all : (base : ℕ) (frame new : FrameSeen A) (registers : List (Option HandleSeen)) (printed : List ℕ)
       (lines : List (NumberedLine A))
       → new.heap ≡ frame.heap → Quietly frame.seat.log new.seat.log → WentOn base frame registers printed start lines
-      → Ended base new printed lines None
+      → SectionEnded base new printed lines None
   ended_all base frame new registers printed lines heap quiet went = record {
     next = went.next;
     meant = went.meant;
@@ -107,7 +107,7 @@ module _ {A : Type 0} where
       (lines : List (NumberedLine A)) (halt : Halt)
       → new.heap ≡ frame.heap → Quietly frame.seat.log new.seat.log
       → Stopped base frame registers printed start lines halt.fault halt.line
-      → Ended base new printed lines (Some halt)
+      → SectionEnded base new printed lines (Some halt)
   ended_early base frame new registers printed lines halt heap quiet stopped = (
     stopped.broke,
     λ own.
@@ -124,7 +124,7 @@ module _ {A : Type 0} where
 
   module _ (section : Section A) (base : ℕ) (frame : FrameSeen A) (after : ℕ) (printed : List ℕ)
       (own : OwnLog frame.heap.cells frame.seat.log) (same : after ≡ (ledger_seen frame).allocs) where
-    pub prints_all : Ended base frame printed (written_out section.pieces) None
+    pub prints_all : SectionEnded base frame printed (written_out section.pieces) None
         → PrintsPlainly section base after printed None
     prints_all ran =
         let meant = section_written_out section ∙ ap told ran.meant
@@ -143,7 +143,7 @@ module _ {A : Type 0} where
         → IsFront printed (meaning section).lines
     broke_front halt off =
         subst (λ (lines : List ℕ). IsFront lines (meaning section).lines)
-        (ap (λ (r : Result (State A) (Stop A)). (ended r).printed) off.meant ∙ off.same)
+        (ap (λ (r : Result (State A) (SectionStop A)). (ended r).printed) off.meant ∙ off.same)
         (front_meant section off.front off.later off.whole).lines
 
     fault_meant : (halt : Halt) → MetFault base frame printed (written_out section.pieces) halt.fault halt.line
@@ -161,7 +161,7 @@ module _ {A : Type 0} where
         }
 
     by_machines : (halt : Halt) (b : Bool) → is_machines halt.fault ≡ b
-        → Ended base frame printed (written_out section.pieces) (Some halt)
+        → SectionEnded base frame printed (written_out section.pieces) (Some halt)
         → PrintsPlainly section base after printed (Some (number_of halt.fault, halt.line))
     by_machines halt true is ends =
         let no_own : is_own_end (Some (number_of halt.fault, halt.line)) ≡ true → ⊥
@@ -176,13 +176,13 @@ module _ {A : Type 0} where
         }
     by_machines halt false is ends = fault_meant halt (ends.1 is)
 
-    pub prints_met : (halt : Halt) → Ended base frame printed (written_out section.pieces) (Some halt)
+    pub prints_met : (halt : Halt) → SectionEnded base frame printed (written_out section.pieces) (Some halt)
         → PrintsPlainly section base after printed (Some (number_of halt.fault, halt.line))
     prints_met halt ends = by_machines halt (is_machines halt.fault) refl ends
 
     -- by the fault that is told of it
     pub prints_of : (halt : Option Halt) (met : Option (ℕ × ℕ)) → FaultOf halt met
-        → Ended base frame printed (written_out section.pieces) halt
+        → SectionEnded base frame printed (written_out section.pieces) halt
         → PrintsPlainly section base after printed met
     prints_of None met is ran = subst (PrintsPlainly section base after printed) (sym is) (prints_all ran)
     prints_of (Some halt) met is ends = subst (PrintsPlainly section base after printed) (sym is) (prints_met halt ends)
@@ -193,17 +193,18 @@ module _ {A : Type 0} where
       (lines : List (NumberedLine A))
       (ran : Result (Unit {0}) Halt) (result : Option Halt) → HaltOf ran result → new.heap ≡ frame.heap
       → Quietly frame.seat.log new.seat.log
-      → Ran base frame registers printed start lines ran → Ended base new printed lines result
+      → Ran base frame registers printed start lines ran → SectionEnded base new printed lines result
   ended_of base frame new registers printed lines (Ok done) result is heap quiet went =
-      subst (Ended base new printed lines) (sym is) (ended_all base frame new registers printed lines heap quiet went)
+      subst (SectionEnded base new printed lines) (sym is)
+      (ended_all base frame new registers printed lines heap quiet went)
   ended_of base frame new registers printed lines (Err halt) result is heap quiet stopped =
-      subst (Ended base new printed lines) (sym is)
+      subst (SectionEnded base new printed lines) (sym is)
       (ended_early base frame new registers printed lines halt heap quiet stopped)
 
   -- memory for the registers was missing, at the first line
   pub ended_first : (base : ℕ) (frame : FrameSeen A) (printed : List ℕ) (lines : List (NumberedLine A)) (halt : Halt)
       → printed ≡ []
-      → is_machines halt.fault ≡ true → Ended base frame printed lines (Some halt)
+      → is_machines halt.fault ≡ true → SectionEnded base frame printed lines (Some halt)
   ended_first base frame printed lines halt none machines = (
     λ _. record { front = []; later = lines; whole = refl; next = start; meant = refl; same = sym none },
     λ own. absurd (true≢false (sym machines ∙ own)),
@@ -212,7 +213,7 @@ module _ {A : Type 0} where
   -- there is no line
   pub ended_without : (frame : FrameSeen A) (printed : List ℕ) (lines : List (NumberedLine A)) → printed ≡ []
       → lines ≡ []
-      → Ended (ledger_seen frame).allocs frame printed lines None
+      → SectionEnded (ledger_seen frame).allocs frame printed lines None
   ended_without frame printed lines none is = record {
     next = start;
     meant = ap (λ (these : List (NumberedLine A)). lines_after these start) is;
@@ -266,13 +267,14 @@ module _ {A : Type 0} where
   pub plainly : (section : Section A) (old began ran new : FrameSeen A) (none printed : List ℕ)
       (halt : Option Halt) (met : Option (ℕ × ℕ))
       → began ≡ old → none ≡ []
-      → (none ≡ [] → AreOwn (written_out section.pieces) → Ended (ledger_seen began).allocs ran printed
+      → (none ≡ [] → AreOwn (written_out section.pieces) → SectionEnded (ledger_seen began).allocs ran printed
       (written_out section.pieces) halt)
       → OwnLog ran.heap.cells ran.seat.log → new.heap ≡ ran.heap → Quietly ran.seat.log new.seat.log → FaultOf halt met
       → is_private section ≡ true → PrintsPlainly section (ledger_seen old).allocs (ledger_seen new).allocs printed met
   plainly section old began ran new none printed halt met same empty ends own heap quiet told private =
-      let ended : Ended (ledger_seen began).allocs ran printed (written_out section.pieces) halt =
+      let ended : SectionEnded (ledger_seen began).allocs ran printed (written_out section.pieces) halt =
       ends empty (own_section section private)
       in prints_of section (ledger_seen old).allocs ran (ledger_seen new).allocs printed own
       (same_allocs ran new heap quiet) halt met told
-      (subst (λ (f : FrameSeen A). Ended (ledger_seen f).allocs ran printed (written_out section.pieces) halt) same ended)
+      (subst (λ (f : FrameSeen A). SectionEnded (ledger_seen f).allocs ran printed (written_out section.pieces) halt)
+      same ended)

@@ -12,7 +12,7 @@ use Rattle.brc_script.specs.Instructions.{NumberedLine, is_shared}
 use Rattle.brc_count.specs.Frames.{FrameSeen, HandleSeen}
 use Rattle.brc_meaning.specs.declared.state.State.{State}
 use Rattle.brc_meaning.specs.Outcomes.{◌>>=◌}
-use Rattle.brc_meaning.specs.Sections.{Stop, lines_after, written_out}
+use Rattle.brc_meaning.specs.Sections.{SectionStop, lines_after, written_out}
 use Rattle.brc_meaning.specs.Steps.{after}
 use Rattle.law_isolation.specs.Goes.{is_want, is_machines}
 use Rattle.law_isolation.specs.Lines.{At, WentOn, Stopped}
@@ -88,7 +88,7 @@ module _ {A : Type 0} where
   -- ---- one line
 
   -- where its instruction leads
-  abbrev ended_with : NumberedLine A → State A → Result (State A) Fault → Result (State A) (Stop A)
+  abbrev ended_with : NumberedLine A → State A → Result (State A) Fault → Result (State A) (SectionStop A)
   ended_with line s (Ok next) = Ok next
   ended_with line s (Err fault) = Err (record { state = s; fault = fault; line = line.number })
 

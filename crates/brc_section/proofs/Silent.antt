@@ -3,7 +3,7 @@ use Rattle.std.proofs.Common.{◌≡◌, ℕ, ℤ, pos, Bool, true, false, if◌
 use Rattle.std.proofs.Common.{IfOk, refl, true≢false}
 use Rattle.brc_words.specs.declared.fault.Fault.{Fault}
 use Rattle.brc_script.specs.declared.instruction.Instruction.{Instruction}
-use Rattle.brc_script.specs.declared.instruction.Instruction.TheVariants as does
+use Rattle.brc_script.specs.declared.instruction.Instruction.TheVariants as instructions
 use Rattle.brc_meaning.specs.declared.reference.Reference.{Reference}
 use Rattle.brc_meaning.specs.declared.reference.Reference.TheVariants as references
 use Rattle.brc_meaning.specs.declared.call.Call.TheVariants as calls
@@ -44,64 +44,64 @@ module _ {A : Type 0} where
 
   pub prints_nothing : (instruction : Instruction A) (s : State A) → is_print instruction ≡ false
       → IfOk (after instruction s) (Same s)
-  prints_nothing (does.Int to number) s silent = integer_same number to s
-  prints_nothing (does.Text to text) s silent = refl
-  prints_nothing (does.List to) s silent = refl
-  prints_nothing (does.Dict to) s silent = refl
-  prints_nothing (does.Mailbox to) s silent = refl
-  prints_nothing (does.Copy to from) s silent = through (Same s) (held from s.registers) _ (λ reference. refl)
-  prints_nothing (does.Drop from) s silent = through (Same s) (held from s.registers) _ (λ reference. refl)
-  prints_nothing (does.Push list value) s silent =
+  prints_nothing (instructions.Int to number) s silent = integer_same number to s
+  prints_nothing (instructions.Text to text) s silent = refl
+  prints_nothing (instructions.List to) s silent = refl
+  prints_nothing (instructions.Dict to) s silent = refl
+  prints_nothing (instructions.Mailbox to) s silent = refl
+  prints_nothing (instructions.Copy to from) s silent = through (Same s) (held from s.registers) _ (λ reference. refl)
+  prints_nothing (instructions.Drop from) s silent = through (Same s) (held from s.registers) _ (λ reference. refl)
+  prints_nothing (instructions.Push list value) s silent =
       through (Same s) (held value s.registers) _ (λ given. called_same (object_call (calls.Push given)) list value s)
-  prints_nothing (does.Pop to list) s silent = called_same (object_call calls.Pop) list to s
-  prints_nothing (does.Get to list index) s silent = called_same (object_call (calls.Get index)) list to s
-  prints_nothing (does.Set list index value) s silent =
+  prints_nothing (instructions.Pop to list) s silent = called_same (object_call calls.Pop) list to s
+  prints_nothing (instructions.Get to list index) s silent = called_same (object_call (calls.Get index)) list to s
+  prints_nothing (instructions.Set list index value) s silent =
       through (Same s) (held value s.registers) _
       (λ given. called_same (object_call (calls.Set index given)) list value s)
-  prints_nothing (does.Len to container) s silent =
+  prints_nothing (instructions.Len to container) s silent =
       through (Same s) (held container s.registers) _
       (λ reference. through (Same s) (asked entries_in reference s.objects) _
       (λ entries. integer_same (pos entries) to s))
-  prints_nothing (does.Put dict key value) s silent =
+  prints_nothing (instructions.Put dict key value) s silent =
       through (Same s) (held value s.registers) _ (λ given. called_same (keyed_call key (keyed.Put given)) dict value s)
-  prints_nothing (does.Find to dict key) s silent = called_same (keyed_call key keyed.Find) dict to s
-  prints_nothing (does.Delete to dict key) s silent = called_same (keyed_call key keyed.Delete) dict to s
-  prints_nothing (does.Send mailbox value) s silent =
+  prints_nothing (instructions.Find to dict key) s silent = called_same (keyed_call key keyed.Find) dict to s
+  prints_nothing (instructions.Delete to dict key) s silent = called_same (keyed_call key keyed.Delete) dict to s
+  prints_nothing (instructions.Send mailbox value) s silent =
       through (Same s) (held value s.registers) _
       (λ given. called_same (object_call (calls.Send given)) mailbox value s)
-  prints_nothing (does.Receive to mailbox) s silent = called_same (object_call calls.Receive) mailbox to s
-  prints_nothing (does.Add to first second) s silent =
+  prints_nothing (instructions.Receive to mailbox) s silent = called_same (object_call calls.Receive) mailbox to s
+  prints_nothing (instructions.Add to first second) s silent =
       through (Same s) (held first s.registers) _ (λ one. through (Same s) (held second s.registers) _ (λ other.
       through (Same s) (asked number_in one s.objects) _
       (λ number. through (Same s) (asked number_in other s.objects) _ (λ more.
       through (Same s) (integer_sum number more) _ (λ sum. integer_same sum to s)))))
-  prints_nothing (does.Print from) s silent = absurd (true≢false silent)
-  prints_nothing (does.Share name value) s silent = refl
-  prints_nothing (does.Fetch to name) s silent = refl
-  prints_nothing (does.Unshare to name) s silent = refl
+  prints_nothing (instructions.Print from) s silent = absurd (true≢false silent)
+  prints_nothing (instructions.Share name value) s silent = refl
+  prints_nothing (instructions.Fetch to name) s silent = refl
+  prints_nothing (instructions.Unshare to name) s silent = refl
 
   -- one that isn't `print`
-  pub silent_of : (instruction : Instruction A) → ((from : ℕ) → instruction ≡ does.Print from → ⊥)
+  pub silent_of : (instruction : Instruction A) → ((from : ℕ) → instruction ≡ instructions.Print from → ⊥)
       → is_print instruction ≡ false
-  silent_of (does.Int to number) other = refl
-  silent_of (does.Text to text) other = refl
-  silent_of (does.List to) other = refl
-  silent_of (does.Dict to) other = refl
-  silent_of (does.Mailbox to) other = refl
-  silent_of (does.Copy to from) other = refl
-  silent_of (does.Drop from) other = refl
-  silent_of (does.Push list value) other = refl
-  silent_of (does.Pop to list) other = refl
-  silent_of (does.Get to list index) other = refl
-  silent_of (does.Set list index value) other = refl
-  silent_of (does.Len to container) other = refl
-  silent_of (does.Put dict key value) other = refl
-  silent_of (does.Find to dict key) other = refl
-  silent_of (does.Delete to dict key) other = refl
-  silent_of (does.Send mailbox value) other = refl
-  silent_of (does.Receive to mailbox) other = refl
-  silent_of (does.Add to first second) other = refl
-  silent_of (does.Print from) other = absurd (other from refl)
-  silent_of (does.Share name value) other = refl
-  silent_of (does.Fetch to name) other = refl
-  silent_of (does.Unshare to name) other = refl
+  silent_of (instructions.Int to number) other = refl
+  silent_of (instructions.Text to text) other = refl
+  silent_of (instructions.List to) other = refl
+  silent_of (instructions.Dict to) other = refl
+  silent_of (instructions.Mailbox to) other = refl
+  silent_of (instructions.Copy to from) other = refl
+  silent_of (instructions.Drop from) other = refl
+  silent_of (instructions.Push list value) other = refl
+  silent_of (instructions.Pop to list) other = refl
+  silent_of (instructions.Get to list index) other = refl
+  silent_of (instructions.Set list index value) other = refl
+  silent_of (instructions.Len to container) other = refl
+  silent_of (instructions.Put dict key value) other = refl
+  silent_of (instructions.Find to dict key) other = refl
+  silent_of (instructions.Delete to dict key) other = refl
+  silent_of (instructions.Send mailbox value) other = refl
+  silent_of (instructions.Receive to mailbox) other = refl
+  silent_of (instructions.Add to first second) other = refl
+  silent_of (instructions.Print from) other = absurd (other from refl)
+  silent_of (instructions.Share name value) other = refl
+  silent_of (instructions.Fetch to name) other = refl
+  silent_of (instructions.Unshare to name) other = refl

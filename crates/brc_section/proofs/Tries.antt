@@ -12,12 +12,12 @@ use Rattle.brc_meaning.specs.Steps.{after}
 use Rattle.brc_count.specs.law.living.Living.{OwnLog}
 use Rattle.brc_count.specs.law.living.Later.{IsLater}
 use Rattle.brc_count.proofs.law.living.Earlier.{own_earlier, later_same, later_both, quietly_later}
-use Rattle.law_isolation.specs.Goes.{is_want, Goes}
+use Rattle.law_isolation.specs.Goes.{is_want, LedAsMeant}
 use Rattle.law_isolation.specs.Asked.{Follows}
 use Rattle.brc_count.proofs.Quiet.{turns_quietly, polled_quietly}
 use Rattle.law_isolation.proofs.Dropping_References.{means_polled, means_worked}
-use Rattle.brc_section.specs.declared.waiting.Awaited.{Awaited}
-use Rattle.brc_section.specs.declared.waiting.Awaited.TheVariants as awaits
+use Rattle.brc_section.specs.declared.waiting.AwaitedHere.{AwaitedHere}
+use Rattle.brc_section.specs.declared.waiting.AwaitedHere.TheVariants as awaits
 use Rattle.brc_instructions.specs.Causes.{Caused}
 use Rattle.brc_instructions.proofs.Causes_Of.{caused_from}
 use Rattle.brc_section.specs.Waiting.{FoundNothing, WantsForLetter}
@@ -86,8 +86,8 @@ module _ {A : Type 0} where
         heap = heap ∙ stays.heap;
         later = later_both old.seat.log frame.seat.log new.seat.log stays.later later;
         means = λ base s own means.
-            let goes : Goes base new now s (after instruction s) (Err fault.0)
-            = subst (Goes base new now s (after instruction s)) fault.1
+            let goes : LedAsMeant base new now s (after instruction s) (Err fault.0)
+            = subst (LedAsMeant base new now s (after instruction s)) fault.1
             (follows base s own (stays.means base s (own_at frame new heap later own) means))
             in (goes fault.2).1;
       }
@@ -103,18 +103,19 @@ module _ {A : Type 0} where
 
 module _ {A : Type 0} where
   -- the register in which a letter is awaited
-  abbrev letter_in : Awaited A → ℕ
+  abbrev letter_in : AwaitedHere A → ℕ
   letter_in (awaits.Name key) = 0
   letter_in (awaits.Letter mailbox) = mailbox
 
   -- a fault with its cause has it where a letter is awaited
-  pub for_letter : (awaited : Awaited A) (old new : FrameSeen A) (tried : Result (Unit {0}) Fault)
+  pub for_letter : (awaited : AwaitedHere A) (old new : FrameSeen A) (tried : Result (Unit {0}) Fault)
       → IfErr tried (Caused old new) → IfErr tried (WantsForLetter awaited old new)
   for_letter awaited old new (Ok done) why = tt
   for_letter awaited old new (Err fault) why = λ mailbox is. why
 
   -- who waits for a name waits for no letter
-  pub no_letter : (awaited : Awaited A) {key : Bor (Key A)} (old new : FrameSeen A) (tried : Result (Unit {0}) Fault)
+  pub no_letter : (awaited : AwaitedHere A) {key : Bor (Key A)} (old new : FrameSeen A)
+      (tried : Result (Unit {0}) Fault)
       → awaited ≡ awaits.Name key → IfErr tried (WantsForLetter awaited old new)
   no_letter awaited old new (Ok done) name = tt
   no_letter awaited {key = key} old new (Err fault) name = λ mailbox is.
@@ -126,12 +127,12 @@ module _ {A : Type 0} where
   letters_cause old new mailbox (Err fault) why = why mailbox refl
 
   -- what went before the tries is no matter
-  pub letter_from : (awaited : Awaited A) (old mid new : FrameSeen A) (tried : Result (Unit {0}) Fault)
+  pub letter_from : (awaited : AwaitedHere A) (old mid new : FrameSeen A) (tried : Result (Unit {0}) Fault)
       → mid.heap ≡ old.heap → IsLater old.seat.log mid.seat.log
       → IfErr tried (WantsForLetter awaited mid new) → IfErr tried (WantsForLetter awaited old new)
   letter_from awaited old mid new (Ok done) heap later why = tt
   letter_from awaited old mid new (Err fault) heap later why =
       λ mailbox is. caused_from old mid new fault heap later (why mailbox is)
 
-  pub same_letter : (a b : ℕ) (awaited : Awaited A) → awaited ≡ awaits.Letter a → awaited ≡ awaits.Letter b → a ≡ b
+  pub same_letter : (a b : ℕ) (awaited : AwaitedHere A) → awaited ≡ awaits.Letter a → awaited ≡ awaits.Letter b → a ≡ b
   same_letter a b awaited one other = sym (ap letter_in one) ∙ ap letter_in other

@@ -18,7 +18,7 @@ use Rattle.brc_instructions.specs.declared.shown.Shown.{Shown}
 use Rattle.brc_instructions.specs.Causes.{NoneWasFree, WantsNoRoom, Caused}
 use Rattle.brc_instructions.proofs.Causes_Of.{uncaused, uncaused_memory, caused_from, caused_on, none_quietly, born_quietly}
 use Rattle.brc_section.specs.declared.running.Halt.{Halt}
-use Rattle.brc_section.specs.Running.{AreOwn, Notes, HaltOf, FaultOf}
+use Rattle.brc_section.specs.Running.{AreOwn, NotesShown, HaltOf, FaultOf}
 use Rattle.brc_section.specs.Wants.{HaltsForCause, CauseLeft}
 use Rattle.brc_section.proofs.Plainly.{own_section, halt_told}
 
@@ -46,7 +46,7 @@ module _ {A : Type 0} where
 
   -- what it shows couldn't be read, or noted
   pub caused_noted : (old new : FrameSeen A) (had has : List ℕ) (read : Result (Shown A) Fault) (fault : Fault)
-      → IfErr read WantsNoRoom → Notes read had has (Err fault) → Caused old new fault
+      → IfErr read WantsNoRoom → NotesShown read had has (Err fault) → Caused old new fault
   caused_noted old new had has (Ok shown) fault room notes = uncaused_memory old new fault notes.0
   caused_noted old new had has (Err own_fault) fault room notes =
       let same : own_fault ≡ fault = sym (ap (λ (r : Result (Unit {0}) Fault). fault_in r fault) notes.0)

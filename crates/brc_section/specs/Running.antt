@@ -23,8 +23,8 @@ module _ {A : Type 0} where
   AreOwn (line ∷ lines) = (is_shared line.instruction ≡ false) × AreOwn lines
 
   -- What was shown is noted; or memory for it was missing, and nothing is. A fault stays a fault.
-  abbrev pub Notes : Result (Shown A) Fault → List ℕ → List ℕ → Result (Unit {0}) Fault → Type 0
-  Notes read had has result = MatchResult read
+  abbrev pub NotesShown : Result (Shown A) Fault → List ℕ → List ℕ → Result (Unit {0}) Fault → Type 0
+  NotesShown read had has result = MatchResult read
       (λ shown. MatchResult result (λ _. has ≡ had ++ (text_shown shown ++ 10 ∷ []))
       (λ fault. (fault ≡ faults.OutOfMemory) × (has ≡ had)))
       (λ fault. (result ≡ Err fault) × (has ≡ had))
@@ -77,8 +77,8 @@ module _ {A : Type 0} where
     pub bore : Bore base frame next
 
   -- a section's lines were all run; or one of the machine's faults broke them off; or a line met its own
-  abbrev pub Ended : ℕ → FrameSeen A → List ℕ → List (NumberedLine A) → Option Halt → Type 0
-  Ended base frame printed lines result = MatchOption result
+  abbrev pub SectionEnded : ℕ → FrameSeen A → List ℕ → List (NumberedLine A) → Option Halt → Type 0
+  SectionEnded base frame printed lines result = MatchOption result
       (RanAll base frame printed lines)
       (λ halt. (is_machines halt.fault ≡ true → BrokeOff printed start lines)
       × (is_machines halt.fault ≡ false → MetFault base frame printed lines halt.fault halt.line))

@@ -10,7 +10,7 @@
 ghost use Rattle.std.specs.Prelude.{◌≡◌, IfOk, IfErr};
 ghost use Rattle.brc_words.specs.declared.fault.Fault.TheVariants.{OutOfMemory};
 
-use crate::standings::{Standing, Standings};
+use crate::standings::{SectionStanding, Standings};
 use brc_words::Fault;
 use std::alloc::Allocator;
 use std::sync::atomic::{AtomicU32, Ordering};
@@ -45,7 +45,7 @@ impl<A: Allocator> Board<A> {
     /// The section has ended. Others needn't wait for it.
     pub fn end(&self, rt: &impl Wait, number: u32) {
         let mut standings = self.standings.lock(rt);
-        standings.set(number, Standing::Ended);
+        standings.set(number, SectionStanding::Ended);
         if standings.settle() {
             self.stirred.notify_all();
         }
@@ -53,7 +53,7 @@ impl<A: Allocator> Board<A> {
 
     /// Whether the section has ended.
     pub fn has_ended(&self, rt: &impl Wait, number: u32) -> bool {
-        self.standings.lock(rt).of(number) == Standing::Ended
+        self.standings.lock(rt).of(number) == SectionStanding::Ended
     }
 
     /// Something has changed that others may look or wait for. It costs one load where nobody does.
@@ -75,7 +75,7 @@ impl<A: Allocator> Board<A> {
     /// The section begins to look for something. It ends by `found` or by `waits`.
     pub(crate) fn looks(&self, rt: &impl Wait, number: u32) {
         self.looking.fetch_add(1, Ordering::SeqCst);
-        self.standings.lock(rt).set(number, Standing::Tries);
+        self.standings.lock(rt).set(number, SectionStanding::Tries);
     }
 
     /// It found it, or can't have it.
@@ -93,8 +93,8 @@ impl<A: Allocator> Board<A> {
     fn sleeps(&self, rt: &impl Wait, number: u32) -> bool {
         let mut standings = self.standings.lock(rt);
         // Where something has changed since the look, the section runs again already.
-        if standings.of(number) == Standing::Tries {
-            standings.set(number, Standing::Waits);
+        if standings.of(number) == SectionStanding::Tries {
+            standings.set(number, SectionStanding::Waits);
         }
         if standings.settle() {
             self.stirred.notify_all();
@@ -102,10 +102,10 @@ impl<A: Allocator> Board<A> {
         let mut standings = self.stirred.wait_while(
             rt,
             standings,
-            |standings| standings.of(number) == Standing::Waits,
+            |standings| standings.of(number) == SectionStanding::Waits,
         );
-        if standings.of(number) == Standing::GivesUp {
-            standings.set(number, Standing::Runs);
+        if standings.of(number) == SectionStanding::GivesUp {
+            standings.set(number, SectionStanding::Runs);
             return false;
         }
         true

@@ -11,9 +11,9 @@
 mod board;
 mod gate;
 mod lines;
-mod names;
 mod running;
 mod section;
+mod shared_names;
 mod standings;
 mod stepping;
 mod waiting;

@@ -1,22 +1,22 @@
 //! Each kind of line, as a function of its own.
 //!
 //! The loop over a section's lines calls them. None is inlined, and each takes only registers, numbers and references.
-//! So the `Take`, `Give` or `Await` of a line lies in that function's own stack frame. In the loop LLVM would set
+//! So the `PutIn`, `TakeOut` or `Await` of a line lies in that function's own stack frame. In the loop LLVM would set
 //! each of these to zero for every line, whatever its kind.
 //!
 //! What each ensures is `Led`, of the instruction that it is for (`specs/Lines.antt`).
 
 ghost use Rattle.std.specs.Prelude.{◌≡◌};
-ghost use Rattle.brc_script.specs.declared.instruction.Instruction.TheVariants as does;
-ghost use Rattle.brc_instructions.specs.Registers.{Stands};
+ghost use Rattle.brc_script.specs.declared.instruction.Instruction.TheVariants as instructions;
+ghost use Rattle.brc_instructions.specs.Registers.{OwnsRegisters};
 ghost use Rattle.brc_section.specs.Lines.{Led};
 
-use crate::waiting::{Await, Awaited, Look, Seated};
+use crate::waiting::{Await, AwaitedHere, LookTry, SectionContext};
 use brc_count::Frame;
-use brc_count::biased::Home;
+use brc_count::biased::HasTable;
 use brc_instructions::{
-    Add, CopyHeld, Does, Done, DropHeld, Empty, Give, Giving, Len, MakeEmpty, MakeInt, MakeText,
-    Registers, Take, Taking,
+    Add, CopyHeld, Done, DropHeld, Empty, Execute, Len, MakeEmpty, MakeInt, MakeText, PutIn,
+    Putting, Registers, TakeOut, TakingOut,
 };
 use brc_script::Register;
 use brc_words::{Key, Text};
@@ -25,7 +25,11 @@ use std::sync::Wait;
 
 /// Others may wait for what the instruction has changed.
 #[inline(always)]
-pub(crate) fn stirs<R: Wait, A: Allocator>(rt: &R, done: Done, seated: &Seated<'_, A>) -> Done
+pub(crate) fn stirs<R: Wait, A: Allocator>(
+    rt: &R,
+    done: Done,
+    seated: &SectionContext<'_, A>,
+) -> Done
     ensures { result ≡ done }
 {
     if done.is_ok() {
@@ -36,7 +40,7 @@ pub(crate) fn stirs<R: Wait, A: Allocator>(rt: &R, done: Done, seated: &Seated<'
 
 /// `int`: a new integer.
 #[inline(never)]
-pub(crate) fn int_line<R: Wait, H: Home<A>, A: Allocator + Copy>(
+pub(crate) fn int_line<R: Wait, H: HasTable<A>, A: Allocator + Copy>(
     rt: &R,
     alloc: A,
     frame: &mut Frame<H, A>,
@@ -44,15 +48,15 @@ pub(crate) fn int_line<R: Wait, H: Home<A>, A: Allocator + Copy>(
     to: Register,
     number: i64,
 ) -> Done
-    requires stands { Stands frame.old registers.old }
-    ensures led { Led frame.old frame.new registers.old registers.new (does.Int to number) result }
+    requires stands { OwnsRegisters frame.old registers.old }
+    ensures led { Led frame.old frame.new registers.old registers.new (instructions.Int to number) result }
 {
     MakeInt { to, number }.act(rt, alloc, frame, registers)
 }
 
 /// `text`: a new text, with these bytes.
 #[inline(never)]
-pub(crate) fn text_line<R: Wait, H: Home<A>, A: Allocator + Copy>(
+pub(crate) fn text_line<R: Wait, H: HasTable<A>, A: Allocator + Copy>(
     rt: &R,
     alloc: A,
     frame: &mut Frame<H, A>,
@@ -60,22 +64,22 @@ pub(crate) fn text_line<R: Wait, H: Home<A>, A: Allocator + Copy>(
     to: Register,
     text: &Text<A>,
 ) -> Done
-    requires stands { Stands frame.old registers.old }
-    ensures led { Led frame.old frame.new registers.old registers.new (does.Text to text.now) result }
+    requires stands { OwnsRegisters frame.old registers.old }
+    ensures led { Led frame.old frame.new registers.old registers.new (instructions.Text to text.now) result }
 {
     MakeText { to, text }.act(rt, alloc, frame, registers)
 }
 
 /// `list`: a new list.
 #[inline(never)]
-pub(crate) fn list_line<R: Wait, H: Home<A>, A: Allocator + Copy>(
+pub(crate) fn list_line<R: Wait, H: HasTable<A>, A: Allocator + Copy>(
     rt: &R,
     alloc: A,
     frame: &mut Frame<H, A>,
     registers: &mut Registers<A>,
     to: Register,
 ) -> Done
-    requires stands { Stands frame.old registers.old }
+    requires stands { OwnsRegisters frame.old registers.old }
     ensures led { Led frame.old frame.new registers.old registers.new (does.«List» to) result }
 {
     let empty = Empty::List;
@@ -84,15 +88,15 @@ pub(crate) fn list_line<R: Wait, H: Home<A>, A: Allocator + Copy>(
 
 /// `dict`: a new dictionary.
 #[inline(never)]
-pub(crate) fn dict_line<R: Wait, H: Home<A>, A: Allocator + Copy>(
+pub(crate) fn dict_line<R: Wait, H: HasTable<A>, A: Allocator + Copy>(
     rt: &R,
     alloc: A,
     frame: &mut Frame<H, A>,
     registers: &mut Registers<A>,
     to: Register,
 ) -> Done
-    requires stands { Stands frame.old registers.old }
-    ensures led { Led frame.old frame.new registers.old registers.new (does.Dict to) result }
+    requires stands { OwnsRegisters frame.old registers.old }
+    ensures led { Led frame.old frame.new registers.old registers.new (instructions.Dict to) result }
 {
     let empty = Empty::Dict;
     MakeEmpty { to, empty }.act(rt, alloc, frame, registers)
@@ -100,15 +104,15 @@ pub(crate) fn dict_line<R: Wait, H: Home<A>, A: Allocator + Copy>(
 
 /// `mailbox`: a new mailbox.
 #[inline(never)]
-pub(crate) fn mailbox_line<R: Wait, H: Home<A>, A: Allocator + Copy>(
+pub(crate) fn mailbox_line<R: Wait, H: HasTable<A>, A: Allocator + Copy>(
     rt: &R,
     alloc: A,
     frame: &mut Frame<H, A>,
     registers: &mut Registers<A>,
     to: Register,
 ) -> Done
-    requires stands { Stands frame.old registers.old }
-    ensures led { Led frame.old frame.new registers.old registers.new (does.Mailbox to) result }
+    requires stands { OwnsRegisters frame.old registers.old }
+    ensures led { Led frame.old frame.new registers.old registers.new (instructions.Mailbox to) result }
 {
     let empty = Empty::Mailbox;
     MakeEmpty { to, empty }.act(rt, alloc, frame, registers)
@@ -116,7 +120,7 @@ pub(crate) fn mailbox_line<R: Wait, H: Home<A>, A: Allocator + Copy>(
 
 /// `copy`: one reference more.
 #[inline(never)]
-pub(crate) fn copy_line<R: Wait, H: Home<A>, A: Allocator + Copy>(
+pub(crate) fn copy_line<R: Wait, H: HasTable<A>, A: Allocator + Copy>(
     rt: &R,
     alloc: A,
     frame: &mut Frame<H, A>,
@@ -124,45 +128,45 @@ pub(crate) fn copy_line<R: Wait, H: Home<A>, A: Allocator + Copy>(
     to: Register,
     from: Register,
 ) -> Done
-    requires stands { Stands frame.old registers.old }
-    ensures led { Led frame.old frame.new registers.old registers.new (does.Copy to from) result }
+    requires stands { OwnsRegisters frame.old registers.old }
+    ensures led { Led frame.old frame.new registers.old registers.new (instructions.Copy to from) result }
 {
     CopyHeld { to, from }.act(rt, alloc, frame, registers)
 }
 
 /// `drop`: the register's reference is released.
 #[inline(never)]
-pub(crate) fn drop_line<R: Wait, H: Home<A>, A: Allocator + Copy>(
+pub(crate) fn drop_line<R: Wait, H: HasTable<A>, A: Allocator + Copy>(
     rt: &R,
     alloc: A,
     frame: &mut Frame<H, A>,
     registers: &mut Registers<A>,
     from: Register,
 ) -> Done
-    requires stands { Stands frame.old registers.old }
-    ensures led { Led frame.old frame.new registers.old registers.new (does.Drop from) result }
+    requires stands { OwnsRegisters frame.old registers.old }
+    ensures led { Led frame.old frame.new registers.old registers.new (instructions.Drop from) result }
 {
     DropHeld { from }.act(rt, alloc, frame, registers)
 }
 
 /// `push`: the value becomes the list's last entry.
 #[inline(never)]
-pub(crate) fn push_line<R: Wait, H: Home<A>, A: Allocator + Copy>(
+pub(crate) fn push_line<R: Wait, H: HasTable<A>, A: Allocator + Copy>(
     rt: &R,
     alloc: A,
     frame: &mut Frame<H, A>,
     registers: &mut Registers<A>,
     list: Register,
     value: Register,
-    seated: &Seated<'_, A>,
+    seated: &SectionContext<'_, A>,
 ) -> Done
-    requires stands { Stands frame.old registers.old }
-    ensures led { Led frame.old frame.new registers.old registers.new (does.Push list value) result }
+    requires stands { OwnsRegisters frame.old registers.old }
+    ensures led { Led frame.old frame.new registers.old registers.new (instructions.Push list value) result }
 {
-    let take = Take {
+    let take = PutIn {
         container: list,
         value,
-        taking: Taking::Push,
+        taking: Putting::Push,
     };
     let done = take.act(rt, alloc, frame, registers);
     stirs(rt, done, seated)
@@ -170,22 +174,22 @@ pub(crate) fn push_line<R: Wait, H: Home<A>, A: Allocator + Copy>(
 
 /// `pop`: the list's last entry comes out.
 #[inline(never)]
-pub(crate) fn pop_line<R: Wait, H: Home<A>, A: Allocator + Copy>(
+pub(crate) fn pop_line<R: Wait, H: HasTable<A>, A: Allocator + Copy>(
     rt: &R,
     alloc: A,
     frame: &mut Frame<H, A>,
     registers: &mut Registers<A>,
     to: Register,
     list: Register,
-    seated: &Seated<'_, A>,
+    seated: &SectionContext<'_, A>,
 ) -> Done
-    requires stands { Stands frame.old registers.old }
-    ensures led { Led frame.old frame.new registers.old registers.new (does.Pop to list) result }
+    requires stands { OwnsRegisters frame.old registers.old }
+    ensures led { Led frame.old frame.new registers.old registers.new (instructions.Pop to list) result }
 {
-    let give = Give {
+    let give = TakeOut {
         to,
         container: list,
-        giving: Giving::Pop,
+        giving: TakingOut::Pop,
     };
     let done = give.act(rt, alloc, frame, registers);
     stirs(rt, done, seated)
@@ -193,7 +197,7 @@ pub(crate) fn pop_line<R: Wait, H: Home<A>, A: Allocator + Copy>(
 
 /// `get`: one reference more to the list's entry at this index.
 #[inline(never)]
-pub(crate) fn get_line<R: Wait, H: Home<A>, A: Allocator + Copy>(
+pub(crate) fn get_line<R: Wait, H: HasTable<A>, A: Allocator + Copy>(
     rt: &R,
     alloc: A,
     frame: &mut Frame<H, A>,
@@ -202,20 +206,20 @@ pub(crate) fn get_line<R: Wait, H: Home<A>, A: Allocator + Copy>(
     list: Register,
     index: u32,
 ) -> Done
-    requires stands { Stands frame.old registers.old }
-    ensures led { Led frame.old frame.new registers.old registers.new (does.Get to list index) result }
+    requires stands { OwnsRegisters frame.old registers.old }
+    ensures led { Led frame.old frame.new registers.old registers.new (instructions.Get to list index) result }
 {
-    let give = Give {
+    let give = TakeOut {
         to,
         container: list,
-        giving: Giving::Get(index),
+        giving: TakingOut::Get(index),
     };
     give.act(rt, alloc, frame, registers)
 }
 
 /// `set`: the value takes the place of the list's entry, which comes out.
 #[inline(never)]
-pub(crate) fn set_line<R: Wait, H: Home<A>, A: Allocator + Copy>(
+pub(crate) fn set_line<R: Wait, H: HasTable<A>, A: Allocator + Copy>(
     rt: &R,
     alloc: A,
     frame: &mut Frame<H, A>,
@@ -223,15 +227,15 @@ pub(crate) fn set_line<R: Wait, H: Home<A>, A: Allocator + Copy>(
     list: Register,
     index: u32,
     value: Register,
-    seated: &Seated<'_, A>,
+    seated: &SectionContext<'_, A>,
 ) -> Done
-    requires stands { Stands frame.old registers.old }
-    ensures led { Led frame.old frame.new registers.old registers.new (does.Set list index value) result }
+    requires stands { OwnsRegisters frame.old registers.old }
+    ensures led { Led frame.old frame.new registers.old registers.new (instructions.Set list index value) result }
 {
-    let take = Take {
+    let take = PutIn {
         container: list,
         value,
-        taking: Taking::Set(index),
+        taking: Putting::Set(index),
     };
     let done = take.act(rt, alloc, frame, registers);
     stirs(rt, done, seated)
@@ -239,7 +243,7 @@ pub(crate) fn set_line<R: Wait, H: Home<A>, A: Allocator + Copy>(
 
 /// `len`: the number of entries, as a new integer.
 #[inline(never)]
-pub(crate) fn len_line<R: Wait, H: Home<A>, A: Allocator + Copy>(
+pub(crate) fn len_line<R: Wait, H: HasTable<A>, A: Allocator + Copy>(
     rt: &R,
     alloc: A,
     frame: &mut Frame<H, A>,
@@ -247,15 +251,15 @@ pub(crate) fn len_line<R: Wait, H: Home<A>, A: Allocator + Copy>(
     to: Register,
     container: Register,
 ) -> Done
-    requires stands { Stands frame.old registers.old }
-    ensures led { Led frame.old frame.new registers.old registers.new (does.Len to container) result }
+    requires stands { OwnsRegisters frame.old registers.old }
+    ensures led { Led frame.old frame.new registers.old registers.new (instructions.Len to container) result }
 {
     Len { to, container }.act(rt, alloc, frame, registers)
 }
 
 /// `put`: the value goes beside the key, and an old value comes out.
 #[inline(never)]
-pub(crate) fn put_line<R: Wait, H: Home<A>, A: Allocator + Copy>(
+pub(crate) fn put_line<R: Wait, H: HasTable<A>, A: Allocator + Copy>(
     rt: &R,
     alloc: A,
     frame: &mut Frame<H, A>,
@@ -263,15 +267,15 @@ pub(crate) fn put_line<R: Wait, H: Home<A>, A: Allocator + Copy>(
     dict: Register,
     key: &Key<A>,
     value: Register,
-    seated: &Seated<'_, A>,
+    seated: &SectionContext<'_, A>,
 ) -> Done
-    requires stands { Stands frame.old registers.old }
-    ensures led { Led frame.old frame.new registers.old registers.new (does.Put dict key.now value) result }
+    requires stands { OwnsRegisters frame.old registers.old }
+    ensures led { Led frame.old frame.new registers.old registers.new (instructions.Put dict key.now value) result }
 {
-    let take = Take {
+    let take = PutIn {
         container: dict,
         value,
-        taking: Taking::Put(key),
+        taking: Putting::Put(key),
     };
     let done = take.act(rt, alloc, frame, registers);
     stirs(rt, done, seated)
@@ -279,7 +283,7 @@ pub(crate) fn put_line<R: Wait, H: Home<A>, A: Allocator + Copy>(
 
 /// `find`: one reference more to the value beside the key.
 #[inline(never)]
-pub(crate) fn find_line<R: Wait, H: Home<A>, A: Allocator + Copy>(
+pub(crate) fn find_line<R: Wait, H: HasTable<A>, A: Allocator + Copy>(
     rt: &R,
     alloc: A,
     frame: &mut Frame<H, A>,
@@ -288,20 +292,20 @@ pub(crate) fn find_line<R: Wait, H: Home<A>, A: Allocator + Copy>(
     dict: Register,
     key: &Key<A>,
 ) -> Done
-    requires stands { Stands frame.old registers.old }
-    ensures led { Led frame.old frame.new registers.old registers.new (does.Find to dict key.now) result }
+    requires stands { OwnsRegisters frame.old registers.old }
+    ensures led { Led frame.old frame.new registers.old registers.new (instructions.Find to dict key.now) result }
 {
-    let give = Give {
+    let give = TakeOut {
         to,
         container: dict,
-        giving: Giving::Find(key),
+        giving: TakingOut::Find(key),
     };
     give.act(rt, alloc, frame, registers)
 }
 
 /// `del`: the value beside the key comes out, and its pair is removed.
 #[inline(never)]
-pub(crate) fn delete_line<R: Wait, H: Home<A>, A: Allocator + Copy>(
+pub(crate) fn delete_line<R: Wait, H: HasTable<A>, A: Allocator + Copy>(
     rt: &R,
     alloc: A,
     frame: &mut Frame<H, A>,
@@ -309,15 +313,15 @@ pub(crate) fn delete_line<R: Wait, H: Home<A>, A: Allocator + Copy>(
     to: Register,
     dict: Register,
     key: &Key<A>,
-    seated: &Seated<'_, A>,
+    seated: &SectionContext<'_, A>,
 ) -> Done
-    requires stands { Stands frame.old registers.old }
-    ensures led { Led frame.old frame.new registers.old registers.new (does.Delete to dict key.now) result }
+    requires stands { OwnsRegisters frame.old registers.old }
+    ensures led { Led frame.old frame.new registers.old registers.new (instructions.Delete to dict key.now) result }
 {
-    let give = Give {
+    let give = TakeOut {
         to,
         container: dict,
-        giving: Giving::Delete(key),
+        giving: TakingOut::Delete(key),
     };
     let done = give.act(rt, alloc, frame, registers);
     stirs(rt, done, seated)
@@ -325,22 +329,22 @@ pub(crate) fn delete_line<R: Wait, H: Home<A>, A: Allocator + Copy>(
 
 /// `send`: the value becomes the mailbox's last letter.
 #[inline(never)]
-pub(crate) fn send_line<R: Wait, H: Home<A>, A: Allocator + Copy>(
+pub(crate) fn send_line<R: Wait, H: HasTable<A>, A: Allocator + Copy>(
     rt: &R,
     alloc: A,
     frame: &mut Frame<H, A>,
     registers: &mut Registers<A>,
     mailbox: Register,
     value: Register,
-    seated: &Seated<'_, A>,
+    seated: &SectionContext<'_, A>,
 ) -> Done
-    requires stands { Stands frame.old registers.old }
-    ensures led { Led frame.old frame.new registers.old registers.new (does.Send mailbox value) result }
+    requires stands { OwnsRegisters frame.old registers.old }
+    ensures led { Led frame.old frame.new registers.old registers.new (instructions.Send mailbox value) result }
 {
-    let take = Take {
+    let take = PutIn {
         container: mailbox,
         value,
-        taking: Taking::Send,
+        taking: Putting::Send,
     };
     let done = take.act(rt, alloc, frame, registers);
     stirs(rt, done, seated)
@@ -348,28 +352,28 @@ pub(crate) fn send_line<R: Wait, H: Home<A>, A: Allocator + Copy>(
 
 /// `recv`: the mailbox's first letter comes out. An empty mailbox is waited for.
 #[inline(never)]
-pub(crate) fn receive_line<R: Wait, H: Home<A>, A: Allocator + Copy>(
+pub(crate) fn receive_line<R: Wait, H: HasTable<A>, A: Allocator + Copy>(
     rt: &R,
     alloc: A,
     frame: &mut Frame<H, A>,
     registers: &mut Registers<A>,
     to: Register,
     mailbox: Register,
-    seated: &Seated<'_, A>,
+    seated: &SectionContext<'_, A>,
 ) -> Done
-    requires stands { Stands frame.old registers.old }
-    ensures led { Led frame.old frame.new registers.old registers.new (does.Receive to mailbox) result }
+    requires stands { OwnsRegisters frame.old registers.old }
+    ensures led { Led frame.old frame.new registers.old registers.new (instructions.Receive to mailbox) result }
 {
-    let look = Look {
+    let look = LookTry {
         to,
-        awaited: Awaited::Letter(mailbox),
+        awaited: AwaitedHere::Letter(mailbox),
     };
     Await { look, seated }.act(rt, alloc, frame, registers)
 }
 
 /// `add`: the sum of two integers, as a new one.
 #[inline(never)]
-pub(crate) fn add_line<R: Wait, H: Home<A>, A: Allocator + Copy>(
+pub(crate) fn add_line<R: Wait, H: HasTable<A>, A: Allocator + Copy>(
     rt: &R,
     alloc: A,
     frame: &mut Frame<H, A>,
@@ -378,8 +382,8 @@ pub(crate) fn add_line<R: Wait, H: Home<A>, A: Allocator + Copy>(
     first: Register,
     second: Register,
 ) -> Done
-    requires stands { Stands frame.old registers.old }
-    ensures led { Led frame.old frame.new registers.old registers.new (does.Add to first second) result }
+    requires stands { OwnsRegisters frame.old registers.old }
+    ensures led { Led frame.old frame.new registers.old registers.new (instructions.Add to first second) result }
 {
     Add { to, first, second }.act(rt, alloc, frame, registers)
 }

@@ -5,25 +5,25 @@ ghost use Rattle.std.specs.List.{repeat};
 ghost use Rattle.brc_words.specs.declared.fault.Fault.TheVariants as faults;
 ghost use Rattle.brc_count.specs.law.living.Later.{IsLater};
 ghost use Rattle.brc_instructions.specs.Causes.{Caused};
-ghost use Rattle.brc_instructions.specs.Registers.{Stands};
+ghost use Rattle.brc_instructions.specs.Registers.{OwnsRegisters};
 ghost use Rattle.brc_script.specs.Instructions.{is_shared};
-ghost use Rattle.brc_script.specs.declared.instruction.Instruction.TheVariants as does;
+ghost use Rattle.brc_script.specs.declared.instruction.Instruction.TheVariants as instructions;
 ghost use Rattle.brc_meaning.specs.declared.state.State.{State as state};
 ghost use Rattle.brc_meaning.specs.Sections.{written_out};
 ghost use Rattle.brc_meaning.specs.Steps.{after};
 ghost use Rattle.law_isolation.specs.Lines.{At};
 ghost use Rattle.brc_section.specs.Ends.{IsLineIn, IsLineOf};
-ghost use Rattle.brc_section.specs.Running.{AreOwn, Notes, Did, RunsOn};
+ghost use Rattle.brc_section.specs.Running.{AreOwn, NotesShown, Did, RunsOn};
 ghost use Rattle.brc_section.specs.Wants.{HaltsForCause};
 
 use crate::gate::Gate;
-use crate::names::{Names, name_at};
+use crate::shared_names::{Names, name_at};
 use crate::stepping::Silent;
-use crate::waiting::Seated;
+use crate::waiting::SectionContext;
 use crate::watching::{tell_made, tell_refused};
 use brc_count::Frame;
-use brc_count::biased::Home;
-use brc_instructions::{Does, Done, Print, Reads, Registers, Shown, add_shown};
+use brc_count::biased::HasTable;
+use brc_instructions::{Done, Execute, Print, Reads, Registers, Shown, add_shown};
 use brc_script::{Instruction, Line, Piece, Register};
 use brc_words::{Fault, Key};
 use std::alloc::Allocator;
@@ -39,7 +39,7 @@ pub(crate) struct Halt {
 /// What was shown, as one line more; OutOfMemory where it can't be had. A fault stays a fault.
 #[inline(always)]
 fn note<A: Allocator>(lines: &mut Vec<u8, A>, read: Result<Shown<A>, Fault>) -> Done
-    ensures { Notes read lines.old.items lines.new.items result }
+    ensures { NotesShown read lines.old.items lines.new.items result }
 {
     match read {
         Ok(shown) => add_shown(lines, &shown),
@@ -49,23 +49,23 @@ fn note<A: Allocator>(lines: &mut Vec<u8, A>, read: Result<Shown<A>, Fault>) -> 
 
 /// A line that prints: what it shows, one poll, and work.
 #[inline(never)]
-fn print_line<R: Wait, H: Home<A>, A: Allocator + Copy>(
+fn print_line<R: Wait, H: HasTable<A>, A: Allocator + Copy>(
     rt: &R,
     alloc: A,
     frame: &mut Frame<H, A>,
     registers: &mut Registers<A>,
     lines: &mut Vec<u8, A>,
     from: Register,
-    seated: &Seated<'_, A>,
+    seated: &SectionContext<'_, A>,
 ) -> Done
-    requires stands { Stands frame.old registers.old }
-    ensures stands { Stands frame.new registers.new }
+    requires stands { OwnsRegisters frame.old registers.old }
+    ensures stands { OwnsRegisters frame.new registers.new }
     ensures heap { frame.new.heap ≡ frame.old.heap }
     ensures waits { IfErr result (λ fault. fault ≢ faults.Busy) }
     ensures later { IsLater frame.old.seat.log frame.new.seat.log }
     ensures caused { IfErr result (Caused frame.old frame.new) }
     ensures follows { (base : ℕ) (s : state A) → At base frame.old registers.old lines.old.items s
-        → Did base frame.new registers.new lines.new.items s (after (does.Print from) s) result }
+        → Did base frame.new registers.new lines.new.items s (after (instructions.Print from) s) result }
 {
     let shown = Print { from }.read(rt, alloc, frame, registers);
     let _told = frame.poll();
@@ -79,7 +79,7 @@ fn print_line<R: Wait, H: Home<A>, A: Allocator + Copy>(
 
 /// The instruction of a line, what it prints, one poll, and work.
 #[inline(always)]
-fn do_line<R: Wait, H: Home<A>, A: Allocator + Copy>(
+fn do_line<R: Wait, H: HasTable<A>, A: Allocator + Copy>(
     rt: &R,
     alloc: A,
     frame: &mut Frame<H, A>,
@@ -87,10 +87,10 @@ fn do_line<R: Wait, H: Home<A>, A: Allocator + Copy>(
     lines: &mut Vec<u8, A>,
     line: &Line<A>,
     key: Option<&Key<A>>,
-    seated: &Seated<'_, A>,
+    seated: &SectionContext<'_, A>,
 ) -> Done
-    requires stands { Stands frame.old registers.old }
-    ensures stands { Stands frame.new registers.new }
+    requires stands { OwnsRegisters frame.old registers.old }
+    ensures stands { OwnsRegisters frame.new registers.new }
     ensures heap { frame.new.heap ≡ frame.old.heap }
     ensures waits { IfErr result (λ fault. fault ≢ faults.Busy) }
     ensures later { IsLater frame.old.seat.log frame.new.seat.log }
@@ -121,7 +121,7 @@ fn do_line<R: Wait, H: Home<A>, A: Allocator + Copy>(
 
 /// One line, once the gate has let it through.
 #[inline(always)]
-fn run_line<R: Wait, G: Gate, H: Home<A>, A: Allocator + Copy>(
+fn run_line<R: Wait, G: Gate, H: HasTable<A>, A: Allocator + Copy>(
     rt: &R,
     alloc: A,
     frame: &mut Frame<H, A>,
@@ -129,11 +129,11 @@ fn run_line<R: Wait, G: Gate, H: Home<A>, A: Allocator + Copy>(
     lines: &mut Vec<u8, A>,
     line: &Line<A>,
     key: Option<&Key<A>>,
-    seated: &Seated<'_, A>,
+    seated: &SectionContext<'_, A>,
     gate: &G,
 ) -> Result<(), Halt>
-    requires stands { Stands frame.old registers.old }
-    ensures stands { Stands frame.new registers.new }
+    requires stands { OwnsRegisters frame.old registers.old }
+    ensures stands { OwnsRegisters frame.new registers.new }
     ensures heap { frame.new.heap ≡ frame.old.heap }
     ensures line { IfErr result (λ halt. line.now.number ≡ halt.line) }
     ensures busy { IfErr result (λ halt. halt.fault ≡ faults.Busy → G.may_refuse gate.now seated.now.number halt.line) }
@@ -164,7 +164,7 @@ fn run_line<R: Wait, G: Gate, H: Home<A>, A: Allocator + Copy>(
 }
 
 /// These lines in order, up to the first fault.
-fn run_lines<R: Wait, G: Gate, H: Home<A>, A: Allocator + Copy>(
+fn run_lines<R: Wait, G: Gate, H: HasTable<A>, A: Allocator + Copy>(
     rt: &R,
     alloc: A,
     frame: &mut Frame<H, A>,
@@ -172,11 +172,11 @@ fn run_lines<R: Wait, G: Gate, H: Home<A>, A: Allocator + Copy>(
     lines: &mut Vec<u8, A>,
     body: &[Line<A>],
     keys: &[Option<Key<A>>],
-    seated: &Seated<'_, A>,
+    seated: &SectionContext<'_, A>,
     gate: &G,
 ) -> Result<(), Halt>
-    requires stands { Stands frame.old registers.old }
-    ensures stands { Stands frame.new registers.new }
+    requires stands { OwnsRegisters frame.old registers.old }
+    ensures stands { OwnsRegisters frame.new registers.new }
     ensures heap { frame.new.heap ≡ frame.old.heap }
     ensures line { IfErr result (λ halt. IsLineIn halt.line body.now) }
     ensures busy { IfErr result (λ halt. halt.fault ≡ faults.Busy → G.may_refuse gate.now seated.now.number halt.line) }
@@ -194,7 +194,7 @@ fn run_lines<R: Wait, G: Gate, H: Home<A>, A: Allocator + Copy>(
 }
 
 /// These lines so many times, up to the first fault.
-fn run_times<R: Wait, G: Gate, H: Home<A>, A: Allocator + Copy>(
+fn run_times<R: Wait, G: Gate, H: HasTable<A>, A: Allocator + Copy>(
     rt: &R,
     alloc: A,
     frame: &mut Frame<H, A>,
@@ -203,11 +203,11 @@ fn run_times<R: Wait, G: Gate, H: Home<A>, A: Allocator + Copy>(
     times: u32,
     body: &[Line<A>],
     keys: &[Option<Key<A>>],
-    seated: &Seated<'_, A>,
+    seated: &SectionContext<'_, A>,
     gate: &G,
 ) -> Result<(), Halt>
-    requires stands { Stands frame.old registers.old }
-    ensures stands { Stands frame.new registers.new }
+    requires stands { OwnsRegisters frame.old registers.old }
+    ensures stands { OwnsRegisters frame.new registers.new }
     ensures heap { frame.new.heap ≡ frame.old.heap }
     ensures line { IfErr result (λ halt. IsLineIn halt.line body.now) }
     ensures busy { IfErr result (λ halt. halt.fault ≡ faults.Busy → G.may_refuse gate.now seated.now.number halt.line) }
@@ -226,7 +226,7 @@ fn run_times<R: Wait, G: Gate, H: Home<A>, A: Allocator + Copy>(
 }
 
 /// A piece of the section, up to the first fault.
-fn run_piece<R: Wait, G: Gate, H: Home<A>, A: Allocator + Copy>(
+fn run_piece<R: Wait, G: Gate, H: HasTable<A>, A: Allocator + Copy>(
     rt: &R,
     alloc: A,
     frame: &mut Frame<H, A>,
@@ -234,11 +234,11 @@ fn run_piece<R: Wait, G: Gate, H: Home<A>, A: Allocator + Copy>(
     lines: &mut Vec<u8, A>,
     piece: &Piece<A>,
     keys: &[Option<Key<A>>],
-    seated: &Seated<'_, A>,
+    seated: &SectionContext<'_, A>,
     gate: &G,
 ) -> Result<(), Halt>
-    requires stands { Stands frame.old registers.old }
-    ensures stands { Stands frame.new registers.new }
+    requires stands { OwnsRegisters frame.old registers.old }
+    ensures stands { OwnsRegisters frame.new registers.new }
     ensures heap { frame.new.heap ≡ frame.old.heap }
     ensures line { IfErr result (λ halt. IsLineOf halt.line (piece.now ∷ [])) }
     ensures busy { IfErr result (λ halt. halt.fault ≡ faults.Busy → G.may_refuse gate.now seated.now.number halt.line) }
@@ -268,7 +268,7 @@ fn run_piece<R: Wait, G: Gate, H: Home<A>, A: Allocator + Copy>(
 
 /// All pieces in order, up to the first fault.
 #[tactic(auto, using(crate::proofs::Lines_In::piece_at))]
-pub(crate) fn run_pieces<R: Wait, G: Gate, H: Home<A>, A: Allocator + Copy>(
+pub(crate) fn run_pieces<R: Wait, G: Gate, H: HasTable<A>, A: Allocator + Copy>(
     rt: &R,
     alloc: A,
     frame: &mut Frame<H, A>,
@@ -276,11 +276,11 @@ pub(crate) fn run_pieces<R: Wait, G: Gate, H: Home<A>, A: Allocator + Copy>(
     lines: &mut Vec<u8, A>,
     pieces: &[Piece<A>],
     names: &Names<A>,
-    seated: &Seated<'_, A>,
+    seated: &SectionContext<'_, A>,
     gate: &G,
 ) -> Result<(), Halt>
-    requires stands { Stands frame.old registers.old }
-    ensures stands { Stands frame.new registers.new }
+    requires stands { OwnsRegisters frame.old registers.old }
+    ensures stands { OwnsRegisters frame.new registers.new }
     ensures heap { frame.new.heap ≡ frame.old.heap }
     ensures line { IfErr result (λ halt. IsLineOf halt.line pieces.now) }
     ensures busy { IfErr result (λ halt. halt.fault ≡ faults.Busy → G.may_refuse gate.now seated.now.number halt.line) }

@@ -9,17 +9,17 @@ ghost use Rattle.brc_meaning.specs.Sections.{written_out, meaning};
 ghost use Rattle.brc_count.specs.Frames.{IsUnlocked, ledger_seen};
 ghost use Rattle.brc_instructions.specs.Causes.{NoneWasFree};
 ghost use Rattle.brc_section.specs.Ends.{IsLineOf};
-ghost use Rattle.brc_section.specs.Running.{AreOwn, HaltOf, FaultOf, Ended};
+ghost use Rattle.brc_section.specs.Running.{AreOwn, HaltOf, FaultOf, SectionEnded};
 ghost use Rattle.brc_section.specs.Wants.{CauseLeft};
 ghost use Rattle.brc_section.specs.Isolation.{is_own_end, Prints};
 
 use crate::board::Board;
 use crate::gate::Gate;
-use crate::names::Names;
 use crate::running::{Halt, run_pieces};
-use crate::waiting::Seated;
+use crate::shared_names::Names;
+use crate::waiting::SectionContext;
 use brc_count::Frame;
-use brc_count::biased::Home;
+use brc_count::biased::HasTable;
 use brc_instructions::Registers;
 use brc_script::{Piece, Section};
 use brc_thread::Mutator;
@@ -87,13 +87,13 @@ fn fault_of(halt: Option<Halt>) -> Option<(u8, u32)>
 
 /// The lines of the section over its frame, which has no handle before and after. The registers are made at the first
 /// line, whose fault it is where they can't be had, and released at the end.
-fn run_over<R: Wait, G: Gate, H: Home<A>, A: Allocator + Copy>(
+fn run_over<R: Wait, G: Gate, H: HasTable<A>, A: Allocator + Copy>(
     rt: &R,
     alloc: A,
     frame: &mut Frame<H, A>,
     lines: &mut Vec<u8, A>,
     section: &Section<A>,
-    seated: &Seated<'_, A>,
+    seated: &SectionContext<'_, A>,
     gate: &G,
 ) -> Option<Halt>
     requires bare { frame.old.len ≡ 0 }
@@ -105,7 +105,7 @@ fn run_over<R: Wait, G: Gate, H: Home<A>, A: Allocator + Copy>(
     ensures busy { IfSome result (λ halt. halt.fault ≡ faults.Busy
         → G.may_refuse gate.now seated.now.number halt.line) }
     ensures ended { lines.old.items ≡ [] → AreOwn (written_out section.now.pieces) →
-        Ended (ledger_seen frame.old).allocs frame.new lines.new.items (written_out section.now.pieces) result }
+        SectionEnded (ledger_seen frame.old).allocs frame.new lines.new.items (written_out section.now.pieces) result }
     ensures wanted { AreOwn (written_out section.now.pieces)
         → IfSome result (λ halt. CauseLeft frame.old frame.new halt.fault) }
 {
@@ -139,7 +139,7 @@ fn run_over<R: Wait, G: Gate, H: Home<A>, A: Allocator + Copy>(
 /// released, from r0 to r15, and the thread settles.
 ///
 /// The section's number counts from 1, as the board does; a number that it doesn't have waits for nobody.
-pub fn run_section<R: Wait, G: Gate, H: Home<A>, A: Allocator + Copy>(
+pub fn run_section<R: Wait, G: Gate, H: HasTable<A>, A: Allocator + Copy>(
     rt: &R,
     alloc: A,
     mutator: &mut Mutator<H, A>,
@@ -178,7 +178,7 @@ pub fn run_section<R: Wait, G: Gate, H: Home<A>, A: Allocator + Copy>(
         → MOST_BIRTHS ≤ (ledger_seen mutator.new).allocs }
 {
     let mut lines = Vec::new(alloc);
-    let seated = Seated {
+    let seated = SectionContext {
         board,
         number,
         budget,

@@ -8,7 +8,7 @@ use std::alloc::Allocator;
 
 /// How a section stands.
 #[derive(Clone, Copy, PartialEq, Eq)]
-pub(crate) enum Standing {
+pub(crate) enum SectionStanding {
     Runs,
     /// It looks for something, and nothing has changed since it began to.
     Tries,
@@ -22,7 +22,7 @@ pub(crate) enum Standing {
 /// The standing of each section, by its number, from 1 on.
 #[derive(Drop)]
 pub(crate) struct Standings<A: Allocator> {
-    each: Vec<Standing, A>,
+    each: Vec<SectionStanding, A>,
 }
 
 impl<A: Allocator> Standings<A> {
@@ -32,21 +32,21 @@ impl<A: Allocator> Standings<A> {
     {
         let mut each = Vec::with_capacity(alloc, sections as usize)?;
         for _ in 0..sections {
-            each.push(Standing::Runs)?;
+            each.push(SectionStanding::Runs)?;
         }
         Ok(Standings { each })
     }
 
     /// How the section stands; one that isn't there has nobody to wait for.
-    pub(crate) fn of(&self, number: u32) -> Standing {
+    pub(crate) fn of(&self, number: u32) -> SectionStanding {
         match self.each.get((number as usize).wrapping_sub(1)) {
             Some(standing) => *standing,
-            None => Standing::GivesUp,
+            None => SectionStanding::GivesUp,
         }
     }
 
     /// From now on the section stands so.
-    pub(crate) fn set(&mut self, number: u32, standing: Standing) {
+    pub(crate) fn set(&mut self, number: u32, standing: SectionStanding) {
         if let Some(slot) = self.each.get_mut((number as usize).wrapping_sub(1)) {
             *slot = standing;
         }
@@ -56,7 +56,8 @@ impl<A: Allocator> Standings<A> {
     pub(crate) fn stir(&mut self) {
         for standing in self.each.as_mut_slice() {
             match *standing {
-                Standing::Tries | Standing::Waits => *standing = Standing::Runs,
+                SectionStanding::Tries | SectionStanding::Waits => *standing =
+                    SectionStanding::Runs,
                 _ => {}
             }
         }
@@ -66,7 +67,7 @@ impl<A: Allocator> Standings<A> {
     fn is_quiet(&self) -> bool {
         for standing in self.each.as_slice() {
             match *standing {
-                Standing::Waits | Standing::Ended => {}
+                SectionStanding::Waits | SectionStanding::Ended => {}
                 _ => return false,
             }
         }
@@ -79,8 +80,8 @@ impl<A: Allocator> Standings<A> {
             return false;
         }
         for standing in self.each.as_mut_slice() {
-            if *standing == Standing::Waits {
-                *standing = Standing::GivesUp;
+            if *standing == SectionStanding::Waits {
+                *standing = SectionStanding::GivesUp;
             }
         }
         true

@@ -2,9 +2,9 @@
 
 ghost use Rattle.std.specs.Prelude.{◌≡◌, ◌≢◌, ⊤, IfErr};
 ghost use Rattle.brc_words.specs.declared.fault.Fault.TheVariants as faults;
-ghost use Rattle.brc_script.specs.declared.instruction.Instruction.TheVariants as does;
+ghost use Rattle.brc_script.specs.declared.instruction.Instruction.TheVariants as instructions;
 ghost use Rattle.brc_count.specs.law.living.Later.{IsLater};
-ghost use Rattle.brc_instructions.specs.Registers.{Stands};
+ghost use Rattle.brc_instructions.specs.Registers.{OwnsRegisters};
 ghost use Rattle.brc_section.specs.Lines.{Led};
 ghost use Rattle.brc_section.specs.Stepping.{FollowsOwn, WantsOfOwn};
 
@@ -13,11 +13,11 @@ use crate::lines::{
     len_line, list_line, mailbox_line, pop_line, push_line, put_line, receive_line, send_line,
     set_line, stirs, text_line,
 };
-use crate::names::key_of;
-use crate::waiting::{Await, Awaited, Look, Seated};
+use crate::shared_names::key_of;
+use crate::waiting::{Await, AwaitedHere, LookTry, SectionContext};
 use brc_count::Frame;
-use brc_count::biased::Home;
-use brc_instructions::{Does, Done, GiveGlobal, Giving, Registers, Share};
+use brc_count::biased::HasTable;
+use brc_instructions::{Done, Execute, Registers, Share, TakeOutGlobal, TakingOut};
 use brc_script::{Instruction, Register};
 use brc_words::{Key, Text};
 use std::alloc::Allocator;
@@ -25,7 +25,7 @@ use std::sync::Wait;
 
 /// An instruction on the globals, but for the name.
 #[derive(Clone, Copy)]
-enum Shared {
+enum OnGlobals {
     Share { value: Register },
     Fetch { to: Register },
     Unshare { to: Register },
@@ -34,33 +34,33 @@ enum Shared {
 /// It under this key.
 #[derive(Drop)]
 struct UnderKey<'i, A: Allocator> {
-    shared: Shared,
+    shared: OnGlobals,
     key: &'i Key<A>,
-    seated: &'i Seated<'i, A>,
+    seated: &'i SectionContext<'i, A>,
 }
 
-impl<'i, R: Wait, H: Home<A>, A: Allocator + Copy> Does<R, H, A> for UnderKey<'i, A> {
+impl<'i, R: Wait, H: HasTable<A>, A: Allocator + Copy> Execute<R, H, A> for UnderKey<'i, A> {
     ghost follows = { λ _ _ _ _ _ _. ⊤ };
 
     ghost why = { λ _ _ _ _. ⊤ };
 
     fn act(&self, rt: &R, alloc: A, frame: &mut Frame<H, A>, registers: &mut Registers<A>) -> Done {
         match self.shared {
-            Shared::Share { value } => {
+            OnGlobals::Share { value } => {
                 let name = self.key;
                 Share { name, value }.act(rt, alloc, frame, registers)
             }
-            Shared::Fetch { to } => {
-                let awaited = Awaited::Name(self.key);
+            OnGlobals::Fetch { to } => {
+                let awaited = AwaitedHere::Name(self.key);
                 let wait = Await {
-                    look: Look { to, awaited },
+                    look: LookTry { to, awaited },
                     seated: self.seated,
                 };
                 wait.act(rt, alloc, frame, registers)
             }
-            Shared::Unshare { to } => {
-                let giving = Giving::Delete(self.key);
-                GiveGlobal { to, giving }.act(rt, alloc, frame, registers)
+            OnGlobals::Unshare { to } => {
+                let giving = TakingOut::Delete(self.key);
+                TakeOutGlobal { to, giving }.act(rt, alloc, frame, registers)
             }
         }
     }
@@ -68,18 +68,18 @@ impl<'i, R: Wait, H: Home<A>, A: Allocator + Copy> Does<R, H, A> for UnderKey<'i
 
 /// It under this name: by the key that was made of it, or, where none is there, by one that is made now.
 #[inline(never)]
-fn under_name<R: Wait, H: Home<A>, A: Allocator + Copy>(
+fn under_name<R: Wait, H: HasTable<A>, A: Allocator + Copy>(
     rt: &R,
     alloc: A,
     frame: &mut Frame<H, A>,
     registers: &mut Registers<A>,
-    shared: Shared,
+    shared: OnGlobals,
     name: &Text<A>,
     key: Option<&Key<A>>,
-    seated: &Seated<'_, A>,
+    seated: &SectionContext<'_, A>,
 ) -> Done
-    requires stands { Stands frame.old registers.old }
-    ensures stands { Stands frame.new registers.new }
+    requires stands { OwnsRegisters frame.old registers.old }
+    ensures stands { OwnsRegisters frame.new registers.new }
     ensures heap { frame.new.heap ≡ frame.old.heap }
     ensures waits { IfErr result (λ fault. fault ≢ faults.Busy) }
     ensures later { IsLater frame.old.seat.log frame.new.seat.log }
@@ -107,7 +107,7 @@ fn under_name<R: Wait, H: Home<A>, A: Allocator + Copy>(
 
 /// `share`: the value goes into the globals, under the name.
 #[inline(never)]
-fn share_line<R: Wait, H: Home<A>, A: Allocator + Copy>(
+fn share_line<R: Wait, H: HasTable<A>, A: Allocator + Copy>(
     rt: &R,
     alloc: A,
     frame: &mut Frame<H, A>,
@@ -115,19 +115,19 @@ fn share_line<R: Wait, H: Home<A>, A: Allocator + Copy>(
     name: &Text<A>,
     value: Register,
     key: Option<&Key<A>>,
-    seated: &Seated<'_, A>,
+    seated: &SectionContext<'_, A>,
 ) -> Done
-    requires stands { Stands frame.old registers.old }
-    ensures led { Led frame.old frame.new registers.old registers.new (does.Share name.now value) result }
+    requires stands { OwnsRegisters frame.old registers.old }
+    ensures led { Led frame.old frame.new registers.old registers.new (instructions.Share name.now value) result }
 {
-    let shared = Shared::Share { value };
+    let shared = OnGlobals::Share { value };
     let done = under_name(rt, alloc, frame, registers, shared, name, key, seated);
     stirs(rt, done, seated)
 }
 
 /// `fetch`: one reference more to what has the name. A name that is missing is waited for.
 #[inline(never)]
-fn fetch_line<R: Wait, H: Home<A>, A: Allocator + Copy>(
+fn fetch_line<R: Wait, H: HasTable<A>, A: Allocator + Copy>(
     rt: &R,
     alloc: A,
     frame: &mut Frame<H, A>,
@@ -135,18 +135,18 @@ fn fetch_line<R: Wait, H: Home<A>, A: Allocator + Copy>(
     to: Register,
     name: &Text<A>,
     key: Option<&Key<A>>,
-    seated: &Seated<'_, A>,
+    seated: &SectionContext<'_, A>,
 ) -> Done
-    requires stands { Stands frame.old registers.old }
-    ensures led { Led frame.old frame.new registers.old registers.new (does.Fetch to name.now) result }
+    requires stands { OwnsRegisters frame.old registers.old }
+    ensures led { Led frame.old frame.new registers.old registers.new (instructions.Fetch to name.now) result }
 {
-    let shared = Shared::Fetch { to };
+    let shared = OnGlobals::Fetch { to };
     under_name(rt, alloc, frame, registers, shared, name, key, seated)
 }
 
 /// `unshare`: what has the name comes out of the globals.
 #[inline(never)]
-fn unshare_line<R: Wait, H: Home<A>, A: Allocator + Copy>(
+fn unshare_line<R: Wait, H: HasTable<A>, A: Allocator + Copy>(
     rt: &R,
     alloc: A,
     frame: &mut Frame<H, A>,
@@ -154,12 +154,12 @@ fn unshare_line<R: Wait, H: Home<A>, A: Allocator + Copy>(
     to: Register,
     name: &Text<A>,
     key: Option<&Key<A>>,
-    seated: &Seated<'_, A>,
+    seated: &SectionContext<'_, A>,
 ) -> Done
-    requires stands { Stands frame.old registers.old }
-    ensures led { Led frame.old frame.new registers.old registers.new (does.Unshare to name.now) result }
+    requires stands { OwnsRegisters frame.old registers.old }
+    ensures led { Led frame.old frame.new registers.old registers.new (instructions.Unshare to name.now) result }
 {
-    let shared = Shared::Unshare { to };
+    let shared = OnGlobals::Unshare { to };
     let done = under_name(rt, alloc, frame, registers, shared, name, key, seated);
     stirs(rt, done, seated)
 }
@@ -169,20 +169,20 @@ fn unshare_line<R: Wait, H: Home<A>, A: Allocator + Copy>(
 pub(crate) struct Silent<'i, A: Allocator> {
     pub(crate) instruction: &'i Instruction<A>,
     pub(crate) key: Option<&'i Key<A>>,
-    pub(crate) seated: &'i Seated<'i, A>,
+    pub(crate) seated: &'i SectionContext<'i, A>,
 }
 
 impl<'i, A: Allocator + Copy> Silent<'i, A> {
     /// The line, by the function of its kind.
     #[inline(always)]
-    fn line<R: Wait, H: Home<A>>(
+    fn line<R: Wait, H: HasTable<A>>(
         &self,
         rt: &R,
         alloc: A,
         frame: &mut Frame<H, A>,
         registers: &mut Registers<A>,
     ) -> Done
-        requires stands { Stands frame.old registers.old }
+        requires stands { OwnsRegisters frame.old registers.old }
         ensures led { Led frame.old frame.new registers.old registers.new self.now.instruction.now result }
     {
         let (key, seated) = (self.key, self.seated);
@@ -249,7 +249,7 @@ impl<'i, A: Allocator + Copy> Silent<'i, A> {
     }
 }
 
-impl<'i, R: Wait, H: Home<A>, A: Allocator + Copy> Does<R, H, A> for Silent<'i, A> {
+impl<'i, R: Wait, H: HasTable<A>, A: Allocator + Copy> Execute<R, H, A> for Silent<'i, A> {
     ghost follows = { λ it. FollowsOwn it.instruction.now };
 
     ghost why = { λ it. WantsOfOwn it.instruction.now };

@@ -5,8 +5,8 @@ ghost use Rattle.brc_section.specs.Waiting.{FollowsLetter, FoundNothing, WantsFo
 
 use crate::board::Board;
 use brc_count::Frame;
-use brc_count::biased::Home;
-use brc_instructions::{Does, Done, Give, GiveGlobal, Giving, Registers};
+use brc_count::biased::HasTable;
+use brc_instructions::{Done, Execute, Registers, TakeOut, TakeOutGlobal, TakingOut};
 use brc_script::Register;
 use brc_words::{Fault, Key};
 use std::alloc::Allocator;
@@ -18,7 +18,7 @@ const TRIES: u32 = 100;
 
 /// Which section of a board it is, and how much its thread works between two instructions.
 #[derive(Drop)]
-pub(crate) struct Seated<'b, A: Allocator> {
+pub(crate) struct SectionContext<'b, A: Allocator> {
     pub(crate) board: &'b Board<A>,
     pub(crate) number: u32,
     pub(crate) budget: usize,
@@ -26,37 +26,37 @@ pub(crate) struct Seated<'b, A: Allocator> {
 
 /// What a section waits for: that something has the name, or a letter in the mailbox of a register.
 #[derive(Drop)]
-pub(crate) enum Awaited<'k, A: Allocator> {
+pub(crate) enum AwaitedHere<'k, A: Allocator> {
     Name(&'k Key<A>),
     Letter(Register),
 }
 
 /// One try.
 #[derive(Drop)]
-pub(crate) struct Look<'k, A: Allocator> {
+pub(crate) struct LookTry<'k, A: Allocator> {
     pub(crate) to: Register,
-    pub(crate) awaited: Awaited<'k, A>,
+    pub(crate) awaited: AwaitedHere<'k, A>,
 }
 
-impl<'k, R: Wait, H: Home<A>, A: Allocator + Copy> Does<R, H, A> for Look<'k, A> {
+impl<'k, R: Wait, H: HasTable<A>, A: Allocator + Copy> Execute<R, H, A> for LookTry<'k, A> {
     ghost follows = { λ it. FollowsLetter it.awaited it.to };
 
     ghost why = { λ it. WantsForLetter it.awaited };
 
     fn act(&self, rt: &R, alloc: A, frame: &mut Frame<H, A>, registers: &mut Registers<A>) -> Done {
         match &self.awaited {
-            Awaited::Name(name) => {
-                let give = GiveGlobal {
+            AwaitedHere::Name(name) => {
+                let give = TakeOutGlobal {
                     to: self.to,
-                    giving: Giving::Find(*name),
+                    giving: TakingOut::Find(*name),
                 };
                 give.act(rt, alloc, frame, registers)
             }
-            Awaited::Letter(mailbox) => {
-                let give = Give {
+            AwaitedHere::Letter(mailbox) => {
+                let give = TakeOut {
                     to: self.to,
                     container: *mailbox,
-                    giving: Giving::Receive,
+                    giving: TakingOut::Receive,
                 };
                 give.act(rt, alloc, frame, registers)
             }
@@ -75,11 +75,11 @@ fn is_nothing(tried: &Done) -> bool
 /// without it would keep every cell of theirs. Between two tries the processor pauses, and its time is not given away.
 #[derive(Drop)]
 struct LookNext<'w, A: Allocator> {
-    look: &'w Look<'w, A>,
-    seated: &'w Seated<'w, A>,
+    look: &'w LookTry<'w, A>,
+    seated: &'w SectionContext<'w, A>,
 }
 
-impl<'w, R: Wait, H: Home<A>, A: Allocator + Copy> Does<R, H, A> for LookNext<'w, A> {
+impl<'w, R: Wait, H: HasTable<A>, A: Allocator + Copy> Execute<R, H, A> for LookNext<'w, A> {
     ghost follows = { λ it. FollowsLetter it.look.now.awaited it.look.now.to };
 
     ghost why = { λ it. WantsForLetter it.look.now.awaited };
@@ -99,11 +99,11 @@ impl<'w, R: Wait, H: Home<A>, A: Allocator + Copy> Does<R, H, A> for LookNext<'w
 /// after the last comes one that the board knows of (`LookAgain`). A section that waits so still polls and works.
 #[derive(Drop)]
 struct LookSoon<'w, A: Allocator> {
-    look: &'w Look<'w, A>,
-    seated: &'w Seated<'w, A>,
+    look: &'w LookTry<'w, A>,
+    seated: &'w SectionContext<'w, A>,
 }
 
-impl<'w, R: Wait, H: Home<A>, A: Allocator + Copy> Does<R, H, A> for LookSoon<'w, A> {
+impl<'w, R: Wait, H: HasTable<A>, A: Allocator + Copy> Execute<R, H, A> for LookSoon<'w, A> {
     ghost follows = { λ it. FollowsLetter it.look.now.awaited it.look.now.to };
 
     ghost why = { λ it. WantsForLetter it.look.now.awaited };
@@ -127,11 +127,11 @@ impl<'w, R: Wait, H: Home<A>, A: Allocator + Copy> Does<R, H, A> for LookSoon<'w
 /// sleeps until something has changed.
 #[derive(Drop)]
 struct LookAgain<'w, A: Allocator> {
-    look: &'w Look<'w, A>,
-    seated: &'w Seated<'w, A>,
+    look: &'w LookTry<'w, A>,
+    seated: &'w SectionContext<'w, A>,
 }
 
-impl<'w, R: Wait, H: Home<A>, A: Allocator + Copy> Does<R, H, A> for LookAgain<'w, A> {
+impl<'w, R: Wait, H: HasTable<A>, A: Allocator + Copy> Execute<R, H, A> for LookAgain<'w, A> {
     ghost follows = { λ it. FollowsLetter it.look.now.awaited it.look.now.to };
 
     ghost why = { λ it. WantsForLetter it.look.now.awaited };
@@ -166,11 +166,11 @@ impl<'w, R: Wait, H: Home<A>, A: Allocator + Copy> Does<R, H, A> for LookAgain<'
 /// Where it isn't there, the section waits. One that finds it at once has nothing to do with the board.
 #[derive(Drop)]
 pub(crate) struct Await<'w, A: Allocator> {
-    pub(crate) look: Look<'w, A>,
-    pub(crate) seated: &'w Seated<'w, A>,
+    pub(crate) look: LookTry<'w, A>,
+    pub(crate) seated: &'w SectionContext<'w, A>,
 }
 
-impl<'w, R: Wait, H: Home<A>, A: Allocator + Copy> Does<R, H, A> for Await<'w, A> {
+impl<'w, R: Wait, H: HasTable<A>, A: Allocator + Copy> Execute<R, H, A> for Await<'w, A> {
     ghost follows = { λ it. FollowsLetter it.look.awaited it.look.to };
 
     ghost why = { λ it. WantsForLetter it.look.awaited };
@@ -178,7 +178,7 @@ impl<'w, R: Wait, H: Home<A>, A: Allocator + Copy> Does<R, H, A> for Await<'w, A
     #[inline(always)]
     fn act(&self, rt: &R, alloc: A, frame: &mut Frame<H, A>, registers: &mut Registers<A>) -> Done {
         // An empty register is no mailbox without letters: nobody can change that.
-        if let Awaited::Letter(mailbox) = &self.look.awaited {
+        if let AwaitedHere::Letter(mailbox) = &self.look.awaited {
             if registers.get(*mailbox).is_none() {
                 return Err(Fault::NoSuchPlace);
             }

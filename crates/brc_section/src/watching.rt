@@ -2,11 +2,11 @@
 //!
 //! Nothing here takes a lock or makes an event: the cell of a register's object is what its thread's frame has.
 
-ghost use Rattle.brc_instructions.specs.Registers.{Stands};
+ghost use Rattle.brc_instructions.specs.Registers.{OwnsRegisters};
 
 use crate::gate::{Gate, Operands};
 use brc_count::Frame;
-use brc_count::biased::Home;
+use brc_count::biased::HasTable;
 use brc_instructions::Registers;
 use brc_script::{Instruction, Line, Register};
 use brc_words::FIRST_MORTAL;
@@ -64,12 +64,12 @@ pub fn second_operand<A: Allocator>(instruction: &Instruction<A>) -> Option<Regi
 }
 
 /// The cell of the register's object; None where there is no register, or it is empty.
-fn cell_in<H: Home<A>, A: Allocator>(
+fn cell_in<H: HasTable<A>, A: Allocator>(
     frame: &Frame<H, A>,
     registers: &Registers<A>,
     register: Option<Register>,
 ) -> Option<u32>
-    requires stands { Stands frame.now registers.now }
+    requires stands { OwnsRegisters frame.now registers.now }
 {
     let Some(register) = register else {
         return None;
@@ -82,14 +82,14 @@ fn cell_in<H: Home<A>, A: Allocator>(
 
 /// What the line's instruction has made.
 #[inline(never)]
-fn tell_of_object<G: Gate, H: Home<A>, A: Allocator>(
+fn tell_of_object<G: Gate, H: HasTable<A>, A: Allocator>(
     gate: &G,
     section: u32,
     line: &Line<A>,
     frame: &Frame<H, A>,
     registers: &Registers<A>,
 )
-    requires stands { Stands frame.now registers.now }
+    requires stands { OwnsRegisters frame.now registers.now }
 {
     match cell_in(frame, registers, made_in(line.instruction())) {
         Some(cell) if cell >= FIRST_MORTAL => gate.made(section, line.number(), cell),
@@ -99,14 +99,14 @@ fn tell_of_object<G: Gate, H: Home<A>, A: Allocator>(
 
 /// What the refused instruction of the line was given.
 #[inline(never)]
-fn tell_of_operands<G: Gate, H: Home<A>, A: Allocator>(
+fn tell_of_operands<G: Gate, H: HasTable<A>, A: Allocator>(
     gate: &G,
     section: u32,
     line: &Line<A>,
     frame: &Frame<H, A>,
     registers: &Registers<A>,
 )
-    requires stands { Stands frame.now registers.now }
+    requires stands { OwnsRegisters frame.now registers.now }
 {
     let instruction = line.instruction();
     let operands = Operands {
@@ -118,14 +118,14 @@ fn tell_of_operands<G: Gate, H: Home<A>, A: Allocator>(
 
 /// Tells a gate that watches what the line has made, if it has made a mortal object.
 #[inline(always)]
-pub(crate) fn tell_made<G: Gate, H: Home<A>, A: Allocator>(
+pub(crate) fn tell_made<G: Gate, H: HasTable<A>, A: Allocator>(
     gate: &G,
     section: u32,
     line: &Line<A>,
     frame: &Frame<H, A>,
     registers: &Registers<A>,
 )
-    requires stands { Stands frame.now registers.now }
+    requires stands { OwnsRegisters frame.now registers.now }
 {
     if gate.watches() {
         tell_of_object(gate, section, line, frame, registers);
@@ -134,14 +134,14 @@ pub(crate) fn tell_made<G: Gate, H: Home<A>, A: Allocator>(
 
 /// Tells a gate that watches that the line's instruction was refused.
 #[inline(always)]
-pub(crate) fn tell_refused<G: Gate, H: Home<A>, A: Allocator>(
+pub(crate) fn tell_refused<G: Gate, H: HasTable<A>, A: Allocator>(
     gate: &G,
     section: u32,
     line: &Line<A>,
     frame: &Frame<H, A>,
     registers: &Registers<A>,
 )
-    requires stands { Stands frame.now registers.now }
+    requires stands { OwnsRegisters frame.now registers.now }
 {
     if gate.watches() {
         tell_of_operands(gate, section, line, frame, registers);

@@ -12,7 +12,7 @@ use Rattle.brc_count.specs.Closing.{BeginsBy}
 use Rattle.brc_count.specs.Frames.{FrameSeen}
 use Rattle.brc_thread.specs.Counting.{registrations, gatherings, in_u32, Counts}
 use Rattle.brc_thread.specs.Threads.{RefusesThread, RetiredSeen}
-use Rattle.brc_close.specs.Closing.{Closes}
+use Rattle.brc_close.specs.Closing.{IsReportOfEnd}
 use Rattle.brc_shared.specs.declared.shared.RootCounts.{RootCounts}
 use Rattle.brc_shared.specs.declared.shared.NotClosed.{NotClosed}
 use Rattle.brc_shared.specs.declared.shared.NotClosed.TheVariants as reasons
@@ -58,7 +58,7 @@ pub record ClosesAs (heap : TableSeen) (report : Report Global) : Type 0 where
   pub root : RootSeen
   pub of_heap : root.table ≡ heap.table
   pub all : registrations root.view ≡ gatherings root.view
-  pub closes : Closes heap.cells heap.local_limit root.view report
+  pub closes : IsReportOfEnd heap.cells heap.local_limit root.view report
 
 -- the heap's root has gathered each thread that it registered
 abbrev pub HasGatheredAll : TableSeen → Type 0

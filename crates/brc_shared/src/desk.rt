@@ -18,18 +18,18 @@ impl TableRule<Option<Root<Global>>, Heap<Global>, Heap<Global>> for DeskRule {
 }
 
 /// Who finds 0 has the root now.
-struct Takes;
+struct TakesFromDesk;
 
-impl Play<Option<Root<Global>>, Heap<Global>> for Takes {
+impl Play<Option<Root<Global>>, Heap<Global>> for TakesFromDesk {
     ghost use Rattle.brc_shared.specs.Desk.{TakesRoot};
 
     ghost then = { TakesRoot };
 }
 
 /// The root lies there again.
-struct Puts;
+struct PutsOnDesk;
 
-impl Play<Option<Root<Global>>, Heap<Global>> for Puts {
+impl Play<Option<Root<Global>>, Heap<Global>> for PutsOnDesk {
     ghost use Rattle.brc_shared.specs.Desk.{PutsRoot};
 
     ghost then = { PutsRoot };
@@ -83,7 +83,7 @@ impl Desk {
             × (taken.1.me ≡ (self.now.table.shared.key, (0, None) ∷ []))) }
     {
         // One swap, and no try after it: whoever finds 1 goes away with nothing, and the word stays at 1 for the other.
-        let (found, mut clerk) = self.table.shared.swap_new_seat::<Takes>(0, 1);
+        let (found, mut clerk) = self.table.shared.swap_new_seat::<TakesFromDesk>(0, 1);
         if found != 0 {
             return None;
         }
@@ -106,7 +106,7 @@ impl Desk {
             Some(_root) => unreachable!(),
         }
         // From this store on another thread may have the root, so the slot is filled before it.
-        self.table.shared.store::<Puts>(&mut clerk, 0, 0);
+        self.table.shared.store::<PutsOnDesk>(&mut clerk, 0, 0);
     }
 
     /// The desk ends. What lies there is given up: nothing, if its root was taken to end the heap.

@@ -10,7 +10,7 @@ ghost use Rattle.brc_shared.specs.Shared.{HasCounted, CountsOf, RegistersHere, R
 use crate::inner::Inner;
 use brc_close::{NoReport, close_or_end};
 use brc_count::Ledger;
-use brc_count::biased::Home;
+use brc_count::biased::HasTable;
 use brc_count::table::HeapTable;
 use brc_report::Report;
 use brc_thread::{Heap, Mutator, Options, Retired, Root};
@@ -35,7 +35,7 @@ impl Model for Shared {
     ghost view = { λ s. (arc_value s.inner).heap };
 }
 
-impl Home<Global> for Shared {
+impl HasTable<Global> for Shared {
     ghost seen = { λ s. s };
 
     fn table(&self) -> &HeapTable<Global> {

@@ -6,6 +6,7 @@ ghost use Rattle.law_world.specs.Steps.{cell_ok, is_shut, is_unlock, stepped};
 ghost use Rattle.brc_state.specs.Memory.{needs_memory};
 ghost use Rattle.brc_words.specs.Shared.{CountFits};
 
+use crate::bit_words::{enqueue, settle};
 use crate::conditions::is_closed;
 use crate::effects::{
     born_cell, filled_place, gone, is_enqueue, is_free_step, settled_cell, takes_block,
@@ -15,7 +16,6 @@ use crate::entries::change_entries;
 use crate::frames::change_frame;
 use crate::marks::change_marks;
 use crate::tables::Tables;
-use crate::words::{enqueue, settle};
 use law_world::Step;
 use std::alloc::{AllocError, Allocator};
 

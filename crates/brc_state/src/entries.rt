@@ -10,11 +10,11 @@ use std::marker::Model;
 
 /// The cell numbers, as a list.
 #[derive(Drop)]
-pub(crate) struct Entries<A: Allocator> {
+pub(crate) struct EntryNumbers<A: Allocator> {
     list: Vec<u32, A>,
 }
 
-impl<A: Allocator> Model for Entries<A> {
+impl<A: Allocator> Model for EntryNumbers<A> {
     ghost use Rattle.std.specs.Prelude.{ℕ, List};
 
     ghost Value = { List ℕ };
@@ -22,12 +22,12 @@ impl<A: Allocator> Model for Entries<A> {
     ghost view = { λ e. e.list.items };
 }
 
-impl<A: Allocator> Entries<A> {
+impl<A: Allocator> EntryNumbers<A> {
     /// No entry, and no memory.
     pub(crate) fn new(alloc: A) -> Self
         ensures { result ≡ [] }
     {
-        Entries {
+        EntryNumbers {
             list: Vec::new(alloc),
         }
     }
@@ -92,7 +92,7 @@ impl<A: Allocator> Entries<A> {
 
 /// The cell gets one more entry. A refused growth changes nothing.
 pub(crate) fn add_entry<A: Allocator>(
-    lists: &mut Vec<Entries<A>, A>,
+    lists: &mut Vec<EntryNumbers<A>, A>,
     cell: u32,
     entry: u32,
 ) -> Result<(), AllocError>
@@ -107,7 +107,7 @@ pub(crate) fn add_entry<A: Allocator>(
 }
 
 /// An entry of the cell goes, and later ones close up.
-pub(crate) fn remove_entry<A: Allocator>(lists: &mut Vec<Entries<A>, A>, cell: u32, index: u32)
+pub(crate) fn remove_entry<A: Allocator>(lists: &mut Vec<EntryNumbers<A>, A>, cell: u32, index: u32)
     requires { index < length (slice_index_or lists.old.items cell []) }
 
     ensures { lists.new.items ≡ slice_set lists.old.items cell
@@ -120,7 +120,7 @@ pub(crate) fn remove_entry<A: Allocator>(lists: &mut Vec<Entries<A>, A>, cell: u
 
 /// An entry of the cell becomes this one.
 pub(crate) fn set_entry<A: Allocator>(
-    lists: &mut Vec<Entries<A>, A>,
+    lists: &mut Vec<EntryNumbers<A>, A>,
     cell: u32,
     index: u32,
     entry: u32,
@@ -136,7 +136,7 @@ pub(crate) fn set_entry<A: Allocator>(
 /// An object is born without entries, or the last entry of a dead one goes.
 #[inline(always)]
 pub(crate) fn change_entries<A: Allocator>(
-    lists: &mut Vec<Entries<A>, A>,
+    lists: &mut Vec<EntryNumbers<A>, A>,
     born: Option<u32>,
     out: Option<Dropped>,
 )

@@ -9,6 +9,7 @@
 #![tactic(auto)]
 
 mod apply;
+mod bit_words;
 mod cell_conditions;
 mod cell_steps;
 mod conditions;
@@ -16,7 +17,7 @@ mod effects;
 mod entries;
 mod frames;
 mod marks;
-mod opening;
+mod opening_state;
 mod own_part;
 mod refusing;
 mod root_steps;
@@ -24,8 +25,7 @@ mod tables;
 mod tally;
 mod unlocking;
 mod word_steps;
-mod words;
 
-pub use opening::are_options;
+pub use opening_state::are_options;
 pub use refusing::Refusal;
 pub use tables::Tables;

@@ -6,10 +6,10 @@ ghost use Rattle.law_world.specs.Heap.{new_row, row_at, words_for};
 ghost use Rattle.law_world.specs.Steps.{registered, registered_again, gathered_in, root_after};
 ghost use Rattle.brc_state.specs.Memory.{needs_memory};
 
+use crate::bit_words::WordNumbers;
 use crate::frames::Frame;
 use crate::marks::Marks;
 use crate::tables::Tables;
-use crate::words::Words;
 use law_world::{Hand, Row, Stage, Step, new_row, words_for};
 use std::alloc::{AllocError, Allocator};
 
@@ -50,8 +50,8 @@ impl<A: Allocator + Copy> Tables<A> {
         self.notify_words.reserve(1)?;
         self.gathered.reserve(1)?;
         let cells = self.cells.len();
-        let popped = Words::zeros(self.alloc, words_for(cells))?;
-        let queue = Words::zeros(self.alloc, words_for(cells))?;
+        let popped = WordNumbers::zeros(self.alloc, words_for(cells))?;
+        let queue = WordNumbers::zeros(self.alloc, words_for(cells))?;
         let worklist = Marks::unset(self.alloc, cells)?;
         put_last(&mut self.rows, new_row());
         put_last(&mut self.frames, Frame::new(self.alloc));
@@ -74,8 +74,8 @@ impl<A: Allocator + Copy> Tables<A> {
         ensures err { OnErr result (self.new ≡ self.old) }
     {
         let cells = self.cells.len();
-        let popped = Words::zeros(self.alloc, words_for(cells))?;
-        let queue = Words::zeros(self.alloc, words_for(cells))?;
+        let popped = WordNumbers::zeros(self.alloc, words_for(cells))?;
+        let queue = WordNumbers::zeros(self.alloc, words_for(cells))?;
         let worklist = Marks::unset(self.alloc, cells)?;
         let row = self.row(thread);
         self.past_allocs += row.allocs;

@@ -6,10 +6,10 @@ ghost use Rattle.law_world.specs.Heap.{cell_at, entries_at, row_at, frame_at, po
 ghost use Rattle.law_world.specs.Heap.{is_gathered, is_registered, no_cell, no_row};
 ghost use Rattle.law_world.specs.Steps.{is_empty};
 
-use crate::entries::Entries;
+use crate::bit_words::WordNumbers;
+use crate::entries::EntryNumbers;
 use crate::frames::Frame;
 use crate::marks::Marks;
-use crate::words::Words;
 use law_world::{Cell, Edition, Row, no_cell, no_row};
 use std::alloc::Allocator;
 use std::marker::Model;
@@ -20,12 +20,12 @@ pub struct Tables<A: Allocator + Copy> {
     pub(crate) alloc: A,
     pub(crate) local_limit: u32,
     pub(crate) cells: Vec<Cell, A>,
-    pub(crate) entries: Vec<Entries<A>, A>,
+    pub(crate) entries: Vec<EntryNumbers<A>, A>,
     pub(crate) rows: Vec<Row, A>,
     pub(crate) frames: Vec<Frame<A>, A>,
-    pub(crate) popped: Vec<Words<A>, A>,
+    pub(crate) popped: Vec<WordNumbers<A>, A>,
     pub(crate) worklists: Vec<Marks<A>, A>,
-    pub(crate) queues: Vec<Words<A>, A>,
+    pub(crate) queues: Vec<WordNumbers<A>, A>,
     pub(crate) notify_words: Vec<u64, A>,
     pub(crate) gathered: Vec<bool, A>,
     pub(crate) edition: Edition,

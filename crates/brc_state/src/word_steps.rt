@@ -6,8 +6,8 @@ ghost use Rattle.law_world.specs.Steps.{closed_more, opened_more, stage_after, d
 ghost use Rattle.law_world.specs.Steps.{kept_cells};
 ghost use Rattle.brc_state.specs.Effects.{named_word};
 
+use crate::bit_words::{empty_drained, only_bit, pop_drained};
 use crate::tables::Tables;
-use crate::words::{empty_drained, only_bit, pop_drained};
 use brc_words::MOST_CELLS;
 use law_world::{Stage, Step, words_for};
 use std::alloc::Allocator;

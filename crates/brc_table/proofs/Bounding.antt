@@ -10,7 +10,7 @@ use Rattle.law.specs.known.declared.word.Word.{Word}
 use Rattle.law.specs.known.declared.word.Word.TheVariants.{Of, Queue}
 use Rattle.law.specs.known.Items.{IsWord}
 use Rattle.law.specs.rule.declared.contents.Contents.{Contents}
-use Rattle.law.specs.rule.declared.told.Told.TheVariants.{Saw}
+use Rattle.law.specs.rule.declared.told.LogItem.TheVariants.{Loaded}
 use Rattle.law.specs.rule.declared.view.View.{View}
 use Rattle.law.specs.rule.Layout.{spot}
 use Rattle.law.specs.rule.Rule.{with_told, Kept}
@@ -34,7 +34,7 @@ module _ {B : Type 0} (shows : B → ℕ × Contents) (n limit : ℕ) where
   within : (id : ℕ) (v : View) (slots : List (ℕ × Option B)) (w : Word) (known : Bool) (most : ℕ) → v.active ≡ true
       → IsWord n w
       → (known ≡ true → Allows (Kept shows n limit) n id (v, slots) (spot n w) (λ number. number)
-      (λ number me. (me ≡ (with_told (Saw w number) v, slots)) × (number ≤ most)))
+      (λ number me. (me ≡ (with_told (Loaded w number) v, slots)) × (number ≤ most)))
       → MayFind shows n limit id (v, slots) w w known most
   within id v slots w known most active is bound s r deep at small = elim (cases_Bool known) [
     | inl on ↦ let found = bound on s r deep at small in

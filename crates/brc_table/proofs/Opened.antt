@@ -26,7 +26,7 @@ use Rattle.law.specs.known.declared.word.Word.{Word}
 use Rattle.law.specs.known.declared.word.Word.TheVariants.{Of, Queue, NotifyWord, FreeWord}
 use Rattle.law.specs.known.Free_Words.{free_words_for, is_free_cell, free_bits, ShowsOwner}
 use Rattle.law.proofs.known.Free_Law.{told_below, told_bit}
-use Rattle.law.specs.known.Items.{IsWord, Shows, ShowsQueue, word_in}
+use Rattle.law.specs.known.Items.{IsWord, WordShows, ShowsQueue, word_in}
 use Rattle.brc_block.specs.declared.payload.Payload.{Payload}
 use Rattle.law.specs.rule.declared.contents.Contents.{Contents}
 use Rattle.law.specs.rule.Layout.{counts_from, queues_from, spot, extent}
@@ -143,7 +143,7 @@ opens_free n limit k enough =
     mask_small lo hi few = let most : 2 ^ hi ≤ 2 ^ 64 = pow_mono few in omega (arith, most, pow_pos lo)
 
 opens_word : (n limit : ℕ) (w : Word) → FIRST_MORTAL ≤ n → n ≤ MOST_CELLS → IsWord n w
-    → Shows (start_of n limit) w (opening_word n (spot n w))
+    → WordShows (start_of n limit) w (opening_word n (spot n w))
 opens_word n limit (Of Owner c) enough few is = subst (ShowsOwner 1 (cell_at (start_of n limit) c).owner)
     (sym (among_counts n (spot n (Of Owner c)) c 10 is (omega arith) refl)) (opens_owner n limit c enough)
 opens_word n limit (FreeWord k) enough few is = among_free n k few is ∙ opens_free n limit k enough
@@ -240,7 +240,7 @@ module _ {A : Type 0} where
   opens_so n limit slots options made = record {
     wide = length-opening_words n (extent n);
     deep = deep_of n slots made;
-    each_word = λ w is. subst (Shows (start_of n limit) w) (sym (read_word n (extent n) (spot n w) (inside n w is)))
+    each_word = λ w is. subst (WordShows (start_of n limit) w) (sym (read_word n (extent n) (spot n w) (inside n w is)))
         (opens_word n limit w (omega (arith, options.enough)) options.few_enough is);
     immortals = λ c fixed.
         let low : c < n = omega (arith, fixed, options.enough) in

@@ -8,18 +8,18 @@ use Rattle.law.specs.known.declared.word.Word.{Word}
 use Rattle.law.specs.known.declared.word.Word.TheVariants.{Queue, NotifyWord, FreeWord}
 use Rattle.law.specs.known.Items.{IsWord}
 use Rattle.law.specs.world.Heap.{words_for}
-use Rattle.law.specs.steps.Owing.{Tells}
+use Rattle.law.specs.steps.Owing.{MayNudge}
 use Rattle.law.specs.rule.declared.contents.Contents.{Contents}
 use Rattle.law.specs.rule.declared.view.View.{View}
 use Rattle.law.specs.rule.Layout.{spot, extent}
-use Rattle.law.specs.rule.declared.told.Told.{Told}
-use Rattle.law.specs.rule.declared.told.Told.TheVariants.{Saw}
+use Rattle.law.specs.rule.declared.told.LogItem.{LogItem}
+use Rattle.law.specs.rule.declared.told.LogItem.TheVariants.{Loaded}
 use Rattle.law.specs.rule.Rule.{with_told, Kept}
 use Rattle.law.specs.rule.Seen.{part_seen}
 use Rattle.law.specs.world.Lists.{is_blank, is_unmarked}
 use Rattle.law.specs.world.Steps.{is_left, is_free_hand}
 use Rattle.brc_words.specs.declared.limits.TheConstants.{MOST_CELLS, MOST_THREADS, MOST_REGISTRATIONS}
-use Rattle.law.specs.steps.Joining.{next_thread, registrations, registering, starting, gathering, spent, Leaves}
+use Rattle.law.specs.steps.Joining.{next_thread, registrations, registering, starting, gathering, spent, HasLeft}
 use Rattle.law.proofs.steps.Root_Steps.{splits, joins}
 use Rattle.brc_table.specs.declared.rule.Sizes.{Sizes}
 use Rattle.brc_table.specs.Machine.{exchanged, MayTell, MayFind, MayExchange}
@@ -63,14 +63,14 @@ module _ {B : Type 0} (shows : B → ℕ × Contents) where
               sized.slots there allowed,
         ))
 
-    pub step_told : (me : Me (Option B) View) (f : ℕ → ℕ) (item : ℕ → Told) (w : Word)
+    pub step_told : (me : Me (Option B) View) (f : ℕ → ℕ) (item : ℕ → LogItem) (w : Word)
         → Sized key table n limit → record { table = table; cells = n; local_limit = limit } ≡ seen → at ≡ spot n w
         → seat_at ≡ seen.table → IsWord seen.cells w → MayTell shows seen.cells seen.local_limit id me w f item
         → (seat_at ≡ table) × (at < table.words) × Allows (Kept shows key.cells key.local_limit) table.slots id me at f
         (λ there after. after ≡ (with_told (item there) me.0, me.1))
     step_told me f item w = step_allowed me f (λ there after. after ≡ (with_told (item there) me.0, me.1)) w
 
-    pub step_exchanged : (me : Me (Option B) View) (noted : Word) (old new : ℕ) (won : Told) (w : Word)
+    pub step_exchanged : (me : Me (Option B) View) (noted : Word) (old new : ℕ) (won : LogItem) (w : Word)
         → Sized key table n limit → record { table = table; cells = n; local_limit = limit } ≡ seen → at ≡ spot n w
         → seat_at ≡ seen.table → IsWord seen.cells w
         → MayExchange shows seen.cells seen.local_limit id me w noted old new won
@@ -86,9 +86,9 @@ module _ {B : Type 0} (shows : B → ℕ × Contents) where
         → MayFind shows seen.cells seen.local_limit id me w noted known bound
         → (seat_at ≡ table) × (at < table.words)
         × Allows (Kept shows key.cells key.local_limit) table.slots id me at (λ there. there)
-        (λ there after. (after ≡ (with_told (Saw noted there) me.0, me.1)) × (known ≡ true → there ≤ bound))
+        (λ there after. (after ≡ (with_told (Loaded noted there) me.0, me.1)) × (known ≡ true → there ≤ bound))
     step_found me noted known bound w = step_allowed me (λ there. there)
-        (λ there after. (after ≡ (with_told (Saw noted there) me.0, me.1)) × (known ≡ true → there ≤ bound)) w
+        (λ there after. (after ≡ (with_told (Loaded noted there) me.0, me.1)) × (known ≡ true → there ≤ bound)) w
 
   -- a thread's seat is split off, and one that has left is joined
   pub split_allowed : (cells most id : ℕ) (v : View) → v.active ≡ true → v.thread ≡ 0 → next_thread v ≤ MOST_THREADS
@@ -97,16 +97,16 @@ module _ {B : Type 0} (shows : B → ℕ × Contents) where
       (record { active = active; root = root; few = few; more = more })
 
   pub join_allowed : (n cells most id : ℕ) (v : View) (other : ℕ) (w : View) → cells ≡ n → v.active ≡ true
-      → v.thread ≡ 0 → Leaves n w → Joins (Kept shows cells most) id v other w (gathering v w) spent
+      → v.thread ≡ 0 → HasLeft n w → Joins (Kept shows cells most) id v other w (gathering v w) spent
   join_allowed n cells most id v other w same active root leaves = joins shows cells most id v other w active root
-      (subst (λ m. Leaves m w) (sym same) leaves)
+      (subst (λ m. HasLeft m w) (sym same) leaves)
 
 -- the table has some words
 pub some_words : (n wide : ℕ) → wide ≡ extent n → 0 < wide
 some_words n wide size = omega (arith, size)
 
 -- a view that the seat's thread and log make up
-pub leaves_so : (n : ℕ) (v w : View) → w.active ≡ true → w.thread ≡ v.thread → w.log ≡ v.log → Leaves n v → Leaves n w
+pub leaves_so : (n : ℕ) (v w : View) → w.active ≡ true → w.thread ≡ v.thread → w.log ≡ v.log → HasLeft n v → HasLeft n w
 leaves_so n v w active same_thread same_log leaves = record {
   active = active;
   some_thread = subst (λ u. 0 < u) (sym same_thread) leaves.some_thread;
@@ -124,10 +124,12 @@ pub own_queue_inside : (n thread word : ℕ) → thread ≤ MOST_THREADS → wor
 own_queue_inside n thread word few low = (omega (arith, few), low)
 
 -- who is told has a notify word, and each of its queue words has a bit there
-pub told_inside : (n : ℕ) (log : List Told) (thread word : ℕ) → Tells n log thread word → IsWord n (NotifyWord thread)
+pub told_inside : (n : ℕ) (log : List LogItem) (thread word : ℕ) → MayNudge n log thread word
+    → IsWord n (NotifyWord thread)
 told_inside n log thread word tells = omega (arith, tells.few)
 
-pub notify_bit : (n : ℕ) (log : List Told) (thread word : ℕ) → n ≤ MOST_CELLS → Tells n log thread word → word / 32 < 64
+pub notify_bit : (n : ℕ) (log : List LogItem) (thread word : ℕ) → n ≤ MOST_CELLS → MayNudge n log thread word
+    → word / 32 < 64
 notify_bit n log thread word few tells = omega (arith, few, tells.word)
 
 -- the free word of a cell

@@ -9,7 +9,7 @@ use Rattle.law.specs.world.Holding.{Headline}
 use Rattle.law.specs.world.Since.{HistoriesSince}
 use Rattle.law.specs.world.Runs.{IsReached}
 use Rattle.law.specs.known.declared.word.Word.{Word}
-use Rattle.law.specs.known.Items.{IsWord, Shows, events_of}
+use Rattle.law.specs.known.Items.{IsWord, WordShows, events_of}
 use Rattle.law.specs.rule.declared.view.View.{View}
 use Rattle.law.specs.rule.Layout.{spot}
 use Rattle.law.specs.rule.Logs.{Run, items_of, own_of, all_of, lives_of, world, IsLegal}
@@ -29,7 +29,7 @@ module _ {A : Type 0} where
     pub reached : IsReached (world n limit run)
     pub headline : Headline (world n limit run)
     pub histories : HistoriesSince (start_of n limit) (events_of (items_of run))
-    pub words : (w : Word) → IsWord n w → Shows (world n limit run) w (slice_index s.words (spot n w))
+    pub words : (w : Word) → IsWord n w → WordShows (world n limit run) w (slice_index s.words (spot n w))
     pub homes : (c : ℕ) → c < n → HomeShown shows s.homes (world n limit run) run c
     pub seats : (t : ℕ) → stands (world n limit run) t ≡ true → (j : ℕ) × Seated s.views t j
     pub one_seat : (i j : ℕ) (v w : View) → get_elem? s.views i ≡ some v → get_elem? s.views j ≡ some w

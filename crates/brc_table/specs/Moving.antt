@@ -15,12 +15,12 @@ use Rattle.law.specs.rule.declared.contents.Contents.{Contents}
 use Rattle.law.specs.rule.declared.contents.Contents.TheVariants.{Nothing}
 use Rattle.law.specs.rule.declared.told.Moved.{Moved}
 use Rattle.law.specs.rule.declared.told.Moved.TheVariants as moves
-use Rattle.law.specs.rule.declared.told.Told.{Told}
+use Rattle.law.specs.rule.declared.told.LogItem.{LogItem}
 use Rattle.law.specs.rule.declared.view.View.{View}
 use Rattle.law.specs.rule.Layout.{spot}
 use Rattle.law.specs.rule.Rule.{with_told, Kept}
 use Rattle.law.specs.rule.Seen.{contents_locked, part_seen}
-use Rattle.law.specs.steps.Taking.{Ended, Claimed, Locked}
+use Rattle.law.specs.steps.Taking.{EndedObject, Claimed, LockedOrBusy}
 use Rattle.brc_table.specs.Shown.{shows, contents_of}
 
 -- what the thread's newest locking found
@@ -28,11 +28,11 @@ abbrev pub found_or : Contents → Option Contents → Contents
 found_or contents None = contents
 found_or contents (Some found) = found
 
-abbrev pub found_locked : List Told → Contents
+abbrev pub found_locked : List LogItem → Contents
 found_locked log = found_or Nothing (contents_locked log)
 
 -- what the thread has given back so far is a number of 64 bits
-abbrev pub FewFrees : ℕ → List Told → Type 0
+abbrev pub FewFrees : ℕ → List LogItem → Type 0
 FewFrees n log = (part_seen n log).row.frees < 2 ^ 64
 
 module _ {A : Type 0} where
@@ -77,12 +77,12 @@ module _ {A : Type 0} where
     -- and d are n and c, as a ghost value gives them to what is told; so below.
     abbrev pub MayEnd : ℕ → (ℕ → ℕ) → ℕ → Step → ℕ → Type 0
     MayEnd c f m s d = Allows (Kept shows n limit) n id me (spot n (Of Shared c)) f
-        (λ there after. Ended shows m me.0 me.1 s d there (takes_block s (cell_told s there)) after)
+        (λ there after. EndedObject shows m me.0 me.1 s d there (takes_block s (cell_told s there)) after)
 
     -- the same of a step that is told another number than the one found
     abbrev pub MayEndAt : ℕ → (ℕ → ℕ) → (ℕ → ℕ) → ℕ → Step → ℕ → Type 0
     MayEndAt c f told m s d = Allows (Kept shows n limit) n id me (spot n (Of Shared c)) f
-        (λ there after. Ended shows m me.0 me.1 s d (told there) (takes_block s (cell_told s (told there))) after)
+        (λ there after. EndedObject shows m me.0 me.1 s d (told there) (takes_block s (cell_told s (told there))) after)
 
     -- the cell's free word keeps the bits of the mask, and where it had the cell's bit the seat has its slot
     abbrev pub MayClaim : ℕ → ℕ → ℕ → ℕ → Type 0
@@ -92,21 +92,22 @@ module _ {A : Type 0} where
     -- an unlocked object's mutex word becomes the new number, and the seat has its block
     abbrev pub MayLock : ℕ → ℕ → ℕ → ℕ → ℕ → Type 0
     MayLock c new m k d = Allows (Kept shows n limit) n id me (spot n (Of Mutex c))
-        (λ there. either (there == 0) new there) (λ there after. Locked shows m me.0 me.1 k d there (there == 0) after)
+        (λ there. either (there == 0) new there)
+        (λ there after. LockedOrBusy shows m me.0 me.1 k d there (there == 0) after)
 
     -- A word becomes f of what it was, as the item that this tells, and the slot that the seat took last is home; what
     -- the thread has given back so far is a number of 64 bits.
-    abbrev pub MayGiveBy : Word → (ℕ → ℕ) → (ℕ → Told) → Type 0
+    abbrev pub MayGiveBy : Word → (ℕ → ℕ) → (ℕ → LogItem) → Type 0
     MayGiveBy w f item = Allows (Kept shows n limit) n id me (spot n w) f
         (λ there after. after ≡ (with_told (item there) me.0, rest me.1))
 
-    abbrev pub MayGiveByOfFew : Word → (ℕ → ℕ) → (ℕ → Told) → ℕ → Type 0
+    abbrev pub MayGiveByOfFew : Word → (ℕ → ℕ) → (ℕ → LogItem) → ℕ → Type 0
     MayGiveByOfFew w f item m = Allows (Kept shows n limit) n id me (spot n w) f
         (λ there after. (after ≡ (with_told (item there) me.0, rest me.1)) × FewFrees m after.0.log)
 
     -- the same by a store
-    abbrev pub MayGive : Word → ℕ → Told → Type 0
+    abbrev pub MayGive : Word → ℕ → LogItem → Type 0
     MayGive w new item = MayGiveBy w (λ _. new) (λ _. item)
 
-    abbrev pub MayGiveOfFew : Word → ℕ → Told → ℕ → Type 0
+    abbrev pub MayGiveOfFew : Word → ℕ → LogItem → ℕ → Type 0
     MayGiveOfFew w new item m = MayGiveByOfFew w (λ _. new) (λ _. item) m

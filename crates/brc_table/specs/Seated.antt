@@ -5,7 +5,7 @@ use Rattle.brc_block.specs.declared.payload.Payload.{Payload}
 use Rattle.brc_words.specs.declared.limits.TheConstants.{FEWEST_CELLS, MOST_CELLS, MOST_LOCAL}
 use Rattle.law.specs.rule.Layout.{extent}
 use Rattle.brc_table.specs.declared.rule.Sizes.{Sizes}
-use Rattle.law.specs.rule.declared.told.Told.{Told}
+use Rattle.law.specs.rule.declared.told.LogItem.{LogItem}
 use Rattle.law.specs.rule.declared.view.View.{View}
 
 -- which table it is, of how many cells, and how far an owner counts on its own
@@ -29,7 +29,7 @@ pub record SeatSeen (A : Type 0) : Type 0 where
   pub table : TableId
   pub id : ℕ
   pub thread : ℕ
-  pub log : List Told
+  pub log : List LogItem
   pub slots : List (ℕ × Option (ℕ × Payload A))
 
 -- what they see of the root's
@@ -44,8 +44,8 @@ module _ {A : Type 0} where
   Continues old new = (new.table ≡ old.table) × (new.thread ≡ old.thread)
 
   -- the same seat; its log is another matter
-  abbrev pub Stays : SeatSeen A → SeatSeen A → Type 0
-  Stays old new = (new.table ≡ old.table) × (new.thread ≡ old.thread) × (new.slots ≡ old.slots)
+  abbrev pub IsSameSeat : SeatSeen A → SeatSeen A → Type 0
+  IsSameSeat old new = (new.table ≡ old.table) × (new.thread ≡ old.thread) × (new.slots ≡ old.slots)
 
   -- its view, as the root takes it in
   abbrev pub view_of : SeatSeen A → View

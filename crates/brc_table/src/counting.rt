@@ -7,11 +7,12 @@ ghost use Rattle.law.specs.known.declared.word.Field.TheVariants as fields;
 ghost use Rattle.law.specs.known.declared.word.Word.TheVariants as words;
 ghost use Rattle.law.specs.known.Going_On.{filling, counting, counting_down, giving_up, asking};
 ghost use Rattle.law.specs.rule.declared.told.Moved.TheVariants as moves;
-ghost use Rattle.law.specs.rule.declared.told.Told.TheVariants as told;
-ghost use Rattle.law.specs.steps.Owing.{Raises, RaisesImmortal, Lowers, LowersImmortal, RaisesShared, Releases};
+ghost use Rattle.law.specs.rule.declared.told.LogItem.TheVariants as told;
+ghost use Rattle.law.specs.steps.Owing.{MayRaise, MayRaiseImmortal, MayLower, MayLowerImmortal, MayRaiseShared};
+ghost use Rattle.law.specs.steps.Owing.{MayRelease};
 ghost use Rattle.law.specs.rule.Seen.{risen_seen, contents_locked};
-ghost use Rattle.brc_table.specs.Knowing.{known_seen, Knows, Keeps, SeesRisen, Notes};
-ghost use Rattle.brc_table.specs.Seated.{Stays};
+ghost use Rattle.brc_table.specs.Knowing.{known_seen, Knows, KeepsNotes, SeesRisen, NotesNumber};
+ghost use Rattle.brc_table.specs.Seated.{IsSameSeat};
 
 use crate::machine::{add, exchange, load, or, store};
 use crate::seats::ThreadSeat;
@@ -33,12 +34,13 @@ impl<A: Allocator> HeapTable<A> {
     )
         requires table { seat.old.table ≡ self.now.table }
         requires inside { cell < self.now.cells }
-        requires raises { Raises self.now.cells self.now.local_limit seat.old.log source place cell count }
-        ensures told { seat.new.log ≡ told.Did (steps.LocalUp source place) (count + 1) moves.Nothing ∷ seat.old.log }
-        ensures seat { Stays seat.old seat.new }
+        requires raises { MayRaise self.now.cells self.now.local_limit seat.old.log source place cell count }
+        ensures told { seat.new.log ≡ told.Stepped (steps.LocalUp source place)
+            (count + 1) moves.Nothing ∷ seat.old.log }
+        ensures seat { IsSameSeat seat.old seat.new }
         ensures knows { Knows self.now.cells seat.new.log
             (filling place cell (counting cell (count + 1) (known_seen self.now.cells seat.old.log))) }
-        ensures keeps { Keeps self.now.cells seat.old.log seat.new.log }
+        ensures keeps { KeepsNotes self.now.cells seat.old.log seat.new.log }
         ensures found { contents_locked seat.new.log ≡ contents_locked seat.old.log }
     {
         let word = Word::Of(Field::Local, cell);
@@ -51,12 +53,12 @@ impl<A: Allocator> HeapTable<A> {
     pub fn local_down(&self, seat: &mut ThreadSeat<A>, drop: Dropped, cell: u32, count: u32)
         requires table { seat.old.table ≡ self.now.table }
         requires inside { cell < self.now.cells }
-        requires lowers { Lowers self.now.cells seat.old.log drop cell count }
-        ensures told { seat.new.log ≡ told.Did (steps.LocalDown drop) (count - 1) moves.Nothing ∷ seat.old.log }
-        ensures seat { Stays seat.old seat.new }
+        requires lowers { MayLower self.now.cells seat.old.log drop cell count }
+        ensures told { seat.new.log ≡ told.Stepped (steps.LocalDown drop) (count - 1) moves.Nothing ∷ seat.old.log }
+        ensures seat { IsSameSeat seat.old seat.new }
         ensures knows { Knows self.now.cells seat.new.log
             (counting_down (count == 1) drop cell (count - 1) (known_seen self.now.cells seat.old.log)) }
-        ensures keeps { Keeps self.now.cells seat.old.log seat.new.log }
+        ensures keeps { KeepsNotes self.now.cells seat.old.log seat.new.log }
     {
         let word = Word::Of(Field::Local, cell);
         let step = Step::LocalDown(drop);
@@ -74,12 +76,12 @@ impl<A: Allocator> HeapTable<A> {
     ) -> u64
         requires table { seat.old.table ≡ self.now.table }
         requires inside { cell < self.now.cells }
-        requires raises { RaisesImmortal self.now.cells seat.old.log source place cell }
-        ensures told { seat.new.log ≡ told.Did (steps.LocalUp source place) result moves.Nothing ∷ seat.old.log }
-        ensures seat { Stays seat.old seat.new }
+        requires raises { MayRaiseImmortal self.now.cells seat.old.log source place cell }
+        ensures told { seat.new.log ≡ told.Stepped (steps.LocalUp source place) result moves.Nothing ∷ seat.old.log }
+        ensures seat { IsSameSeat seat.old seat.new }
         ensures knows { Knows self.now.cells seat.new.log
             (filling place cell (counting cell result (known_seen self.now.cells seat.old.log))) }
-        ensures keeps { Keeps self.now.cells seat.old.log seat.new.log }
+        ensures keeps { KeepsNotes self.now.cells seat.old.log seat.new.log }
         ensures found { contents_locked seat.new.log ≡ contents_locked seat.old.log }
     {
         let word = Word::Of(Field::Local, cell);
@@ -92,12 +94,12 @@ impl<A: Allocator> HeapTable<A> {
     pub fn immortal_down(&self, seat: &mut ThreadSeat<A>, drop: Dropped, cell: u32) -> u64
         requires table { seat.old.table ≡ self.now.table }
         requires inside { cell < self.now.cells }
-        requires lowers { LowersImmortal self.now.cells seat.old.log drop cell }
-        ensures told { seat.new.log ≡ told.Did (steps.LocalDown drop) result moves.Nothing ∷ seat.old.log }
-        ensures seat { Stays seat.old seat.new }
+        requires lowers { MayLowerImmortal self.now.cells seat.old.log drop cell }
+        ensures told { seat.new.log ≡ told.Stepped (steps.LocalDown drop) result moves.Nothing ∷ seat.old.log }
+        ensures seat { IsSameSeat seat.old seat.new }
         ensures knows { Knows self.now.cells seat.new.log
             (giving_up (Some drop) (counting cell result (known_seen self.now.cells seat.old.log))) }
-        ensures keeps { Keeps self.now.cells seat.old.log seat.new.log }
+        ensures keeps { KeepsNotes self.now.cells seat.old.log seat.new.log }
     {
         let word = Word::Of(Field::Local, cell);
         load(self, &mut seat.place, word, Step::LocalDown(drop))
@@ -108,12 +110,12 @@ impl<A: Allocator> HeapTable<A> {
     pub fn shared_up(&self, seat: &mut ThreadSeat<A>, source: Source, place: u32, cell: u32) -> u64
         requires table { seat.old.table ≡ self.now.table }
         requires inside { cell < self.now.cells }
-        requires raises { RaisesShared self.now.cells self.now.local_limit seat.old.log source place cell }
-        ensures told { seat.new.log ≡ told.Did (steps.SharedUp source place) result moves.Nothing ∷ seat.old.log }
-        ensures seat { Stays seat.old seat.new }
+        requires raises { MayRaiseShared self.now.cells self.now.local_limit seat.old.log source place cell }
+        ensures told { seat.new.log ≡ told.Stepped (steps.SharedUp source place) result moves.Nothing ∷ seat.old.log }
+        ensures seat { IsSameSeat seat.old seat.new }
         ensures knows { Knows self.now.cells seat.new.log
             (filling place cell (known_seen self.now.cells seat.old.log)) }
-        ensures keeps { Keeps self.now.cells seat.old.log seat.new.log }
+        ensures keeps { KeepsNotes self.now.cells seat.old.log seat.new.log }
         ensures found { contents_locked seat.new.log ≡ contents_locked seat.old.log }
         ensures risen { result % 4 ≢ 0 → risen_seen self.now.cells seat.new.log (drops.Frame place) cell ≡ true }
     {
@@ -127,12 +129,12 @@ impl<A: Allocator> HeapTable<A> {
     pub fn ask(&self, seat: &mut ThreadSeat<A>, drop: Dropped, cell: u32) -> u64
         requires table { seat.old.table ≡ self.now.table }
         requires inside { cell < self.now.cells }
-        requires releases { Releases self.now.cells seat.old.log (steps.Ask drop) cell }
-        ensures told { seat.new.log ≡ told.Did (steps.Ask drop) result moves.Nothing ∷ seat.old.log }
-        ensures seat { Stays seat.old seat.new }
+        requires releases { MayRelease self.now.cells seat.old.log (steps.Ask drop) cell }
+        ensures told { seat.new.log ≡ told.Stepped (steps.Ask drop) result moves.Nothing ∷ seat.old.log }
+        ensures seat { IsSameSeat seat.old seat.new }
         ensures knows { Knows self.now.cells seat.new.log
             (asking (result % 4 == 0) drop cell (known_seen self.now.cells seat.old.log)) }
-        ensures keeps { Keeps self.now.cells seat.old.log seat.new.log }
+        ensures keeps { KeepsNotes self.now.cells seat.old.log seat.new.log }
         ensures risen { result % 4 ≢ 0 → risen_seen self.now.cells seat.new.log drop cell ≡ true }
     {
         let word = Word::Of(Field::Shared, cell);
@@ -150,20 +152,21 @@ impl<A: Allocator> HeapTable<A> {
     ) -> Result<(), u64>
         requires table { seat.old.table ≡ self.now.table }
         requires inside { cell < self.now.cells }
-        requires releases { Releases self.now.cells seat.old.log (steps.SharedDown drop) cell }
+        requires releases { MayRelease self.now.cells seat.old.log (steps.SharedDown drop) cell }
         requires default { old % 4 ≡ 0 }
         requires some_count { 2 ^ 42 + 4 ≤ old }
-        ensures won { OnOk result (seat.new.log ≡ told.Did (steps.SharedDown drop) old moves.Nothing ∷ seat.old.log) }
+        ensures won { OnOk result
+            (seat.new.log ≡ told.Stepped (steps.SharedDown drop) old moves.Nothing ∷ seat.old.log) }
         ensures lost { IfErr result (λ found. seat.new.log ≡ told.Lost (words.Of fields.Shared cell) found
             ∷ seat.old.log) }
         ensures moved { IfErr result (λ found. found ≢ old) }
-        ensures seat { Stays seat.old seat.new }
+        ensures seat { IsSameSeat seat.old seat.new }
         ensures won_knows { OnOk result
             (Knows self.now.cells seat.new.log (giving_up (Some drop) (known_seen self.now.cells seat.old.log))) }
         ensures lost_knows { OnErr result (Knows self.now.cells seat.new.log (known_seen self.now.cells seat.old.log)) }
-        ensures keeps { Keeps self.now.cells seat.old.log seat.new.log }
+        ensures keeps { KeepsNotes self.now.cells seat.old.log seat.new.log }
         ensures lost_sees { IfErr result (λ found. SeesRisen self.now.cells seat.old.log cell found seat.new.log) }
-        ensures lost_notes { IfErr result (λ found. Notes fields.Shared cell found seat.old.log seat.new.log) }
+        ensures lost_notes { IfErr result (λ found. NotesNumber fields.Shared cell found seat.old.log seat.new.log) }
     {
         let word = Word::Of(Field::Shared, cell);
         let step = Step::SharedDown(drop);

@@ -3,8 +3,8 @@
 ghost use Rattle.std.specs.Prelude.{◌≡◌, ℕ, ◌<◌, bit_or};
 ghost use Rattle.law.specs.known.declared.word.Word.TheVariants as words;
 ghost use Rattle.law.specs.known.Items.{IsWord};
-ghost use Rattle.law.specs.rule.declared.told.Told.{Told as told_data};
-ghost use Rattle.law.specs.rule.declared.told.Told.TheVariants as told;
+ghost use Rattle.law.specs.rule.declared.told.LogItem.{LogItem as told_data};
+ghost use Rattle.law.specs.rule.declared.told.LogItem.TheVariants as told;
 ghost use Rattle.law.specs.rule.Rule.{with_told};
 ghost use Rattle.law.specs.steps.Taking.{AreQueued};
 ghost use Rattle.brc_table.specs.Machine.{MayTake};
@@ -31,7 +31,7 @@ pub(crate) trait Draining {
 }
 
 impl Draining for Brand {
-    ghost item = { λ number. told.Saw (words.NotifyWord 0) number };
+    ghost item = { λ number. told.Loaded (words.NotifyWord 0) number };
 
     ghost cells = { 0 };
 
@@ -39,11 +39,11 @@ impl Draining for Brand {
 }
 
 /// The seat's log has the item, its slots stay, and each bit that was found is a cell.
-pub(crate) struct Drains<M> {
+pub(crate) struct LogDrains<M> {
     marker: PhantomData<M>,
 }
 
-impl<S, M: Draining> Play<S, View> for Drains<M> {
+impl<S, M: Draining> Play<S, View> for LogDrains<M> {
     ghost then = { λ step me number after. (after ≡ (with_told (M.item number) me.0, me.1))
         × AreQueued M.cells M.word number };
 }
@@ -66,7 +66,7 @@ pub(crate) fn take_bits<A: Allocator, M: Draining>(
 {
     let _step = step;
     let at = spot_of(table.cells, word);
-    table.table.shared.swap::<Drains<M>>(seat, at, 0)
+    table.table.shared.swap::<LogDrains<M>>(seat, at, 0)
 }
 
 /// A setting of bit 63, which closes the word.
@@ -87,5 +87,8 @@ pub(crate) fn take_and_close<A: Allocator, M: Draining>(
 {
     let _step = step;
     let at = spot_of(table.cells, word);
-    table.table.shared.fetch_or::<Drains<M>>(seat, at, 1 << 63)
+    table
+        .table
+        .shared
+        .fetch_or::<LogDrains<M>>(seat, at, 1 << 63)
 }

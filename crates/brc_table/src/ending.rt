@@ -9,11 +9,11 @@ ghost use Rattle.law.specs.world.Steps.{takes_block};
 ghost use Rattle.law.specs.known.Going_On.{handing, taking, seeing_zero, dropping_last, settling};
 ghost use Rattle.law.specs.known.Items.{cell_told};
 ghost use Rattle.law.specs.known.Taken.{listed_at};
-ghost use Rattle.law.specs.rule.declared.told.Told.TheVariants as told;
+ghost use Rattle.law.specs.rule.declared.told.LogItem.TheVariants as told;
 ghost use Rattle.law.specs.rule.Seen.{taken_seen};
-ghost use Rattle.law.specs.steps.Owing.{Carries, EndsRisen, EndsPopped, EndsAdded, EndsLeft, EndsShut, EndsNobodys};
+ghost use Rattle.law.specs.steps.Owing.{MayCarry, EndsRisen, EndsPopped, EndsAdded, EndsLeft, EndsShut, EndsNobodys};
 ghost use Rattle.law.specs.steps.Taking.{AreCells};
-ghost use Rattle.brc_table.specs.Knowing.{known_seen, entries_of, Knows, Keeps};
+ghost use Rattle.brc_table.specs.Knowing.{known_seen, entries_of, Knows, KeepsNotes};
 ghost use Rattle.brc_table.specs.Moving.{is_there, found_in, out_with};
 ghost use Rattle.brc_table.specs.Seated.{Continues};
 
@@ -28,20 +28,20 @@ impl<A: Allocator> HeapTable<A> {
     pub fn see_zero(&self, seat: &mut ThreadSeat<A>, cell: u32) -> Found<A>
         requires table { seat.old.table ≡ self.now.table }
         requires inside { cell < self.now.cells }
-        requires carries { Carries self.now.cells seat.old.log (steps.SeeZero cell) cell }
+        requires carries { MayCarry self.now.cells seat.old.log (steps.SeeZero cell) cell }
         ensures of_cell { IfSome result.block (λ block. block.0 ≡ cell) }
         ensures fresh { IfSome result.block (λ block. listed_at (taken_seen self.now.cells seat.old.log) cell ≡ None) }
         ensures entries { AreCells self.now.cells (entries_of result.block) }
         ensures dead { is_there result.block ≡ takes_block (steps.SeeZero cell)
             (cell_told (steps.SeeZero cell) result.number) }
-        ensures told { seat.new.log ≡ told.Did (steps.SeeZero cell) result.number (found_in cell result.block)
+        ensures told { seat.new.log ≡ told.Stepped (steps.SeeZero cell) result.number (found_in cell result.block)
             ∷ seat.old.log }
         ensures out { seat.new.slots ≡ out_with cell result.block seat.old.slots }
         ensures seat { Continues seat.old seat.new }
         ensures knows { Knows self.now.cells seat.new.log
             (seeing_zero (is_there result.block) cell (entries_of result.block)
             (known_seen self.now.cells seat.old.log)) }
-        ensures keeps { Keeps self.now.cells seat.old.log seat.new.log }
+        ensures keeps { KeepsNotes self.now.cells seat.old.log seat.new.log }
     {
         let step = Step::SeeZero(cell);
         end_by_load(self, &mut seat.place, cell, step)
@@ -52,20 +52,20 @@ impl<A: Allocator> HeapTable<A> {
     pub fn merge_zero(&self, seat: &mut ThreadSeat<A>, cell: u32) -> Found<A>
         requires table { seat.old.table ≡ self.now.table }
         requires inside { cell < self.now.cells }
-        requires carries { Carries self.now.cells seat.old.log (steps.MergeZero cell) cell }
+        requires carries { MayCarry self.now.cells seat.old.log (steps.MergeZero cell) cell }
         ensures of_cell { IfSome result.block (λ block. block.0 ≡ cell) }
         ensures fresh { IfSome result.block (λ block. listed_at (taken_seen self.now.cells seat.old.log) cell ≡ None) }
         ensures entries { AreCells self.now.cells (entries_of result.block) }
         ensures dead { is_there result.block ≡ takes_block (steps.MergeZero cell)
             (cell_told (steps.MergeZero cell) result.number) }
-        ensures told { seat.new.log ≡ told.Did (steps.MergeZero cell) result.number (found_in cell result.block)
+        ensures told { seat.new.log ≡ told.Stepped (steps.MergeZero cell) result.number (found_in cell result.block)
             ∷ seat.old.log }
         ensures out { seat.new.slots ≡ out_with cell result.block seat.old.slots }
         ensures seat { Continues seat.old seat.new }
         ensures knows { Knows self.now.cells seat.new.log
             (handing hands.Free (taking (is_there result.block) cell (entries_of result.block)
             (known_seen self.now.cells seat.old.log))) }
-        ensures keeps { Keeps self.now.cells seat.old.log seat.new.log }
+        ensures keeps { KeepsNotes self.now.cells seat.old.log seat.new.log }
     {
         let step = Step::MergeZero(cell);
         end_by_or(self, &mut seat.place, cell, 3, step)
@@ -82,14 +82,14 @@ impl<A: Allocator> HeapTable<A> {
         ensures entries { AreCells self.now.cells (entries_of result.block) }
         ensures dead { is_there result.block ≡ takes_block (steps.LastDown (lasts.Dropped drop))
             (cell_told (steps.LastDown (lasts.Dropped drop)) result.number) }
-        ensures told { seat.new.log ≡ told.Did (steps.LastDown (lasts.Dropped drop)) result.number
+        ensures told { seat.new.log ≡ told.Stepped (steps.LastDown (lasts.Dropped drop)) result.number
             (found_in cell result.block) ∷ seat.old.log }
         ensures out { seat.new.slots ≡ out_with cell result.block seat.old.slots }
         ensures seat { Continues seat.old seat.new }
         ensures knows { Knows self.now.cells seat.new.log
             (dropping_last (is_there result.block) drop cell (entries_of result.block)
             (known_seen self.now.cells seat.old.log)) }
-        ensures keeps { Keeps self.now.cells seat.old.log seat.new.log }
+        ensures keeps { KeepsNotes self.now.cells seat.old.log seat.new.log }
     {
         let step = Step::LastDown(LastDropped::Dropped(drop));
         end_by_sub(self, &mut seat.place, cell, 4, step)
@@ -106,14 +106,14 @@ impl<A: Allocator> HeapTable<A> {
         ensures entries { AreCells self.now.cells (entries_of result.block) }
         ensures dead { is_there result.block ≡ takes_block (steps.LastDown (lasts.Popped cell))
             (cell_told (steps.LastDown (lasts.Popped cell)) result.number) }
-        ensures told { seat.new.log ≡ told.Did (steps.LastDown (lasts.Popped cell)) result.number
+        ensures told { seat.new.log ≡ told.Stepped (steps.LastDown (lasts.Popped cell)) result.number
             (found_in cell result.block) ∷ seat.old.log }
         ensures out { seat.new.slots ≡ out_with cell result.block seat.old.slots }
         ensures seat { Continues seat.old seat.new }
         ensures knows { Knows self.now.cells seat.new.log
             (settling cell (taking (is_there result.block) cell (entries_of result.block)
             (known_seen self.now.cells seat.old.log))) }
-        ensures keeps { Keeps self.now.cells seat.old.log seat.new.log }
+        ensures keeps { KeepsNotes self.now.cells seat.old.log seat.new.log }
     {
         let _shared = shared;
         let step = Step::LastDown(LastDropped::Popped(cell));
@@ -131,14 +131,14 @@ impl<A: Allocator> HeapTable<A> {
         ensures entries { AreCells self.now.cells (entries_of result.block) }
         ensures dead { is_there result.block ≡ takes_block (steps.LastDown (lasts.Popped cell))
             (cell_told (steps.LastDown (lasts.Popped cell)) result.number) }
-        ensures told { seat.new.log ≡ told.Did (steps.LastDown (lasts.Popped cell)) result.number
+        ensures told { seat.new.log ≡ told.Stepped (steps.LastDown (lasts.Popped cell)) result.number
             (found_in cell result.block) ∷ seat.old.log }
         ensures out { seat.new.slots ≡ out_with cell result.block seat.old.slots }
         ensures seat { Continues seat.old seat.new }
         ensures knows { Knows self.now.cells seat.new.log
             (settling cell (taking (is_there result.block) cell (entries_of result.block)
             (known_seen self.now.cells seat.old.log))) }
-        ensures keeps { Keeps self.now.cells seat.old.log seat.new.log }
+        ensures keeps { KeepsNotes self.now.cells seat.old.log seat.new.log }
     {
         let step = Step::LastDown(LastDropped::Popped(cell));
         end_by_sub(self, &mut seat.place, cell, 4, step)
@@ -155,14 +155,14 @@ impl<A: Allocator> HeapTable<A> {
         ensures entries { AreCells self.now.cells (entries_of result.block) }
         ensures dead { is_there result.block ≡ takes_block (steps.LastDown (lasts.Popped cell))
             (cell_told (steps.LastDown (lasts.Popped cell)) result.number) }
-        ensures told { seat.new.log ≡ told.Did (steps.LastDown (lasts.Popped cell)) result.number
+        ensures told { seat.new.log ≡ told.Stepped (steps.LastDown (lasts.Popped cell)) result.number
             (found_in cell result.block) ∷ seat.old.log }
         ensures out { seat.new.slots ≡ out_with cell result.block seat.old.slots }
         ensures seat { Continues seat.old seat.new }
         ensures knows { Knows self.now.cells seat.new.log
             (settling cell (taking (is_there result.block) cell (entries_of result.block)
             (known_seen self.now.cells seat.old.log))) }
-        ensures keeps { Keeps self.now.cells seat.old.log seat.new.log }
+        ensures keeps { KeepsNotes self.now.cells seat.old.log seat.new.log }
     {
         let step = Step::LastDown(LastDropped::Popped(cell));
         end_by_sub(self, &mut seat.place, cell, 4, step)
@@ -179,14 +179,15 @@ impl<A: Allocator> HeapTable<A> {
         ensures entries { AreCells self.now.cells (entries_of result.block) }
         ensures dead { is_there result.block ≡ takes_block (steps.LastDown lasts.Hand)
             (cell_told (steps.LastDown lasts.Hand) result.number) }
-        ensures told { seat.new.log ≡ told.Did (steps.LastDown lasts.Hand) result.number (found_in cell result.block)
+        ensures told { seat.new.log ≡ told.Stepped (steps.LastDown lasts.Hand) result.number
+            (found_in cell result.block)
             ∷ seat.old.log }
         ensures out { seat.new.slots ≡ out_with cell result.block seat.old.slots }
         ensures seat { Continues seat.old seat.new }
         ensures knows { Knows self.now.cells seat.new.log
             (handing hands.Free (taking (is_there result.block) cell (entries_of result.block)
             (known_seen self.now.cells seat.old.log))) }
-        ensures keeps { Keeps self.now.cells seat.old.log seat.new.log }
+        ensures keeps { KeepsNotes self.now.cells seat.old.log seat.new.log }
     {
         let step = Step::LastDown(LastDropped::Hand);
         end_by_sub(self, &mut seat.place, cell, 4, step)
@@ -203,14 +204,15 @@ impl<A: Allocator> HeapTable<A> {
         ensures entries { AreCells self.now.cells (entries_of result.block) }
         ensures dead { is_there result.block ≡ takes_block (steps.LastDown lasts.Hand)
             (cell_told (steps.LastDown lasts.Hand) result.number) }
-        ensures told { seat.new.log ≡ told.Did (steps.LastDown lasts.Hand) result.number (found_in cell result.block)
+        ensures told { seat.new.log ≡ told.Stepped (steps.LastDown lasts.Hand) result.number
+            (found_in cell result.block)
             ∷ seat.old.log }
         ensures out { seat.new.slots ≡ out_with cell result.block seat.old.slots }
         ensures seat { Continues seat.old seat.new }
         ensures knows { Knows self.now.cells seat.new.log
             (handing hands.Free (taking (is_there result.block) cell (entries_of result.block)
             (known_seen self.now.cells seat.old.log))) }
-        ensures keeps { Keeps self.now.cells seat.old.log seat.new.log }
+        ensures keeps { KeepsNotes self.now.cells seat.old.log seat.new.log }
     {
         let step = Step::LastDown(LastDropped::Hand);
         end_by_sub(self, &mut seat.place, cell, 4, step)

@@ -8,15 +8,15 @@
 //! above unfolds a log. How it opens is `specs/Opening.antt`, what it leaves `specs/Rest.antt`.
 #![tactic(auto)]
 
+mod births;
 mod counting;
 mod draining;
 mod ending;
 mod laws;
 mod layout;
-mod locking;
+mod locks;
 mod looks;
 mod machine;
-mod making;
 mod merging;
 mod moving;
 mod opening;

@@ -8,11 +8,11 @@ ghost use Rattle.law.specs.known.declared.word.Field.TheVariants as fields;
 ghost use Rattle.law.specs.known.declared.word.Word.TheVariants as words;
 ghost use Rattle.law.specs.known.Free_Words.{free_words_for};
 ghost use Rattle.law.specs.known.Owners_Seen.{has_seen_owner};
-ghost use Rattle.law.specs.rule.declared.told.Told.TheVariants as told;
+ghost use Rattle.law.specs.rule.declared.told.LogItem.TheVariants as told;
 ghost use Rattle.law.specs.rule.Logs.{log_items};
 ghost use Rattle.law.specs.rule.Seen.{part_seen, own_may, contents_locked};
-ghost use Rattle.brc_table.specs.Knowing.{known_seen, Knows, Keeps, SeesRisen, Notes};
-ghost use Rattle.brc_table.specs.Seated.{Stays};
+ghost use Rattle.brc_table.specs.Knowing.{known_seen, Knows, KeepsNotes, SeesRisen, NotesNumber};
+ghost use Rattle.brc_table.specs.Seated.{IsSameSeat};
 
 use crate::machine::{look, look_within};
 use crate::seats::ThreadSeat;
@@ -26,12 +26,12 @@ impl<A: Allocator> HeapTable<A> {
     pub fn load_owner(&self, seat: &mut ThreadSeat<A>, cell: u32) -> u64
         requires table { seat.old.table ≡ self.now.table }
         requires inside { cell < self.now.cells }
-        ensures told { seat.new.log ≡ told.Saw (words.Of fields.Owner cell) result ∷ seat.old.log }
-        ensures seat { Stays seat.old seat.new }
+        ensures told { seat.new.log ≡ told.Loaded (words.Of fields.Owner cell) result ∷ seat.old.log }
+        ensures seat { IsSameSeat seat.old seat.new }
         ensures knows { Knows self.now.cells seat.new.log (known_seen self.now.cells seat.old.log) }
-        ensures keeps { Keeps self.now.cells seat.old.log seat.new.log }
+        ensures keeps { KeepsNotes self.now.cells seat.old.log seat.new.log }
         ensures found { contents_locked seat.new.log ≡ contents_locked seat.old.log }
-        ensures notes { Notes fields.Owner cell result seat.old.log seat.new.log }
+        ensures notes { NotesNumber fields.Owner cell result seat.old.log seat.new.log }
         ensures seen { has_seen_owner (log_items seat.new.log) result ≡ true }
         ensures within { carries cell (part_seen self.now.cells seat.old.log).row.hand ≡ true → result ≤ MOST_THREADS }
     {
@@ -42,12 +42,12 @@ impl<A: Allocator> HeapTable<A> {
     pub fn load_local(&self, seat: &mut ThreadSeat<A>, cell: u32) -> u64
         requires table { seat.old.table ≡ self.now.table }
         requires inside { cell < self.now.cells }
-        ensures told { seat.new.log ≡ told.Saw (words.Of fields.Local cell) result ∷ seat.old.log }
-        ensures seat { Stays seat.old seat.new }
+        ensures told { seat.new.log ≡ told.Loaded (words.Of fields.Local cell) result ∷ seat.old.log }
+        ensures seat { IsSameSeat seat.old seat.new }
         ensures knows { Knows self.now.cells seat.new.log (known_seen self.now.cells seat.old.log) }
-        ensures keeps { Keeps self.now.cells seat.old.log seat.new.log }
+        ensures keeps { KeepsNotes self.now.cells seat.old.log seat.new.log }
         ensures found { contents_locked seat.new.log ≡ contents_locked seat.old.log }
-        ensures notes { Notes fields.Local cell result seat.old.log seat.new.log }
+        ensures notes { NotesNumber fields.Local cell result seat.old.log seat.new.log }
         ensures within { own_may self.now.cells (part_seen self.now.cells seat.old.log) (steps.MergeAdd cell) ≡ true
             → result ≤ self.now.local_limit }
     {
@@ -58,12 +58,12 @@ impl<A: Allocator> HeapTable<A> {
     pub fn load_shared(&self, seat: &mut ThreadSeat<A>, cell: u32) -> u64
         requires table { seat.old.table ≡ self.now.table }
         requires inside { cell < self.now.cells }
-        ensures told { seat.new.log ≡ told.Saw (words.Of fields.Shared cell) result ∷ seat.old.log }
-        ensures seat { Stays seat.old seat.new }
+        ensures told { seat.new.log ≡ told.Loaded (words.Of fields.Shared cell) result ∷ seat.old.log }
+        ensures seat { IsSameSeat seat.old seat.new }
         ensures knows { Knows self.now.cells seat.new.log (known_seen self.now.cells seat.old.log) }
-        ensures keeps { Keeps self.now.cells seat.old.log seat.new.log }
+        ensures keeps { KeepsNotes self.now.cells seat.old.log seat.new.log }
         ensures found { contents_locked seat.new.log ≡ contents_locked seat.old.log }
-        ensures notes { Notes fields.Shared cell result seat.old.log seat.new.log }
+        ensures notes { NotesNumber fields.Shared cell result seat.old.log seat.new.log }
         ensures sees { SeesRisen self.now.cells seat.old.log cell result seat.new.log }
     {
         look(self, &mut seat.place, Word::Of(Field::Shared, cell))
@@ -73,12 +73,12 @@ impl<A: Allocator> HeapTable<A> {
     pub fn load_mutex(&self, seat: &mut ThreadSeat<A>, cell: u32) -> u64
         requires table { seat.old.table ≡ self.now.table }
         requires inside { cell < self.now.cells }
-        ensures told { seat.new.log ≡ told.Saw (words.Of fields.Mutex cell) result ∷ seat.old.log }
-        ensures seat { Stays seat.old seat.new }
+        ensures told { seat.new.log ≡ told.Loaded (words.Of fields.Mutex cell) result ∷ seat.old.log }
+        ensures seat { IsSameSeat seat.old seat.new }
         ensures knows { Knows self.now.cells seat.new.log (known_seen self.now.cells seat.old.log) }
-        ensures keeps { Keeps self.now.cells seat.old.log seat.new.log }
+        ensures keeps { KeepsNotes self.now.cells seat.old.log seat.new.log }
         ensures found { contents_locked seat.new.log ≡ contents_locked seat.old.log }
-        ensures notes { Notes fields.Mutex cell result seat.old.log seat.new.log }
+        ensures notes { NotesNumber fields.Mutex cell result seat.old.log seat.new.log }
     {
         look(self, &mut seat.place, Word::Of(Field::Mutex, cell))
     }
@@ -86,10 +86,10 @@ impl<A: Allocator> HeapTable<A> {
     /// What the thread was told to drain.
     pub fn load_notify(&self, seat: &mut ThreadSeat<A>) -> u64
         requires table { seat.old.table ≡ self.now.table }
-        ensures told { seat.new.log ≡ told.Saw (words.NotifyWord seat.old.thread) result ∷ seat.old.log }
-        ensures seat { Stays seat.old seat.new }
+        ensures told { seat.new.log ≡ told.Loaded (words.NotifyWord seat.old.thread) result ∷ seat.old.log }
+        ensures seat { IsSameSeat seat.old seat.new }
         ensures knows { Knows self.now.cells seat.new.log (known_seen self.now.cells seat.old.log) }
-        ensures keeps { Keeps self.now.cells seat.old.log seat.new.log }
+        ensures keeps { KeepsNotes self.now.cells seat.old.log seat.new.log }
         ensures found { contents_locked seat.new.log ≡ contents_locked seat.old.log }
     {
         let word = Word::NotifyWord(seat.thread);
@@ -100,10 +100,10 @@ impl<A: Allocator> HeapTable<A> {
     pub fn load_free(&self, seat: &mut ThreadSeat<A>, word: u32) -> u64
         requires table { seat.old.table ≡ self.now.table }
         requires inside { word < free_words_for self.now.cells }
-        ensures told { seat.new.log ≡ told.Saw (words.FreeWord word) result ∷ seat.old.log }
-        ensures seat { Stays seat.old seat.new }
+        ensures told { seat.new.log ≡ told.Loaded (words.FreeWord word) result ∷ seat.old.log }
+        ensures seat { IsSameSeat seat.old seat.new }
         ensures knows { Knows self.now.cells seat.new.log (known_seen self.now.cells seat.old.log) }
-        ensures keeps { Keeps self.now.cells seat.old.log seat.new.log }
+        ensures keeps { KeepsNotes self.now.cells seat.old.log seat.new.log }
         ensures found { contents_locked seat.new.log ≡ contents_locked seat.old.log }
     {
         look(self, &mut seat.place, Word::FreeWord(word))

@@ -7,8 +7,8 @@ ghost use Rattle.law.specs.known.declared.word.Word.{Word as word_data};
 ghost use Rattle.law.specs.known.declared.word.Word.TheVariants as words;
 ghost use Rattle.law.specs.known.Items.{IsWord};
 ghost use Rattle.law.specs.rule.declared.told.Moved.TheVariants as moves;
-ghost use Rattle.law.specs.rule.declared.told.Told.{Told as told_data};
-ghost use Rattle.law.specs.rule.declared.told.Told.TheVariants as told;
+ghost use Rattle.law.specs.rule.declared.told.LogItem.{LogItem as told_data};
+ghost use Rattle.law.specs.rule.declared.told.LogItem.TheVariants as told;
 ghost use Rattle.law.specs.rule.Rule.{with_told};
 ghost use Rattle.law.specs.steps.Taking.{CountsSome};
 ghost use Rattle.brc_table.specs.Machine.{MayTell, MaySum, MayFind, MayExchange, exchanged};
@@ -25,20 +25,20 @@ use std::alloc::Allocator;
 use std::marker::{Brand, PhantomData};
 
 /// Which item an operation is, by the number that it is told. A caller's proof picks it.
-pub(crate) trait Item {
+pub(crate) trait ToldItem {
     ghost item: { ℕ → told_data };
 }
 
-impl Item for Brand {
-    ghost item = { λ number. told.Saw (words.NotifyWord 0) number };
+impl ToldItem for Brand {
+    ghost item = { λ number. told.Loaded (words.NotifyWord 0) number };
 }
 
 /// The seat's log has the item, and its slots stay.
-pub(crate) struct Tells<M> {
+pub(crate) struct LogTells<M> {
     marker: PhantomData<M>,
 }
 
-impl<S, M: Item> Play<S, View> for Tells<M> {
+impl<S, M: ToldItem> Play<S, View> for LogTells<M> {
     ghost then = { λ step me number after. after ≡ (with_told (M.item number) me.0, me.1) };
 }
 
@@ -50,17 +50,17 @@ pub(crate) trait Won {
 }
 
 impl Won for Brand {
-    ghost item = { told.Saw (words.NotifyWord 0) 0 };
+    ghost item = { told.Loaded (words.NotifyWord 0) 0 };
 
     ghost word = { words.NotifyWord 0 };
 }
 
 /// The seat's log has the item where the number found was the one expected, and else a note of it.
-pub(crate) struct Exchanges<M> {
+pub(crate) struct LogExchanges<M> {
     marker: PhantomData<M>,
 }
 
-impl<S, M: Won> Play<S, View> for Exchanges<M> {
+impl<S, M: Won> Play<S, View> for LogExchanges<M> {
     ghost then = { λ step me number after. after ≡ (exchanged M.word step.first M.item number me.0, me.1) };
 }
 
@@ -68,7 +68,7 @@ pub(crate) type Place<A> = Seat<Option<Block<A>>, View>;
 
 /// A load, as an item.
 #[inline(always)]
-fn load_as<A: Allocator, M: Item>(
+fn load_as<A: Allocator, M: ToldItem>(
     table: &HeapTable<A>,
     seat: &mut Place<A>,
     word: Word,
@@ -83,7 +83,7 @@ fn load_as<A: Allocator, M: Item>(
 {
     let _step = step;
     let at = spot_of(table.cells, word);
-    table.table.shared.load::<Tells<M>>(seat, at)
+    table.table.shared.load::<LogTells<M>>(seat, at)
 }
 
 /// A load, as an event.
@@ -97,16 +97,16 @@ pub(crate) fn load<A: Allocator>(
     requires same { seat.old.table_id ≡ table.now.table }
     requires inside { IsWord table.now.cells word }
     requires allowed { MayTell shows table.now.cells table.now.local_limit seat.old.id seat.old.me word (λ there. there)
-        (λ there. told.Did step there moves.Nothing) }
+        (λ there. told.Stepped step there moves.Nothing) }
     ensures same { (seat.new.table_id ≡ seat.old.table_id) × (seat.new.id ≡ seat.old.id) }
-    ensures told { seat.new.me ≡ (with_told (told.Did step result moves.Nothing) seat.old.me.0, seat.old.me.1) }
+    ensures told { seat.new.me ≡ (with_told (told.Stepped step result moves.Nothing) seat.old.me.0, seat.old.me.1) }
 {
     load_as::<A, Brand>(table, seat, word, step)
 }
 
 /// A plain store, as an item.
 #[inline(always)]
-fn store_as<A: Allocator, M: Item>(
+fn store_as<A: Allocator, M: ToldItem>(
     table: &HeapTable<A>,
     seat: &mut Place<A>,
     word: Word,
@@ -122,7 +122,7 @@ fn store_as<A: Allocator, M: Item>(
 {
     let _step = step;
     let at = spot_of(table.cells, word);
-    table.table.shared.store::<Tells<M>>(seat, at, new)
+    table.table.shared.store::<LogTells<M>>(seat, at, new)
 }
 
 /// A plain store, as an event.
@@ -137,16 +137,16 @@ pub(crate) fn store<A: Allocator>(
     requires same { seat.old.table_id ≡ table.now.table }
     requires inside { IsWord table.now.cells word }
     requires allowed { MayTell shows table.now.cells table.now.local_limit seat.old.id seat.old.me word (λ _. new)
-        (λ _. told.Did step new moves.Nothing) }
+        (λ _. told.Stepped step new moves.Nothing) }
     ensures same { (seat.new.table_id ≡ seat.old.table_id) × (seat.new.id ≡ seat.old.id) }
-    ensures told { seat.new.me ≡ (with_told (told.Did step new moves.Nothing) seat.old.me.0, seat.old.me.1) }
+    ensures told { seat.new.me ≡ (with_told (told.Stepped step new moves.Nothing) seat.old.me.0, seat.old.me.1) }
 {
     store_as::<A, Brand>(table, seat, word, new, step)
 }
 
 /// An addition, as an item.
 #[inline(always)]
-fn add_as<A: Allocator, M: Item>(
+fn add_as<A: Allocator, M: ToldItem>(
     table: &HeapTable<A>,
     seat: &mut Place<A>,
     word: Word,
@@ -162,7 +162,7 @@ fn add_as<A: Allocator, M: Item>(
 {
     let _step = step;
     let at = spot_of(table.cells, word);
-    table.table.shared.fetch_add::<Tells<M>>(seat, at, more)
+    table.table.shared.fetch_add::<LogTells<M>>(seat, at, more)
 }
 
 /// An addition, as an event.
@@ -177,9 +177,9 @@ pub(crate) fn add<A: Allocator>(
     requires same { seat.old.table_id ≡ table.now.table }
     requires inside { IsWord table.now.cells word }
     requires allowed { MayTell shows table.now.cells table.now.local_limit seat.old.id seat.old.me word
-        (λ there. (there + more) % 2 ^ 64) (λ there. told.Did step there moves.Nothing) }
+        (λ there. (there + more) % 2 ^ 64) (λ there. told.Stepped step there moves.Nothing) }
     ensures same { (seat.new.table_id ≡ seat.old.table_id) × (seat.new.id ≡ seat.old.id) }
-    ensures told { seat.new.me ≡ (with_told (told.Did step result moves.Nothing) seat.old.me.0, seat.old.me.1) }
+    ensures told { seat.new.me ≡ (with_told (told.Stepped step result moves.Nothing) seat.old.me.0, seat.old.me.1) }
 {
     add_as::<A, Brand>(table, seat, word, more, step)
 }
@@ -192,17 +192,17 @@ pub(crate) trait Summed {
 }
 
 impl Summed for Brand {
-    ghost item = { λ number. told.Saw (words.NotifyWord 0) number };
+    ghost item = { λ number. told.Loaded (words.NotifyWord 0) number };
 
     ghost more = { 0 };
 }
 
 /// The seat's log has the item, its slots stay, and the sum counts one reference at least.
-pub(crate) struct Sums<M> {
+pub(crate) struct LogSums<M> {
     marker: PhantomData<M>,
 }
 
-impl<S, M: Summed> Play<S, View> for Sums<M> {
+impl<S, M: Summed> Play<S, View> for LogSums<M> {
     ghost then = { λ step me number after. (after ≡ (with_told (M.item number) me.0, me.1)) × CountsSome
         ((number + M.more) % 2 ^ 64) };
 }
@@ -226,12 +226,12 @@ pub(crate) fn add_up<A: Allocator, M: Summed>(
 {
     let _step = step;
     let at = spot_of(table.cells, word);
-    table.table.shared.fetch_add::<Sums<M>>(seat, at, more)
+    table.table.shared.fetch_add::<LogSums<M>>(seat, at, more)
 }
 
 /// A setting of bits, as an item.
 #[inline(always)]
-fn or_as<A: Allocator, M: Item>(
+fn or_as<A: Allocator, M: ToldItem>(
     table: &HeapTable<A>,
     seat: &mut Place<A>,
     word: Word,
@@ -247,7 +247,7 @@ fn or_as<A: Allocator, M: Item>(
 {
     let _step = step;
     let at = spot_of(table.cells, word);
-    table.table.shared.fetch_or::<Tells<M>>(seat, at, bits)
+    table.table.shared.fetch_or::<LogTells<M>>(seat, at, bits)
 }
 
 /// A setting of bits, as an event.
@@ -262,16 +262,16 @@ pub(crate) fn or<A: Allocator>(
     requires same { seat.old.table_id ≡ table.now.table }
     requires inside { IsWord table.now.cells word }
     requires allowed { MayTell shows table.now.cells table.now.local_limit seat.old.id seat.old.me word
-        (λ there. bit_or there bits) (λ there. told.Did step there moves.Nothing) }
+        (λ there. bit_or there bits) (λ there. told.Stepped step there moves.Nothing) }
     ensures same { (seat.new.table_id ≡ seat.old.table_id) × (seat.new.id ≡ seat.old.id) }
-    ensures told { seat.new.me ≡ (with_told (told.Did step result moves.Nothing) seat.old.me.0, seat.old.me.1) }
+    ensures told { seat.new.me ≡ (with_told (told.Stepped step result moves.Nothing) seat.old.me.0, seat.old.me.1) }
 {
     or_as::<A, Brand>(table, seat, word, bits, step)
 }
 
 /// A load, as an item of its word.
 #[inline(always)]
-fn look_as<A: Allocator, M: Item>(table: &HeapTable<A>, seat: &mut Place<A>, word: Word) -> u64
+fn look_as<A: Allocator, M: ToldItem>(table: &HeapTable<A>, seat: &mut Place<A>, word: Word) -> u64
     requires same { seat.old.table_id ≡ table.now.table }
     requires inside { IsWord table.now.cells word }
     requires allowed { MayTell shows table.now.cells table.now.local_limit seat.old.id seat.old.me word
@@ -280,7 +280,7 @@ fn look_as<A: Allocator, M: Item>(table: &HeapTable<A>, seat: &mut Place<A>, wor
     ensures told { seat.new.me ≡ (with_told (M.item result) seat.old.me.0, seat.old.me.1) }
 {
     let at = spot_of(table.cells, word);
-    table.table.shared.load::<Tells<M>>(seat, at)
+    table.table.shared.load::<LogTells<M>>(seat, at)
 }
 
 #[tactic(auto, using(law::proofs::rule::Looking::looks))]
@@ -291,7 +291,7 @@ pub(crate) fn look<A: Allocator>(table: &HeapTable<A>, seat: &mut Place<A>, word
     requires inside { IsWord table.now.cells word }
     requires active { seat.old.me.0.active ≡ true }
     ensures same { (seat.new.table_id ≡ seat.old.table_id) × (seat.new.id ≡ seat.old.id) }
-    ensures told { seat.new.me ≡ (with_told (told.Saw word result) seat.old.me.0, seat.old.me.1) }
+    ensures told { seat.new.me ≡ (with_told (told.Loaded word result) seat.old.me.0, seat.old.me.1) }
 {
     look_as::<A, Brand>(table, seat, word)
 }
@@ -318,7 +318,7 @@ fn exchange_as<A: Allocator, M: Won>(
     table
         .table
         .shared
-        .compare_exchange::<Exchanges<M>>(seat, at, old, new)
+        .compare_exchange::<LogExchanges<M>>(seat, at, old, new)
 }
 
 /// A compare-exchange, as an event told the number expected, or a note of the number found.
@@ -334,10 +334,10 @@ pub(crate) fn exchange<A: Allocator>(
     requires same { seat.old.table_id ≡ table.now.table }
     requires inside { IsWord table.now.cells word }
     requires allowed { MayExchange shows table.now.cells table.now.local_limit seat.old.id seat.old.me word word old new
-        (told.Did step old moves.Nothing) }
+        (told.Stepped step old moves.Nothing) }
     ensures same { (seat.new.table_id ≡ seat.old.table_id) × (seat.new.id ≡ seat.old.id) }
     ensures told { seat.new.me ≡ (
-      exchanged word old (told.Did step old moves.Nothing) result seat.old.me.0,
+      exchanged word old (told.Stepped step old moves.Nothing) result seat.old.me.0,
       seat.old.me.1,
     ) }
 {
@@ -362,12 +362,13 @@ impl Bounded for Brand {
 }
 
 /// The seat's log has the look, and the number is within its bound.
-pub(crate) struct Finds<M> {
+pub(crate) struct LogFinds<M> {
     marker: PhantomData<M>,
 }
 
-impl<S, M: Bounded> Play<S, View> for Finds<M> {
-    ghost then = { λ step me number after. (after ≡ (with_told (told.Saw M.word number) me.0, me.1)) × (M.known ≡ true
+impl<S, M: Bounded> Play<S, View> for LogFinds<M> {
+    ghost then = { λ step me number after. (after ≡ (with_told (told.Loaded M.word number) me.0, me.1))
+        × (M.known ≡ true
         → number ≤ M.most) };
 }
 
@@ -383,9 +384,9 @@ pub(crate) fn look_within<A: Allocator, M: Bounded>(
     requires allowed { MayFind shows table.now.cells table.now.local_limit seat.old.id seat.old.me word M.word
         M.known M.most }
     ensures same { (seat.new.table_id ≡ seat.old.table_id) × (seat.new.id ≡ seat.old.id) }
-    ensures told { seat.new.me ≡ (with_told (told.Saw M.word result) seat.old.me.0, seat.old.me.1) }
+    ensures told { seat.new.me ≡ (with_told (told.Loaded M.word result) seat.old.me.0, seat.old.me.1) }
     ensures within { M.known ≡ true → result ≤ M.most }
 {
     let at = spot_of(table.cells, word);
-    table.table.shared.load::<Finds<M>>(seat, at)
+    table.table.shared.load::<LogFinds<M>>(seat, at)
 }

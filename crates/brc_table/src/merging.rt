@@ -9,8 +9,8 @@ ghost use Rattle.law.specs.world.declared.row.Phase.TheVariants as phases;
 ghost use Rattle.law.specs.known.Items.{is_shut_word};
 ghost use Rattle.law.specs.known.Going_On.{handing, counting, taking};
 ghost use Rattle.law.specs.rule.declared.told.Moved.TheVariants as moves;
-ghost use Rattle.law.specs.rule.declared.told.Told.TheVariants as told;
-ghost use Rattle.law.specs.steps.Owing.{UntiesOver, UntiesOffered, UntiesPopped, Offers, AddsLocal, Yields, Enqueues};
+ghost use Rattle.law.specs.rule.declared.told.LogItem.TheVariants as told;
+ghost use Rattle.law.specs.steps.Owing.{UntiesOver, UntiesOffered, UntiesPopped, Offers, AddsLocal, MayYield, Enqueues};
 ghost use Rattle.law.specs.steps.Taking.{AreCells};
 ghost use Rattle.law.specs.world.Steps.{takes_block, added_hand};
 ghost use Rattle.law.specs.known.Items.{cell_told};
@@ -18,8 +18,8 @@ ghost use Rattle.law.specs.known.Taken.{listed_at};
 ghost use Rattle.law.specs.rule.Seen.{part_seen, taken_seen};
 ghost use Rattle.brc_table.specs.Moving.{is_there, found_in, out_with};
 ghost use Rattle.law.specs.rule.Noted.{newest_step};
-ghost use Rattle.brc_table.specs.Knowing.{known_seen, entries_of, Knows, Keeps};
-ghost use Rattle.brc_table.specs.Seated.{Stays, Continues};
+ghost use Rattle.brc_table.specs.Knowing.{known_seen, entries_of, Knows, KeepsNotes};
+ghost use Rattle.brc_table.specs.Seated.{IsSameSeat, Continues};
 
 use crate::layout::bit;
 use crate::machine::{add_up, or, store};
@@ -38,11 +38,11 @@ impl<A: Allocator> HeapTable<A> {
         requires table { seat.old.table ≡ self.now.table }
         requires inside { cell < self.now.cells }
         requires unties { UntiesOver self.now.cells seat.old.log cell }
-        ensures told { seat.new.log ≡ told.Did (steps.Untie cell) 0 moves.Nothing ∷ seat.old.log }
-        ensures seat { Stays seat.old seat.new }
+        ensures told { seat.new.log ≡ told.Stepped (steps.Untie cell) 0 moves.Nothing ∷ seat.old.log }
+        ensures seat { IsSameSeat seat.old seat.new }
         ensures knows { Knows self.now.cells seat.new.log
             (handing (hands.Busy phases.Untied cell) (counting cell 0 (known_seen self.now.cells seat.old.log))) }
-        ensures keeps { Keeps self.now.cells seat.old.log seat.new.log }
+        ensures keeps { KeepsNotes self.now.cells seat.old.log seat.new.log }
     {
         let word = Word::Of(Field::Owner, cell);
         store(self, &mut seat.place, word, 0, Step::Untie(cell));
@@ -54,11 +54,11 @@ impl<A: Allocator> HeapTable<A> {
         requires table { seat.old.table ≡ self.now.table }
         requires inside { cell < self.now.cells }
         requires offers { Offers self.now.cells seat.old.log cell }
-        ensures told { seat.new.log ≡ told.Did (steps.Offer cell) result moves.Nothing ∷ seat.old.log }
-        ensures seat { Stays seat.old seat.new }
+        ensures told { seat.new.log ≡ told.Stepped (steps.Offer cell) result moves.Nothing ∷ seat.old.log }
+        ensures seat { IsSameSeat seat.old seat.new }
         ensures knows { Knows self.now.cells seat.new.log
             (handing (hands.Busy phases.Offered cell) (known_seen self.now.cells seat.old.log)) }
-        ensures keeps { Keeps self.now.cells seat.old.log seat.new.log }
+        ensures keeps { KeepsNotes self.now.cells seat.old.log seat.new.log }
     {
         let word = Word::Of(Field::Shared, cell);
         or(self, &mut seat.place, word, 2, Step::Offer(cell))
@@ -70,11 +70,11 @@ impl<A: Allocator> HeapTable<A> {
         requires table { seat.old.table ≡ self.now.table }
         requires inside { cell < self.now.cells }
         requires unties { UntiesOffered self.now.cells seat.old.log cell }
-        ensures told { seat.new.log ≡ told.Did (steps.Untie cell) 0 moves.Nothing ∷ seat.old.log }
-        ensures seat { Stays seat.old seat.new }
+        ensures told { seat.new.log ≡ told.Stepped (steps.Untie cell) 0 moves.Nothing ∷ seat.old.log }
+        ensures seat { IsSameSeat seat.old seat.new }
         ensures knows { Knows self.now.cells seat.new.log
             (handing (hands.Busy phases.Yielding cell) (counting cell 0 (known_seen self.now.cells seat.old.log))) }
-        ensures keeps { Keeps self.now.cells seat.old.log seat.new.log }
+        ensures keeps { KeepsNotes self.now.cells seat.old.log seat.new.log }
     {
         let word = Word::Of(Field::Owner, cell);
         store(self, &mut seat.place, word, 0, Step::Untie(cell));
@@ -85,11 +85,11 @@ impl<A: Allocator> HeapTable<A> {
         requires table { seat.old.table ≡ self.now.table }
         requires inside { cell < self.now.cells }
         requires unties { UntiesPopped self.now.cells seat.old.log cell shared }
-        ensures told { seat.new.log ≡ told.Did (steps.Untie cell) 0 moves.Nothing ∷ seat.old.log }
-        ensures seat { Stays seat.old seat.new }
+        ensures told { seat.new.log ≡ told.Stepped (steps.Untie cell) 0 moves.Nothing ∷ seat.old.log }
+        ensures seat { IsSameSeat seat.old seat.new }
         ensures knows { Knows self.now.cells seat.new.log
             (handing (hands.Busy phases.Popping cell) (counting cell 0 (known_seen self.now.cells seat.old.log))) }
-        ensures keeps { Keeps self.now.cells seat.old.log seat.new.log }
+        ensures keeps { KeepsNotes self.now.cells seat.old.log seat.new.log }
     {
         let _shared = shared;
         let word = Word::Of(Field::Owner, cell);
@@ -102,13 +102,14 @@ impl<A: Allocator> HeapTable<A> {
         requires table { seat.old.table ≡ self.now.table }
         requires inside { cell < self.now.cells }
         requires adds { AddsLocal self.now.cells seat.old.log cell local }
-        ensures told { seat.new.log ≡ told.Did (steps.MergeAdd cell) ((result + (local * 4 + 1)) % 2 ^ 64) moves.Nothing
+        ensures told { seat.new.log ≡ told.Stepped (steps.MergeAdd cell)
+            ((result + (local * 4 + 1)) % 2 ^ 64) moves.Nothing
             ∷ seat.old.log }
-        ensures seat { Stays seat.old seat.new }
+        ensures seat { IsSameSeat seat.old seat.new }
         ensures knows { Knows self.now.cells seat.new.log
             (handing (added_hand cell (part_seen self.now.cells seat.old.log).row.hand)
             (known_seen self.now.cells seat.old.log)) }
-        ensures keeps { Keeps self.now.cells seat.old.log seat.new.log }
+        ensures keeps { KeepsNotes self.now.cells seat.old.log seat.new.log }
         ensures newest { newest_step seat.new.log ≡ Some (steps.MergeAdd cell) }
     {
         let word = Word::Of(Field::Shared, cell);
@@ -121,20 +122,20 @@ impl<A: Allocator> HeapTable<A> {
     pub fn merge_yielding(&self, seat: &mut ThreadSeat<A>, cell: u32, local: u32) -> Found<A>
         requires table { seat.old.table ≡ self.now.table }
         requires inside { cell < self.now.cells }
-        requires yields { Yields self.now.cells seat.old.log cell local }
+        requires yields { MayYield self.now.cells seat.old.log cell local }
         ensures of_cell { IfSome result.block (λ block. block.0 ≡ cell) }
         ensures fresh { IfSome result.block (λ block. listed_at (taken_seen self.now.cells seat.old.log) cell ≡ None) }
         ensures entries { AreCells self.now.cells (entries_of result.block) }
         ensures dead { is_there result.block ≡ takes_block (steps.MergeAdd cell)
             (cell_told (steps.MergeAdd cell) result.number) }
-        ensures told { seat.new.log ≡ told.Did (steps.MergeAdd cell) result.number (found_in cell result.block)
+        ensures told { seat.new.log ≡ told.Stepped (steps.MergeAdd cell) result.number (found_in cell result.block)
             ∷ seat.old.log }
         ensures out { seat.new.slots ≡ out_with cell result.block seat.old.slots }
         ensures seat { Continues seat.old seat.new }
         ensures knows { Knows self.now.cells seat.new.log
             (handing hands.Free (taking (is_there result.block) cell (entries_of result.block)
             (known_seen self.now.cells seat.old.log))) }
-        ensures keeps { Keeps self.now.cells seat.old.log seat.new.log }
+        ensures keeps { KeepsNotes self.now.cells seat.old.log seat.new.log }
     {
         let added = u64::from(local) * 4 + 1;
         end_by_add(self, &mut seat.place, cell, added, Step::MergeAdd(cell))
@@ -146,12 +147,12 @@ impl<A: Allocator> HeapTable<A> {
         requires table { seat.old.table ≡ self.now.table }
         requires inside { cell < self.now.cells }
         requires enqueues { Enqueues self.now.cells seat.old.log cell owner }
-        ensures told { seat.new.log ≡ told.Did (steps.Enqueue cell) result moves.Nothing ∷ seat.old.log }
-        ensures seat { Stays seat.old seat.new }
+        ensures told { seat.new.log ≡ told.Stepped (steps.Enqueue cell) result moves.Nothing ∷ seat.old.log }
+        ensures seat { IsSameSeat seat.old seat.new }
         ensures knows { Knows self.now.cells seat.new.log
             (handing (if is_shut_word result then hands.Busy phases.Shut cell else hands.Free)
             (known_seen self.now.cells seat.old.log)) }
-        ensures keeps { Keeps self.now.cells seat.old.log seat.new.log }
+        ensures keeps { KeepsNotes self.now.cells seat.old.log seat.new.log }
     {
         let word = Word::Queue(owner, cell / 32);
         let bits = bit(cell % 32);

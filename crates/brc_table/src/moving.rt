@@ -13,12 +13,12 @@ ghost use Rattle.law.specs.known.declared.word.Word.TheVariants as words;
 ghost use Rattle.law.specs.known.Items.{IsWord, cell_told};
 ghost use Rattle.law.specs.known.Taken.{listed_at};
 ghost use Rattle.law.specs.rule.declared.told.Moved.TheVariants as moves;
-ghost use Rattle.law.specs.rule.declared.told.Told.{Told as told_data};
-ghost use Rattle.law.specs.rule.declared.told.Told.TheVariants as told;
+ghost use Rattle.law.specs.rule.declared.told.LogItem.{LogItem as told_data};
+ghost use Rattle.law.specs.rule.declared.told.LogItem.TheVariants as told;
 ghost use Rattle.law.specs.rule.Layout.{spot};
 ghost use Rattle.law.specs.rule.Rule.{with_told, Kept};
 ghost use Rattle.law.specs.rule.Seen.{taken_seen};
-ghost use Rattle.law.specs.steps.Taking.{AreCells, Ended, Claimed, Locked};
+ghost use Rattle.law.specs.steps.Taking.{AreCells, EndedObject, Claimed, LockedOrBusy};
 ghost use Rattle.brc_table.specs.Knowing.{entries_of};
 ghost use Rattle.brc_table.specs.Moving.{MayEnd, MayEndAt, MayClaim, MayLock, MayGive, MayGiveOfFew, MayGiveBy, MayGiveByOfFew};
 ghost use Rattle.brc_table.specs.Moving.{FewFrees, found_in, out_with, emptied, put_home, is_there, HasBlock};
@@ -61,12 +61,12 @@ impl Ending for Brand {
 }
 
 /// The seat's log has the step, and where the object is dead the seat has its block.
-pub(crate) struct Ends<M> {
+pub(crate) struct LogEnds<M> {
     marker: PhantomData<M>,
 }
 
-impl<A: Allocator, M: Ending> Play<Option<Block<A>>, View> for Ends<M> {
-    ghost then = { λ step me number after. Ended shows M.cells me.0 me.1 M.step M.cell number
+impl<A: Allocator, M: Ending> Play<Option<Block<A>>, View> for LogEnds<M> {
+    ghost then = { λ step me number after. EndedObject shows M.cells me.0 me.1 M.step M.cell number
         (takes_block M.step (cell_told M.step number)) after };
 }
 
@@ -83,12 +83,12 @@ fn load_ends<A: Allocator, M: Ending>(
     requires allowed { MayEnd table.now.cells table.now.local_limit seat.old.id seat.old.me cell
         (λ there. there) M.cells M.step M.cell }
     ensures same { (seat.new.table_id ≡ seat.old.table_id) × (seat.new.id ≡ seat.old.id) }
-    ensures ended { Ended shows M.cells seat.old.me.0 seat.old.me.1 M.step M.cell result
+    ensures ended { EndedObject shows M.cells seat.old.me.0 seat.old.me.1 M.step M.cell result
         (takes_block M.step (cell_told M.step result)) seat.new.me }
 {
     let _step = step;
     let at = spot_of(table.cells, Word::Of(Field::Shared, cell));
-    table.table.shared.load::<Ends<M>>(seat, at)
+    table.table.shared.load::<LogEnds<M>>(seat, at)
 }
 
 /// A setting of bits.
@@ -105,12 +105,12 @@ fn or_ends<A: Allocator, M: Ending>(
     requires allowed { MayEnd table.now.cells table.now.local_limit seat.old.id seat.old.me cell
         (λ there. bit_or there bits) M.cells M.step M.cell }
     ensures same { (seat.new.table_id ≡ seat.old.table_id) × (seat.new.id ≡ seat.old.id) }
-    ensures ended { Ended shows M.cells seat.old.me.0 seat.old.me.1 M.step M.cell result
+    ensures ended { EndedObject shows M.cells seat.old.me.0 seat.old.me.1 M.step M.cell result
         (takes_block M.step (cell_told M.step result)) seat.new.me }
 {
     let _step = step;
     let at = spot_of(table.cells, Word::Of(Field::Shared, cell));
-    table.table.shared.fetch_or::<Ends<M>>(seat, at, bits)
+    table.table.shared.fetch_or::<LogEnds<M>>(seat, at, bits)
 }
 
 /// A subtraction.
@@ -127,12 +127,12 @@ fn sub_ends<A: Allocator, M: Ending>(
     requires allowed { MayEnd table.now.cells table.now.local_limit seat.old.id seat.old.me cell
         (λ there. (there + (2 ^ 64 - less)) % 2 ^ 64) M.cells M.step M.cell }
     ensures same { (seat.new.table_id ≡ seat.old.table_id) × (seat.new.id ≡ seat.old.id) }
-    ensures ended { Ended shows M.cells seat.old.me.0 seat.old.me.1 M.step M.cell result
+    ensures ended { EndedObject shows M.cells seat.old.me.0 seat.old.me.1 M.step M.cell result
         (takes_block M.step (cell_told M.step result)) seat.new.me }
 {
     let _step = step;
     let at = spot_of(table.cells, Word::Of(Field::Shared, cell));
-    table.table.shared.fetch_sub::<Ends<M>>(seat, at, less)
+    table.table.shared.fetch_sub::<LogEnds<M>>(seat, at, less)
 }
 
 /// By how much the word was raised, too. A caller's proof picks it.
@@ -157,12 +157,13 @@ impl Summing for Brand {
 }
 
 /// The seat's log has the step, which is told the sum, and where the object is dead the seat has its block.
-pub(crate) struct SumEnds<M> {
+pub(crate) struct LogSumEnds<M> {
     marker: PhantomData<M>,
 }
 
-impl<A: Allocator, M: Summing> Play<Option<Block<A>>, View> for SumEnds<M> {
-    ghost then = { λ step me number after. Ended shows M.cells me.0 me.1 M.step M.cell ((number + M.more) % 2 ^ 64)
+impl<A: Allocator, M: Summing> Play<Option<Block<A>>, View> for LogSumEnds<M> {
+    ghost then = { λ step me number after. EndedObject shows M.cells me.0 me.1 M.step M.cell
+        ((number + M.more) % 2 ^ 64)
         (takes_block M.step (cell_told M.step ((number + M.more) % 2 ^ 64))) after };
 }
 
@@ -180,12 +181,15 @@ fn add_ends<A: Allocator, M: Summing>(
     requires allowed { MayEndAt table.now.cells table.now.local_limit seat.old.id seat.old.me cell
         (λ there. (there + more) % 2 ^ 64) (λ there. (there + M.more) % 2 ^ 64) M.cells M.step M.cell }
     ensures same { (seat.new.table_id ≡ seat.old.table_id) × (seat.new.id ≡ seat.old.id) }
-    ensures ended { Ended shows M.cells seat.old.me.0 seat.old.me.1 M.step M.cell ((result + M.more) % 2 ^ 64)
+    ensures ended { EndedObject shows M.cells seat.old.me.0 seat.old.me.1 M.step M.cell ((result + M.more) % 2 ^ 64)
         (takes_block M.step (cell_told M.step ((result + M.more) % 2 ^ 64))) seat.new.me }
 {
     let _step = step;
     let at = spot_of(table.cells, Word::Of(Field::Shared, cell));
-    table.table.shared.fetch_add::<SumEnds<M>>(seat, at, more)
+    table
+        .table
+        .shared
+        .fetch_add::<LogSumEnds<M>>(seat, at, more)
 }
 
 /// Whether the object is dead, by the number that the step found.
@@ -242,7 +246,7 @@ pub(crate) fn end_by_load<A: Allocator>(
     ensures entries { AreCells table.now.cells (entries_of result.block) }
     ensures when { is_there result.block ≡ takes_block step (cell_told step result.number) }
     ensures told { seat.new.me ≡ (
-      with_told (told.Did step result.number (found_in cell result.block)) seat.old.me.0,
+      with_told (told.Stepped step result.number (found_in cell result.block)) seat.old.me.0,
       out_with cell result.block seat.old.me.1,
     ) }
 {
@@ -270,7 +274,7 @@ pub(crate) fn end_by_or<A: Allocator>(
     ensures entries { AreCells table.now.cells (entries_of result.block) }
     ensures when { is_there result.block ≡ takes_block step (cell_told step result.number) }
     ensures told { seat.new.me ≡ (
-      with_told (told.Did step result.number (found_in cell result.block)) seat.old.me.0,
+      with_told (told.Stepped step result.number (found_in cell result.block)) seat.old.me.0,
       out_with cell result.block seat.old.me.1,
     ) }
 {
@@ -298,7 +302,7 @@ pub(crate) fn end_by_sub<A: Allocator>(
     ensures entries { AreCells table.now.cells (entries_of result.block) }
     ensures when { is_there result.block ≡ takes_block step (cell_told step result.number) }
     ensures told { seat.new.me ≡ (
-      with_told (told.Did step result.number (found_in cell result.block)) seat.old.me.0,
+      with_told (told.Stepped step result.number (found_in cell result.block)) seat.old.me.0,
       out_with cell result.block seat.old.me.1,
     ) }
 {
@@ -326,7 +330,7 @@ pub(crate) fn end_by_add<A: Allocator>(
     ensures entries { AreCells table.now.cells (entries_of result.block) }
     ensures when { is_there result.block ≡ takes_block step (cell_told step result.number) }
     ensures told { seat.new.me ≡ (
-      with_told (told.Did step result.number (found_in cell result.block)) seat.old.me.0,
+      with_told (told.Stepped step result.number (found_in cell result.block)) seat.old.me.0,
       out_with cell result.block seat.old.me.1,
     ) }
 {
@@ -357,22 +361,23 @@ impl Winning for Brand {
 }
 
 /// The seat has the empty slot of a cell that was free.
-pub(crate) struct Claims<M> {
+pub(crate) struct LogClaims<M> {
     marker: PhantomData<M>,
 }
 
-impl<A: Allocator, M: Winning> Play<Option<Block<A>>, View> for Claims<M> {
+impl<A: Allocator, M: Winning> Play<Option<Block<A>>, View> for LogClaims<M> {
     ghost then = { λ step me number after. Claimed M.cells me.0 me.1 M.cell number
         (bit_at number (M.cell % 64) == 1) after };
 }
 
 /// The seat has the block of an object that nobody had locked.
-pub(crate) struct Locks<M> {
+pub(crate) struct LogLocks<M> {
     marker: PhantomData<M>,
 }
 
-impl<A: Allocator, M: Winning> Play<Option<Block<A>>, View> for Locks<M> {
-    ghost then = { λ step me number after. Locked shows M.cells me.0 me.1 M.place M.cell number (number == 0) after };
+impl<A: Allocator, M: Winning> Play<Option<Block<A>>, View> for LogLocks<M> {
+    ghost then = { λ step me number after. LockedOrBusy shows M.cells me.0 me.1 M.place M.cell number
+        (number == 0) after };
 }
 
 #[inline(always)]
@@ -390,7 +395,7 @@ fn claim_as<A: Allocator, M: Winning>(
         seat.new.me }
 {
     let at = spot_of(table.cells, Word::FreeWord(cell / 64));
-    table.table.shared.fetch_and::<Claims<M>>(seat, at, mask)
+    table.table.shared.fetch_and::<LogClaims<M>>(seat, at, mask)
 }
 
 /// The free word of the cell keeps the bits of the mask, and where it had the cell's bit the seat has its empty slot.
@@ -425,14 +430,15 @@ fn lock_as<A: Allocator, M: Winning>(
     requires allowed { MayLock table.now.cells table.now.local_limit seat.old.id seat.old.me cell new M.cells
         M.place M.cell }
     ensures same { (seat.new.table_id ≡ seat.old.table_id) × (seat.new.id ≡ seat.old.id) }
-    ensures locked { Locked shows M.cells seat.old.me.0 seat.old.me.1 M.place M.cell result (result == 0) seat.new.me }
+    ensures locked { LockedOrBusy shows M.cells seat.old.me.0 seat.old.me.1 M.place M.cell result
+        (result == 0) seat.new.me }
 {
     let _place = place;
     let at = spot_of(table.cells, Word::Of(Field::Mutex, cell));
     table
         .table
         .shared
-        .compare_exchange::<Locks<M>>(seat, at, 0, new)
+        .compare_exchange::<LogLocks<M>>(seat, at, 0, new)
 }
 
 /// The mutex word of an object that nobody has locked becomes this number, and the seat has its block.
@@ -449,7 +455,7 @@ pub(crate) fn lock_by<A: Allocator>(
     requires allowed { MayLock table.now.cells table.now.local_limit seat.old.id seat.old.me cell new table.now.cells
         place cell }
     ensures same { (seat.new.table_id ≡ seat.old.table_id) × (seat.new.id ≡ seat.old.id) }
-    ensures locked { Locked shows table.now.cells seat.old.me.0 seat.old.me.1 place cell result
+    ensures locked { LockedOrBusy shows table.now.cells seat.old.me.0 seat.old.me.1 place cell result
         (result == 0) seat.new.me }
 {
     lock_as::<A, Brand>(table, seat, place, cell, new)
@@ -485,17 +491,17 @@ pub(crate) trait Giving {
 }
 
 impl Giving for Brand {
-    ghost item = { λ number. told.Saw (words.NotifyWord 0) number };
+    ghost item = { λ number. told.Loaded (words.NotifyWord 0) number };
 
     ghost cells = { 0 };
 }
 
 /// The seat's log has the item, and the slot that it took last is home; the thread has given back few enough.
-pub(crate) struct Gives<M> {
+pub(crate) struct LogGives<M> {
     marker: PhantomData<M>,
 }
 
-impl<A: Allocator, M: Giving> Play<Option<Block<A>>, View> for Gives<M> {
+impl<A: Allocator, M: Giving> Play<Option<Block<A>>, View> for LogGives<M> {
     ghost then = { λ step me number after. (after ≡ (with_told (M.item number) me.0, rest me.1))
         × FewFrees M.cells after.0.log };
 }
@@ -518,7 +524,7 @@ fn give_as<A: Allocator, M: Giving>(
 {
     let _step = step;
     let at = spot_of(table.cells, word);
-    table.table.shared.store::<Gives<M>>(seat, at, new)
+    table.table.shared.store::<LogGives<M>>(seat, at, new)
 }
 
 /// The slot that the seat took last goes home with what is in it.
@@ -533,12 +539,12 @@ pub(crate) fn give<A: Allocator>(
     requires same { seat.old.table_id ≡ table.now.table }
     requires inside { IsWord table.now.cells word }
     requires allowed { MayGive table.now.cells table.now.local_limit seat.old.id seat.old.me word new
-        (told.Did step new (put_home seat.old.me.1)) }
+        (told.Stepped step new (put_home seat.old.me.1)) }
     requires active { seat.old.me.0.active ≡ true }
     requires some_thread { 0 < seat.old.me.0.thread }
     ensures same { (seat.new.table_id ≡ seat.old.table_id) × (seat.new.id ≡ seat.old.id) }
     ensures told { seat.new.me ≡ (
-      with_told (told.Did step new (put_home seat.old.me.1)) seat.old.me.0,
+      with_told (told.Stepped step new (put_home seat.old.me.1)) seat.old.me.0,
       rest seat.old.me.1,
     ) }
     ensures few { FewFrees table.now.cells seat.new.me.0.log }
@@ -564,7 +570,7 @@ fn give_bit_as<A: Allocator, M: Giving>(
 {
     let _step = step;
     let at = spot_of(table.cells, word);
-    table.table.shared.fetch_or::<Gives<M>>(seat, at, bits)
+    table.table.shared.fetch_or::<LogGives<M>>(seat, at, bits)
 }
 
 /// The same by a setting of bits, which tells the word as it was.
@@ -579,12 +585,12 @@ pub(crate) fn give_bit<A: Allocator>(
     requires same { seat.old.table_id ≡ table.now.table }
     requires inside { IsWord table.now.cells word }
     requires allowed { MayGiveBy table.now.cells table.now.local_limit seat.old.id seat.old.me word
-        (λ there. bit_or there bits) (λ there. told.Did step there (put_home seat.old.me.1)) }
+        (λ there. bit_or there bits) (λ there. told.Stepped step there (put_home seat.old.me.1)) }
     requires active { seat.old.me.0.active ≡ true }
     requires some_thread { 0 < seat.old.me.0.thread }
     ensures same { (seat.new.table_id ≡ seat.old.table_id) × (seat.new.id ≡ seat.old.id) }
     ensures told { seat.new.me ≡ (
-      with_told (told.Did step result (put_home seat.old.me.1)) seat.old.me.0,
+      with_told (told.Stepped step result (put_home seat.old.me.1)) seat.old.me.0,
       rest seat.old.me.1,
     ) }
     ensures few { FewFrees table.now.cells seat.new.me.0.log }

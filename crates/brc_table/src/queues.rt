@@ -5,12 +5,12 @@ ghost use Rattle.law.specs.world.Heap.{words_for};
 ghost use Rattle.law.specs.world.declared.event.Step.TheVariants as steps;
 ghost use Rattle.law.specs.known.Going_On.{popping, closing, reopening};
 ghost use Rattle.law.specs.rule.declared.told.Moved.TheVariants as moves;
-ghost use Rattle.law.specs.rule.declared.told.Told.TheVariants as told;
-ghost use Rattle.law.specs.steps.Owing.{Allowed, Closes, Tells};
+ghost use Rattle.law.specs.rule.declared.told.LogItem.TheVariants as told;
+ghost use Rattle.law.specs.steps.Owing.{MayStep, MayClose, MayNudge};
 ghost use Rattle.law.specs.steps.Taking.{AreQueued};
 ghost use Rattle.law.specs.living.Living.{OwnLog};
-ghost use Rattle.brc_table.specs.Knowing.{known_seen, Knows, Keeps};
-ghost use Rattle.brc_table.specs.Seated.{Stays};
+ghost use Rattle.brc_table.specs.Knowing.{known_seen, Knows, KeepsNotes};
+ghost use Rattle.brc_table.specs.Seated.{IsSameSeat};
 
 use crate::draining::{take_and_close, take_bits};
 use crate::layout::bit;
@@ -29,12 +29,12 @@ impl<A: Allocator> HeapTable<A> {
     pub fn drain(&self, seat: &mut ThreadSeat<A>, word: u32) -> u64
         requires table { seat.old.table ≡ self.now.table }
         requires inside { word < words_for self.now.cells }
-        requires allowed { Allowed self.now.cells seat.old.log (steps.Drain word) }
-        ensures told { seat.new.log ≡ told.Did (steps.Drain word) result moves.Nothing ∷ seat.old.log }
-        ensures seat { Stays seat.old seat.new }
+        requires allowed { MayStep self.now.cells seat.old.log (steps.Drain word) }
+        ensures told { seat.new.log ≡ told.Stepped (steps.Drain word) result moves.Nothing ∷ seat.old.log }
+        ensures seat { IsSameSeat seat.old seat.new }
         ensures knows { Knows self.now.cells seat.new.log
             (popping word result (known_seen self.now.cells seat.old.log)) }
-        ensures keeps { Keeps self.now.cells seat.old.log seat.new.log }
+        ensures keeps { KeepsNotes self.now.cells seat.old.log seat.new.log }
         ensures cells { AreQueued self.now.cells word result }
     {
         let at = Word::Queue(seat.thread, word);
@@ -46,12 +46,12 @@ impl<A: Allocator> HeapTable<A> {
     pub fn close(&self, seat: &mut ThreadSeat<A>, word: u32) -> u64
         requires table { seat.old.table ≡ self.now.table }
         requires inside { word < words_for self.now.cells }
-        requires closes { Closes self.now.cells seat.old.log word }
-        ensures told { seat.new.log ≡ told.Did (steps.Close word) result moves.Nothing ∷ seat.old.log }
-        ensures seat { Stays seat.old seat.new }
+        requires closes { MayClose self.now.cells seat.old.log word }
+        ensures told { seat.new.log ≡ told.Stepped (steps.Close word) result moves.Nothing ∷ seat.old.log }
+        ensures seat { IsSameSeat seat.old seat.new }
         ensures knows { Knows self.now.cells seat.new.log
             (closing self.now.cells word (popping word result (known_seen self.now.cells seat.old.log))) }
-        ensures keeps { Keeps self.now.cells seat.old.log seat.new.log }
+        ensures keeps { KeepsNotes self.now.cells seat.old.log seat.new.log }
         ensures cells { AreQueued self.now.cells word result }
     {
         let at = Word::Queue(seat.thread, word);
@@ -63,12 +63,12 @@ impl<A: Allocator> HeapTable<A> {
     pub fn open_word(&self, seat: &mut ThreadSeat<A>, word: u32)
         requires table { seat.old.table ≡ self.now.table }
         requires inside { word < words_for self.now.cells }
-        requires allowed { Allowed self.now.cells seat.old.log (steps.Reopen word) }
-        ensures told { seat.new.log ≡ told.Did (steps.Reopen word) 0 moves.Nothing ∷ seat.old.log }
-        ensures seat { Stays seat.old seat.new }
+        requires allowed { MayStep self.now.cells seat.old.log (steps.Reopen word) }
+        ensures told { seat.new.log ≡ told.Stepped (steps.Reopen word) 0 moves.Nothing ∷ seat.old.log }
+        ensures seat { IsSameSeat seat.old seat.new }
         ensures knows { Knows self.now.cells seat.new.log
             (reopening self.now.cells word (known_seen self.now.cells seat.old.log)) }
-        ensures keeps { Keeps self.now.cells seat.old.log seat.new.log }
+        ensures keeps { KeepsNotes self.now.cells seat.old.log seat.new.log }
     {
         let at = Word::Queue(seat.thread, word);
         store(self, &mut seat.place, at, 0, Step::Reopen(word));
@@ -77,11 +77,11 @@ impl<A: Allocator> HeapTable<A> {
     /// Nudge: a thread is told that this one of its queue words has something, or a word beside it.
     pub fn nudge(&self, seat: &mut ThreadSeat<A>, thread: u32, word: u32) -> u64
         requires table { seat.old.table ≡ self.now.table }
-        requires tells { Tells self.now.cells seat.old.log thread word }
-        ensures told { seat.new.log ≡ told.Did (steps.Nudge thread word) result moves.Nothing ∷ seat.old.log }
-        ensures seat { Stays seat.old seat.new }
+        requires tells { MayNudge self.now.cells seat.old.log thread word }
+        ensures told { seat.new.log ≡ told.Stepped (steps.Nudge thread word) result moves.Nothing ∷ seat.old.log }
+        ensures seat { IsSameSeat seat.old seat.new }
         ensures knows { Knows self.now.cells seat.new.log (known_seen self.now.cells seat.old.log) }
-        ensures keeps { Keeps self.now.cells seat.old.log seat.new.log }
+        ensures keeps { KeepsNotes self.now.cells seat.old.log seat.new.log }
     {
         // The bit is one of the word's, since a table has few cells: its invariant says so.
         let _cells = self.cells;
@@ -99,11 +99,11 @@ impl<A: Allocator> HeapTable<A> {
     /// Wake: the thread takes what it was told. Its own log before tells what lives.
     pub fn wake(&self, seat: &mut ThreadSeat<A>) -> u64
         requires table { seat.old.table ≡ self.now.table }
-        requires allowed { Allowed self.now.cells seat.old.log steps.Wake }
-        ensures told { seat.new.log ≡ told.Did steps.Wake result moves.Nothing ∷ seat.old.log }
-        ensures seat { Stays seat.old seat.new }
+        requires allowed { MayStep self.now.cells seat.old.log steps.Wake }
+        ensures told { seat.new.log ≡ told.Stepped steps.Wake result moves.Nothing ∷ seat.old.log }
+        ensures seat { IsSameSeat seat.old seat.new }
         ensures knows { Knows self.now.cells seat.new.log (known_seen self.now.cells seat.old.log) }
-        ensures keeps { Keeps self.now.cells seat.old.log seat.new.log }
+        ensures keeps { KeepsNotes self.now.cells seat.old.log seat.new.log }
         ensures own { OwnLog self.now.cells seat.old.log }
     {
         let at = Word::NotifyWord(seat.thread);

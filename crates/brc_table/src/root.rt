@@ -3,7 +3,8 @@
 ghost use Rattle.std.specs.Prelude.{◌≡◌, ◌≤◌, ◌<◌, ◌==◌, ℕ, if◌then◌else◌, true, []};
 ghost use Rattle.std.specs.Int.{bit_at};
 ghost use Rattle.brc_words.specs.declared.limits.TheConstants.{MOST_THREADS, MOST_REGISTRATIONS};
-ghost use Rattle.law.specs.steps.Joining.{next_thread, registrations, registering, starting, gathering, is_again, Leaves};
+ghost use Rattle.law.specs.steps.Joining.{next_thread, registrations, registering, starting, gathering, is_again};
+ghost use Rattle.law.specs.steps.Joining.{HasLeft};
 ghost use Rattle.brc_table.specs.Numbers.{IsLowest};
 ghost use Rattle.brc_table.specs.Seated.{view_of};
 
@@ -129,7 +130,7 @@ impl<A: Allocator> HeapTable<A> {
     pub fn join(&self, root: &mut RootSeat<A>, seat: ThreadSeat<A>)
         requires table { root.old.table ≡ self.now.table }
         requires same_table { seat.table ≡ root.old.table }
-        requires leaves { Leaves self.now.cells (view_of seat) }
+        requires leaves { HasLeft self.now.cells (view_of seat) }
         requires bare { seat.slots ≡ [] }
         ensures root { (root.new.table ≡ root.old.table) × (root.new.id ≡ root.old.id) }
         ensures told { root.new.view ≡ gathering root.old.view (view_of seat) }

@@ -3,8 +3,8 @@
 ghost use Rattle.std.specs.Prelude.{◌≡◌, ℕ};
 ghost use Rattle.law.specs.known.declared.word.Word.TheVariants as words;
 ghost use Rattle.law.specs.known.Items.{IsWord};
-ghost use Rattle.law.specs.rule.declared.told.Told.{Told as told_data};
-ghost use Rattle.law.specs.rule.declared.told.Told.TheVariants as told;
+ghost use Rattle.law.specs.rule.declared.told.LogItem.{LogItem as told_data};
+ghost use Rattle.law.specs.rule.declared.told.LogItem.TheVariants as told;
 ghost use Rattle.law.specs.rule.Rule.{with_told};
 ghost use Rattle.law.specs.living.Living.{OwnLog};
 ghost use Rattle.brc_table.specs.Machine.{MayWake};
@@ -28,17 +28,17 @@ pub(crate) trait Waking {
 }
 
 impl Waking for Brand {
-    ghost item = { λ number. told.Saw (words.NotifyWord 0) number };
+    ghost item = { λ number. told.Loaded (words.NotifyWord 0) number };
 
     ghost cells = { 0 };
 }
 
 /// The seat's log has the item, its slots stay, and its log before was an own log.
-pub(crate) struct Wakes<M> {
+pub(crate) struct LogWakes<M> {
     marker: PhantomData<M>,
 }
 
-impl<S, M: Waking> Play<S, View> for Wakes<M> {
+impl<S, M: Waking> Play<S, View> for LogWakes<M> {
     ghost then = { λ step me number after. (after ≡ (with_told (M.item number) me.0, me.1)) × OwnLog M.cells me.0.log };
 }
 
@@ -60,5 +60,5 @@ pub(crate) fn take_told<A: Allocator, M: Waking>(
 {
     let _step = step;
     let at = spot_of(table.cells, word);
-    table.table.shared.swap::<Wakes<M>>(seat, at, 0)
+    table.table.shared.swap::<LogWakes<M>>(seat, at, 0)
 }

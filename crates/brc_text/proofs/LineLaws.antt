@@ -18,7 +18,8 @@ use Rattle.brc_text.specs.declared.token.Token.{Token}
 use Rattle.brc_text.specs.declared.token.Token.TheVariants as tokens
 use Rattle.brc_text.specs.Keywords.{keyword}
 use Rattle.brc_text.specs.Tokens.{◌>>=◌, token, token_at, letter, IsRead}
-use Rattle.brc_text.specs.Lines.{cut, lacks, end_of, IsWord, first_line, tokens_at, words_from, spaced, before_line}
+use Rattle.brc_text.specs.Lines.{cut, lacks, end_of, IsWordOfLine, first_line, tokens_at, words_from, spaced}
+use Rattle.brc_text.specs.Lines.{before_line}
 use Rattle.brc_text.specs.Lines.{pieces}
 use Rattle.brc_text.specs.Words.{Begins}
 use Rattle.brc_text.proofs.NumberLaws.{numerals}
@@ -138,7 +139,7 @@ abbrev with_rest : List ℕ → List Token → Option (List Token × List ℕ)
 with_rest rest words = Some (words, rest)
 
 -- a word that a line feed ends
-last_line : (most : ℕ) (text word rest : List ℕ) → IsWord text word true rest
+last_line : (most : ℕ) (text word rest : List ℕ) → IsWordOfLine text word true rest
     → first_line (suc most) text ≡ (token_at word >>= alone rest)
 unfolding first_line tokens_at
 last_line most text word rest is =
@@ -150,7 +151,7 @@ last_line most text word rest is =
     by_token (Some token) = refl
 
 -- a word that a space ends, before the others
-longer_line : (most : ℕ) (text word rest : List ℕ) → IsWord text word false rest
+longer_line : (most : ℕ) (text word rest : List ℕ) → IsWordOfLine text word false rest
     → first_line (suc most) text ≡ (token_at word >>= λ token. after (token ∷ []) (first_line most rest))
 unfolding first_line tokens_at
 longer_line most text word rest is =
@@ -221,7 +222,7 @@ first_and_rest (first ∷ left) byte some is = ap (λ (b : ℕ). b ∷ left) is
 -- a token that was found, and the space or line feed behind it
 pub word_found : (text rest left : List ℕ) (token : Token) (last : Bool) → Begins token_at text token left
     → left ≡ end_of last ∷ rest
-    → (word : List ℕ) × IsWord text word last rest × (token_at word ≡ Some token)
+    → (word : List ℕ) × IsWordOfLine text word last rest × (token_at word ≡ Some token)
 word_found text rest left token last begins ends =
     let is = token_takes begins.word token begins.reads in (
       begins.word,
@@ -234,13 +235,13 @@ word_found text rest left token last begins ends =
     )
 
 pub last_word : (most : ℕ) (front : List Token) (text word rest : List ℕ) (last : Bool) (token : Token)
-    → IsWord text word last rest → last ≡ true → token_at word ≡ Some token
+    → IsWordOfLine text word last rest → last ≡ true → token_at word ≡ Some token
     → after front (first_line (suc most) text) ≡ Some (front ++ (token ∷ []), rest)
 last_word most front text word rest true token is ends some = rw (last_line most text word rest is, some) refl
 last_word most front text word rest false token is ends some = absurd cc
 
 pub next_word : (most : ℕ) (front : List Token) (text word rest : List ℕ) (last : Bool) (token : Token)
-    → IsWord text word last rest → last ≡ false → token_at word ≡ Some token
+    → IsWordOfLine text word last rest → last ≡ false → token_at word ≡ Some token
     → after front (first_line (suc most) text) ≡ after (front ++ (token ∷ [])) (first_line most rest)
 next_word most front text word rest true token is ends some = absurd cc
 next_word most front text word rest false token is ends some = rw (longer_line most text word rest is, some)

@@ -4,7 +4,7 @@ use Rattle.std.proofs.Common.{append-nil}
 use Rattle.std.specs.Io.KnownBytes.{Appends, Keeps}
 use Rattle.std.proofs.KnownBytes.{Appends-nil, Appends-trans, Appends-kept}
 use Rattle.brc_words.specs.declared.fault.Fault.{Fault}
-use Rattle.brc_text.specs.Puts.{Puts, PutsUpTo}
+use Rattle.brc_text.specs.Puts.{PutsText, PutsUpTo}
 
 -- nothing is put yet
 pub starts : (old : Option (List ℕ)) (text : List ℕ) → PutsUpTo old old text text
@@ -57,7 +57,7 @@ keeps_on kept piece behind so_far split part =
 -- all that is left is put, or a front of it
 pub rest_puts : {old new : Option (List ℕ)} {text rest : List ℕ} (after : Option (List ℕ))
     (result : Result (Unit {0}) Fault) → PutsUpTo old new text rest
-    → Puts new after result rest → Puts old after result text
+    → PutsText new after result rest → PutsText old after result text
 rest_puts {rest = rest} after (Ok done) so_far put =
     ends (goes_on after rest [] so_far (sym (append-nil rest)) put) refl
 rest_puts {rest = rest} after (Err fault) so_far put =

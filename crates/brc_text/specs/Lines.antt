@@ -19,7 +19,7 @@ abbrev pub end_of : Bool → ℕ
 end_of last = if last then 10 else 32
 
 -- the text begins with the word, what ends it, and the rest
-pub record IsWord (text word : List ℕ) (last : Bool) (rest : List ℕ) : Type 0 where
+pub record IsWordOfLine (text word : List ℕ) (last : Bool) (rest : List ℕ) : Type 0 where
   pub no_space : lacks 32 word ≡ true
   pub no_feed : lacks 10 word ≡ true
   pub whole : text ≡ word ++ (end_of last ∷ rest)

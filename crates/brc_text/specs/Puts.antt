@@ -10,8 +10,8 @@ pub record PutsUpTo (old new : Option (List ℕ)) (text rest : List ℕ) : Type 
   pub put : Appends old new front
 
 -- the writer took the whole text, or a front of it and the answer is Io
-abbrev pub Puts : Option (List ℕ) → Option (List ℕ) → Result (Unit {0}) Fault → List ℕ → Type 0
-Puts old new result text =
+abbrev pub PutsText : Option (List ℕ) → Option (List ℕ) → Result (Unit {0}) Fault → List ℕ → Type 0
+PutsText old new result text =
     MatchResult result (λ _. Appends old new text)
     (λ fault. (fault ≡ Io) × (rest : List ℕ) × PutsUpTo old new text rest)
 

@@ -5,7 +5,7 @@ ghost use Rattle.std.specs.Prelude.{◌≡◌, ◌<◌, ◌≤◌, ◌++◌, ◌
 ghost use Rattle.arrayvec.specs.ArrayVec.{array_vec_len};
 ghost use Rattle.brc_text.specs.declared.headed.TheConstants.{MOST_BEFORE};
 ghost use Rattle.brc_text.specs.Headed.{headed_line, numbers_line};
-ghost use Rattle.brc_text.specs.Puts.{Puts, PutsBut};
+ghost use Rattle.brc_text.specs.Puts.{PutsText, PutsBut};
 
 use crate::putting::{LineText, add_bytes, add_token, put_behind, put_bytes};
 use crate::token::Token;
@@ -18,7 +18,7 @@ pub fn put_headed_line<W: Write>(writer: &mut W, head: &[u8], words: &[Token]) -
     requires head { length head.now ≤ 21 }
     requires words { length words.now ≤ 7 }
 
-    ensures { Puts (W.contents writer.old) (W.contents writer.new) result (headed_line head.now words.now) }
+    ensures { PutsText (W.contents writer.old) (W.contents writer.new) result (headed_line head.now words.now) }
 {
     let mut text = LineText::new();
     add_bytes(&mut text, head);
@@ -60,7 +60,7 @@ fn add_number<W: Write>(writer: &mut W, text: &mut LineText, number: u32) -> Res
 pub fn put_numbers_line<W: Write>(writer: &mut W, head: &[u8], numbers: &[u32]) -> Result<(), Fault>
     requires { length head.now ≤ 21 }
 
-    ensures { Puts (W.contents writer.old) (W.contents writer.new) result (numbers_line head.now numbers.now) }
+    ensures { PutsText (W.contents writer.old) (W.contents writer.new) result (numbers_line head.now numbers.now) }
 {
     let mut text = LineText::new();
     add_bytes(&mut text, head);

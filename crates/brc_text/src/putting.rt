@@ -5,7 +5,7 @@ ghost use Rattle.std.specs.List.{flat_map};
 ghost use Rattle.arrayvec.specs.ArrayVec.{array_vec_len};
 ghost use Rattle.brc_text.specs.Tokens.{token, letter as letter_byte_of};
 ghost use Rattle.brc_text.specs.Lines.{line};
-ghost use Rattle.brc_text.specs.Puts.{Puts};
+ghost use Rattle.brc_text.specs.Puts.{PutsText};
 
 use crate::token::{Letter, Token};
 use arrayvec::ArrayVec;
@@ -15,7 +15,7 @@ use std::io::Write;
 
 /// Writes the bytes. The first error ends it, as does a write that takes no byte; no memory is taken.
 pub fn put_bytes<W: Write>(writer: &mut W, bytes: &[u8]) -> Result<(), Fault>
-    ensures { Puts (W.contents writer.old) (W.contents writer.new) result bytes.now }
+    ensures { PutsText (W.contents writer.old) (W.contents writer.new) result bytes.now }
 {
     let mut rest = bytes;
     while !rest.is_empty() {
@@ -82,7 +82,7 @@ pub(crate) fn put_behind<W: Write>(
 ) -> Result<(), Fault>
     requires { array_vec_len text.old + 22 * length words.now < 176 }
 
-    ensures { Puts (W.contents writer.old) (W.contents writer.new) result
+    ensures { PutsText (W.contents writer.old) (W.contents writer.new) result
         ((text.old.items ++ flat_map (λ word. 32 ∷ token word) words.now) ++ 10 ∷ []) }
 {
     for word in words {
@@ -97,7 +97,7 @@ pub(crate) fn put_behind<W: Write>(
 pub fn put_line<W: Write>(writer: &mut W, words: &[Token]) -> Result<(), Fault>
     requires { length words.now ≤ 8 }
 
-    ensures { Puts (W.contents writer.old) (W.contents writer.new) result (line words.now) }
+    ensures { PutsText (W.contents writer.old) (W.contents writer.new) result (line words.now) }
 {
     let [first, others @ ..] = words else {
         return put_bytes(writer, b"\n");

@@ -3,7 +3,7 @@ use Rattle.std.specs.Prelude.{ℕ, ◌+◌, ◌-◌, nat_le, if◌then◌else◌
 use Rattle.brc_words.specs.declared.fault.Fault.{Fault}
 use Rattle.brc_count.specs.law.world.declared.event.Source.TheVariants.{Immortal}
 use Rattle.brc_count.specs.law.rule.declared.contents.Contents.{Contents}
-use Rattle.brc_count.specs.Frames.{FrameSeen, HandleSeen, Given, Refused, IsAsBefore}
+use Rattle.brc_count.specs.Frames.{FrameSeen, HandleSeen, GivenHandle, Refused, IsAsBefore}
 use Rattle.brc_count.specs.Making.{Made, RefusedMaking}
 
 -- the integers from -5 to 256 are immortals: integer i is cell i + 8
@@ -19,7 +19,7 @@ truth_cell true = 2
 module _ {A : Type 0} where
   -- the handle is one to the immortal, where there is one; else to a new object with these contents
   abbrev pub Answered : FrameSeen A → FrameSeen A → Option ℕ → Contents → HandleSeen → Type 0
-  Answered old new (Some c) contents given = Given old new (Immortal c) c given
+  Answered old new (Some c) contents given = GivenHandle old new (Immortal c) c given
   Answered old new None contents given = Made old new contents given
 
   -- why it wasn't answered

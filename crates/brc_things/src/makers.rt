@@ -4,22 +4,22 @@ ghost use Rattle.std.specs.Prelude.{◌≡◌, ◌<◌, [], IfOk, IfErr, OnOk, O
 ghost use Rattle.brc_words.specs.declared.limits.TheConstants.{FIRST_MORTAL, MOST_PLACES, MOST_BIRTHS};
 ghost use Rattle.brc_count.specs.law.world.declared.event.Source.TheVariants as sources;
 ghost use Rattle.brc_count.specs.law.rule.declared.contents.Contents.TheVariants as contents;
-ghost use Rattle.brc_count.specs.Frames.{Given, Refused, IsAsBefore, IsUnlocked, ledger_seen};
+ghost use Rattle.brc_count.specs.Frames.{GivenHandle, Refused, IsAsBefore, IsUnlocked, ledger_seen};
 ghost use Rattle.brc_count.specs.Making.{Made, RefusedMaking};
 ghost use Rattle.brc_count.specs.Owned.{Keeps, Gains};
 ghost use Rattle.brc_things.specs.Makers.{small_cell, truth_cell, Answered, RefusedTo};
 
-use brc_count::biased::Home;
-use brc_count::block::{Cells, Letters, Pairs, Payload};
-use brc_count::{Frame, Handed, Handle};
+use brc_count::biased::HasTable;
+use brc_count::block::{CellList, Letters, Pairs, Payload};
+use brc_count::{Frame, HandedBack, Handle};
 use brc_words::{Fault, MOST_BIRTHS, MOST_PLACES, Text};
 use std::alloc::Allocator;
 
 /// None, which is cell 0. FrameFull, then OutOfMemory; a refusal changes nothing.
-pub fn none<H: Home<A>, A: Allocator>(frame: &mut Frame<H, A>) -> Result<Handle<A>, Fault>
+pub fn none<H: HasTable<A>, A: Allocator>(frame: &mut Frame<H, A>) -> Result<Handle<A>, Fault>
     requires unlocked { IsUnlocked frame.old }
     ensures heap { frame.new.heap ≡ frame.old.heap }
-    ensures given { IfOk result (Given frame.old frame.new (sources.Immortal 0) 0) }
+    ensures given { IfOk result (GivenHandle frame.old frame.new (sources.Immortal 0) 0) }
     ensures refused { IfErr result (Refused frame.old) }
     ensures unchanged { OnErr result (IsAsBefore frame.old frame.new) }
 
@@ -31,13 +31,13 @@ pub fn none<H: Home<A>, A: Allocator>(frame: &mut Frame<H, A>) -> Result<Handle<
 }
 
 /// False, which is cell 1, or True, which is cell 2. FrameFull, then OutOfMemory; a refusal changes nothing.
-pub fn truth<H: Home<A>, A: Allocator>(
+pub fn truth<H: HasTable<A>, A: Allocator>(
     frame: &mut Frame<H, A>,
     is_true: bool,
 ) -> Result<Handle<A>, Fault>
     requires unlocked { IsUnlocked frame.old }
     ensures heap { frame.new.heap ≡ frame.old.heap }
-    ensures given { IfOk result (Given frame.old frame.new (sources.Immortal (truth_cell is_true))
+    ensures given { IfOk result (GivenHandle frame.old frame.new (sources.Immortal (truth_cell is_true))
         (truth_cell is_true)) }
     ensures refused { IfErr result (Refused frame.old) }
     ensures unchanged { OnErr result (IsAsBefore frame.old frame.new) }
@@ -66,7 +66,7 @@ fn small(number: i64) -> Option<u32>
 /// An integer: the immortal one from -5 to 256, else a new object. The faults of a new object come in the order
 /// FrameFull, LedgerFull, OutOfMemory, HeapFull.
 #[inline(always)]
-pub fn new_int<H: Home<A>, A: Allocator>(
+pub fn new_int<H: HasTable<A>, A: Allocator>(
     alloc: A,
     frame: &mut Frame<H, A>,
     number: i64,
@@ -91,16 +91,16 @@ pub fn new_int<H: Home<A>, A: Allocator>(
 
 /// A new text; a refusal hands it back. The faults come in the order FrameFull, LedgerFull, OutOfMemory, HeapFull.
 #[inline(always)]
-pub fn new_text<H: Home<A>, A: Allocator>(
+pub fn new_text<H: HasTable<A>, A: Allocator>(
     alloc: A,
     frame: &mut Frame<H, A>,
     text: Text<A>,
-) -> Result<Handle<A>, Handed<Text<A>>>
+) -> Result<Handle<A>, HandedBack<Text<A>>>
     requires unlocked { IsUnlocked frame.old }
     ensures heap { frame.new.heap ≡ frame.old.heap }
     ensures made { IfOk result (Made frame.old frame.new (contents.Text text)) }
     ensures refused { IfErr result (λ handed. RefusedMaking frame.old frame.new handed.fault) }
-    ensures back { IfErr result (λ handed. handed.back ≡ text) }
+    ensures back { IfErr result (λ handed. handed.value ≡ text) }
 
     ensures gains { IfOk result (Gains frame.old frame.new) }
     ensures keeps { OnErr result (Keeps frame.old frame.new) }
@@ -109,17 +109,17 @@ pub fn new_text<H: Home<A>, A: Allocator>(
     match frame.born(alloc, Payload::Text(text)) {
         Ok(handle) => Ok(handle),
         Err(
-            Handed {
+            HandedBack {
                 fault,
-                back: Payload::Text(back),
+                value: Payload::Text(back),
             },
-        ) => Err(Handed { fault, back }),
+        ) => Err(HandedBack { fault, value: back }),
         Err(_) => unreachable!(),
     }
 }
 
 /// A new empty list. The faults come in the order FrameFull, LedgerFull, OutOfMemory, HeapFull.
-pub fn new_list<H: Home<A>, A: Allocator + Copy>(
+pub fn new_list<H: HasTable<A>, A: Allocator + Copy>(
     alloc: A,
     frame: &mut Frame<H, A>,
 ) -> Result<Handle<A>, Fault>
@@ -132,14 +132,14 @@ pub fn new_list<H: Home<A>, A: Allocator + Copy>(
     ensures keeps { OnErr result (Keeps frame.old frame.new) }
     ensures unlocked { IsUnlocked frame.new }
 {
-    match frame.born(alloc, Payload::List(Cells::new(Vec::new(alloc)))) {
+    match frame.born(alloc, Payload::List(CellList::new(Vec::new(alloc)))) {
         Ok(handle) => Ok(handle),
         Err(handed) => Err(handed.fault),
     }
 }
 
 /// A new empty dictionary. The faults come in the order FrameFull, LedgerFull, OutOfMemory, HeapFull.
-pub fn new_dict<H: Home<A>, A: Allocator + Copy>(
+pub fn new_dict<H: HasTable<A>, A: Allocator + Copy>(
     alloc: A,
     frame: &mut Frame<H, A>,
 ) -> Result<Handle<A>, Fault>
@@ -159,7 +159,7 @@ pub fn new_dict<H: Home<A>, A: Allocator + Copy>(
 }
 
 /// Whether an object more is refused before memory for it is asked for: FrameFull, then LedgerFull.
-fn may_be_born<H: Home<A>, A: Allocator>(frame: &Frame<H, A>) -> Result<(), Fault>
+fn may_be_born<H: HasTable<A>, A: Allocator>(frame: &Frame<H, A>) -> Result<(), Fault>
     ensures refused { IfErr result (RefusedMaking frame.now frame.now) }
     ensures room { OnOk result (frame.now.len < MOST_PLACES) }
     ensures few { OnOk result ((ledger_seen frame.now).allocs < MOST_BIRTHS) }
@@ -174,7 +174,7 @@ fn may_be_born<H: Home<A>, A: Allocator>(frame: &Frame<H, A>) -> Result<(), Faul
 }
 
 /// A new empty mailbox, with memory for its queue. The faults come in the order FrameFull, LedgerFull, OutOfMemory, HeapFull.
-pub fn new_mailbox<H: Home<A>, A: Allocator + Copy>(
+pub fn new_mailbox<H: HasTable<A>, A: Allocator + Copy>(
     alloc: A,
     frame: &mut Frame<H, A>,
 ) -> Result<Handle<A>, Fault>

@@ -43,7 +43,7 @@ use Rattle.brc_count.specs.law.rule.declared.contents.Contents.{Contents}
 use Rattle.brc_count.specs.law.rule.declared.view.View.{View}
 use Rattle.brc_count.specs.law.rule.Logs.{items_of, contents_at, world}
 use Rattle.brc_count.specs.table.Rest.{from_block, Remains}
-use Rattle.brc_thread.specs.Emptied.{AllGathered, is_used, used_from, blocks_in, HasBlock, AllAtHome}
+use Rattle.brc_thread.specs.Emptied.{AllGathered, is_used, used_from, blocks_in, SlotHas, AllAtHome}
 
 -- ---- who has nothing
 
@@ -196,7 +196,7 @@ module _ {A : Type 0} where
       (remains : Remains n limit id root slots) (c : ℕ) → c < n
       → IsSound (world n limit remains.kept.run) → ((t : ℕ) → IsIdle (world n limit remains.kept.run) t)
       → lives (cell_at (world n limit remains.kept.run) c).owner ≡ true
-      → HasBlock slots c (contents_at remains.kept.run c)
+      → SlotHas slots c (contents_at remains.kept.run c)
   in_slot n limit id root slots remains c low sound idle live =
       let h : Heap = world n limit remains.kept.run in
       let lies = (remains.kept.each_home c low).lies live (unlocked_there h c sound idle) (λ t. (idle t).worklist c) in
@@ -274,7 +274,7 @@ module _ {A : Type 0} where
       dead_owner h c mortal dead =
           sym (ap (λ b. not b && lives (cell_at h c).owner) (le-ltb c FIRST_MORTAL mortal)) ∙ dead
 
-      by_cell : (i d : ℕ) {contents : Contents} → d ≡ i → HasBlock slots d contents
+      by_cell : (i d : ℕ) {contents : Contents} → d ≡ i → SlotHas slots d contents
           → (payload : Payload A) × (get_elem? slots i ≡ some (Some (d, payload)))
       by_cell i d same has = (has.payload, subst (λ j. get_elem? slots j ≡ some (Some (d, has.payload))) same has.there)
 

@@ -10,8 +10,8 @@ use Rattle.brc_count.specs.law.world.Steps.{is_free_step, allocs_after, frees_af
 use Rattle.brc_count.specs.law.world.declared.event.Step.{Step}
 use Rattle.brc_count.specs.law.world.declared.event.Step.TheVariants.{Birth, Free}
 use Rattle.brc_count.specs.law.known.Items.{Part, part_by, meant}
-use Rattle.brc_count.specs.law.rule.declared.told.Told.{Told}
-use Rattle.brc_count.specs.law.rule.declared.told.Told.TheVariants.{Did, Saw, Lost}
+use Rattle.brc_count.specs.law.rule.declared.told.LogItem.{LogItem}
+use Rattle.brc_count.specs.law.rule.declared.told.LogItem.TheVariants.{Stepped, Loaded, Lost}
 use Rattle.brc_count.specs.law.rule.Logs.{entries_found}
 use Rattle.brc_count.specs.law.rule.Seen.{part_seen}
 use Rattle.brc_count.specs.law.rule.declared.view.View.{View}
@@ -50,28 +50,28 @@ frees_by : (n : ℕ) (part : Part) (s : Step) (number : ℕ) (entries : List ℕ
 frees_by n part s number entries None apart = omega (arith, ap one (apart refl))
 frees_by n part s number entries (Some c) apart = frees_step s part.row.frees
 
-allocs_more : (n : ℕ) (x : Told) (log : List Told)
+allocs_more : (n : ℕ) (x : LogItem) (log : List LogItem)
     → (part_seen n (x ∷ log)).row.allocs ≡ (part_seen n log).row.allocs + bears x
-allocs_more n (Did s number moved) log =
+allocs_more n (Stepped s number moved) log =
     allocs_by n (part_seen n log) s number (entries_found moved) (meant (part_seen n log) s)
     (apart_bears (part_seen n log) s)
-allocs_more n (Saw word number) log = omega arith
+allocs_more n (Loaded word number) log = omega arith
 allocs_more n (Lost word number) log = omega arith
 
-frees_more : (n : ℕ) (x : Told) (log : List Told)
+frees_more : (n : ℕ) (x : LogItem) (log : List LogItem)
     → (part_seen n (x ∷ log)).row.frees ≡ (part_seen n log).row.frees + frees x
-frees_more n (Did s number moved) log =
+frees_more n (Stepped s number moved) log =
     frees_by n (part_seen n log) s number (entries_found moved) (meant (part_seen n log) s)
     (apart_frees (part_seen n log) s)
-frees_more n (Saw word number) log = omega arith
+frees_more n (Loaded word number) log = omega arith
 frees_more n (Lost word number) log = omega arith
 
 -- births and frees of a thread, whatever the size of the heap
-pub births_told : (n : ℕ) (log : List Told) → (part_seen n log).row.allocs ≡ sum_by bears log
+pub births_told : (n : ℕ) (log : List LogItem) → (part_seen n log).row.allocs ≡ sum_by bears log
 births_told n [] = refl
 births_told n (x ∷ log) = omega (arith, allocs_more n x log, births_told n log, sum_by-cons bears x log)
 
-pub frees_told : (n : ℕ) (log : List Told) → (part_seen n log).row.frees ≡ sum_by frees log
+pub frees_told : (n : ℕ) (log : List LogItem) → (part_seen n log).row.frees ≡ sum_by frees log
 frees_told n [] = refl
 frees_told n (x ∷ log) = omega (arith, frees_more n x log, frees_told n log, sum_by-cons frees x log)
 
@@ -107,8 +107,8 @@ counts_gathered v w registered gathered ledger n more allocs given_back own coun
       ∙ ap in_u32 (omega arith);
   allocs = within_u64 ledger.allocs (births_of_all v.gathered) own.allocs allocs counts.allocs births
       ∙ ap (λ m. in_u64 (m + births_of_all v.gathered)) (ap (λ (l : Ledger). l.allocs) is ∙ births_told n w.log)
-      ∙ ap in_u64 (sym (sum_by-cons (λ (life : ℕ × List Told). sum_by bears life.1) (w.thread, w.log) v.gathered));
+      ∙ ap in_u64 (sym (sum_by-cons (λ (life : ℕ × List LogItem). sum_by bears life.1) (w.thread, w.log) v.gathered));
   frees = within_u64 ledger.frees (frees_of_all v.gathered) own.frees given_back counts.frees deaths
       ∙ ap (λ m. in_u64 (m + frees_of_all v.gathered)) (ap (λ (l : Ledger). l.frees) is ∙ frees_told n w.log)
-      ∙ ap in_u64 (sym (sum_by-cons (λ (life : ℕ × List Told). sum_by frees life.1) (w.thread, w.log) v.gathered));
+      ∙ ap in_u64 (sym (sum_by-cons (λ (life : ℕ × List LogItem). sum_by frees life.1) (w.thread, w.log) v.gathered));
 }

@@ -20,7 +20,7 @@ use Rattle.brc_count.specs.law.world.declared.row.Row.{Row}
 use Rattle.brc_count.specs.table.Rest.{Remains}
 use Rattle.brc_count.specs.table.Shown.{shows}
 use Rattle.brc_thread.specs.Threads.{ledger_of}
-use Rattle.brc_thread.specs.Ending.{Ends, ledger_at}
+use Rattle.brc_thread.specs.Ending.{IsLastState, ledger_at}
 use Rattle.brc_thread.specs.Counting.{bears, frees, registrations, gatherings, births_of_all, frees_of_all}
 use Rattle.brc_thread.specs.Emptied.{AllGathered}
 use Rattle.brc_thread.proofs.At_Home.{root_rests, all_at_home}
@@ -89,7 +89,7 @@ module _ (n limit : ℕ) (run : Run) (root : View) (options : AreOptions n limit
 module _ {A : Type 0} where
   pub ends_so : (n limit id : ℕ) (root : View) (slots : List (Option (ℕ × Payload A))) → root.active ≡ true
       → root.thread ≡ 0
-      → Remains n limit id root slots → Ends n limit id root slots
+      → Remains n limit id root slots → IsLastState n limit id root slots
   ends_so n limit id root slots active is_root remains =
       let run = remains.kept.run in
       let fits = remains.kept.each_seat id root remains.seen active in

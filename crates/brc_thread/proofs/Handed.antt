@@ -11,17 +11,17 @@ use Rattle.brc_count.proofs.law.world.Dropping.{held_by_place}
 use Rattle.brc_count.proofs.law.lasting.Standing.{held_not_freed, held_not_born}
 use Rattle.brc_count.specs.law.known.Items.{IsPart, events_of}
 use Rattle.brc_count.proofs.law.known.Items_Runs.{events_run}
-use Rattle.brc_count.specs.law.rule.declared.told.Told.{Told}
-use Rattle.brc_count.specs.law.rule.declared.told.Told.TheVariants.{Did, Saw, Lost}
+use Rattle.brc_count.specs.law.rule.declared.told.LogItem.{LogItem}
+use Rattle.brc_count.specs.law.rule.declared.told.LogItem.TheVariants.{Stepped, Loaded, Lost}
 use Rattle.brc_count.specs.law.rule.Logs.{Run, items_of, own_of, world}
 use Rattle.brc_count.specs.law.rule.Seen.{part_seen}
 use Rattle.brc_count.specs.table.Seated.{TableSeen}
 use Rattle.brc_count.specs.Frames.{FrameSeen, HandleSeen}
-use Rattle.brc_thread.specs.Handed.{IsHeld, OwnsIn, Next, Spares, world_of}
+use Rattle.brc_thread.specs.Handed.{IsHeldHandle, OwnsIn, Next, Spares, world_of}
 use Rattle.brc_thread.proofs.Ending.{own_part}
 
 -- what the thread's own steps say of the place, the world has there
-held_there : (runs : TableSeen → Run) (handle : HandleSeen) (c u : ℕ) (told : Told) → IsHeld runs handle c
+held_there : (runs : TableSeen → Run) (handle : HandleSeen) (c u : ℕ) (told : LogItem) → IsHeldHandle runs handle c
     → Next handle.heap (runs handle.heap) u told
     → 1 ≤ held (world_of handle.heap (runs handle.heap)) c
 held_there runs handle c u told handed next =
@@ -33,10 +33,10 @@ held_there runs handle c u told handed next =
     own_part n limit run t next.options next.legal.items.0 handed.registered in
     held_by_place (world n limit run) t handle.place c (ap (λ f. place_at f handle.place) part.frame_is ∙ handed.there)
 
-pub spared : (runs : TableSeen → Run) (handle : HandleSeen) (c u : ℕ) (told : Told) → IsHeld runs handle c
+pub spared : (runs : TableSeen → Run) (handle : HandleSeen) (c u : ℕ) (told : LogItem) → IsHeldHandle runs handle c
     → Next handle.heap (runs handle.heap) u told
     → Spares c told
-spared runs handle c u (Did s number moved) handed next =
+spared runs handle c u (Stepped s number moved) handed next =
     let n = handle.heap.cells in
     let limit = handle.heap.local_limit in
     let run = runs handle.heap in
@@ -44,18 +44,18 @@ spared runs handle c u (Did s number moved) handed next =
     let e : Event = record { thread = u; step = s } in
     let reached : IsReached h = run_reached n limit (events_of (items_of run)) next.options
     (events_run (start_of n limit) (items_of run) next.legal.items.0) in
-    let some : 1 ≤ held h c = held_there runs handle c u (Did s number moved) handed next in (
+    let some : 1 ≤ held h c = held_there runs handle c u (Stepped s number moved) handed next in (
       held_not_freed h e c reached next.legal.items.1.0 some,
       λ kind j. held_not_born h e c kind j reached
           next.legal.items.1.0 some,
     )
-spared runs handle c u (Saw word number) handed next = tt
+spared runs handle c u (Loaded word number) handed next = tt
 spared runs handle c u (Lost word number) handed next = tt
 
 -- a handle that a frame owns is of the frame's heap and thread
 pub held_where_owned : {A : Type 0} (runs : TableSeen → Run) (frame : FrameSeen A) (handle : HandleSeen) (c : ℕ)
     → OwnsIn runs frame handle c
-    → IsHeld runs handle c
+    → IsHeldHandle runs handle c
 held_where_owned runs frame handle c owned =
     rw (owned.owns.heap, owned.owns.thread) record {
       some_thread = owned.some_thread;

@@ -19,7 +19,7 @@ use Rattle.brc_count.specs.block.contracts.payload.Payload as Payload
 use Rattle.brc_count.specs.block.contracts.worklist.Node as Node
 use Rattle.brc_count.proofs.block.worklist.Worklist.TheLaws.TheKnot.{send-Node, send-Worklist}
 use Rattle.brc_count.specs.table.contracts.seats.ThreadSeat as ThreadSeat
-use Rattle.brc_count.specs.biased.contracts.resting.RestingCounter as RestingCounter
+use Rattle.brc_count.specs.biased.contracts.resting_counter.RestingCounter as RestingCounter
 use Rattle.brc_count.below.atomic_table.proofs.shared.Seat.TheSendSync as seat
 use Rattle.brc_count.below.atomic_table.proofs.owned.Table.TheSendSync as table
 use Rattle.brc_count.specs.table.contracts.table.HeapTable as HeapTable

@@ -6,11 +6,11 @@ use Rattle.brc_count.specs.block.Payload.{kind_of, entries_of}
 use Rattle.brc_count.specs.law.world.declared.event.Change.TheVariants.{Take}
 use Rattle.brc_count.specs.law.world.declared.event.Step.TheVariants.{Unlock}
 use Rattle.brc_count.specs.law.rule.declared.told.Moved.TheVariants as moves
-use Rattle.brc_count.specs.law.rule.declared.told.Told.TheVariants.{Did}
+use Rattle.brc_count.specs.law.rule.declared.told.LogItem.TheVariants.{Stepped}
 use Rattle.brc_count.specs.law.rule.Logs.{entries_in}
 use Rattle.brc_count.specs.table.Shown.{contents_of}
 use Rattle.brc_count.specs.Frames.{FrameSeen, HandleSeen, IsAsBefore, ReleasedOf}
-use Rattle.brc_count.specs.Locking.{Began, Ended, KeepsThread, KeepsFrame, ChangesPlace, cell_in, contents_found}
+use Rattle.brc_count.specs.Locking.{Began, UnlockedBy, KeepsThread, KeepsFrame, ChangesPlace, cell_in, contents_found}
 use Rattle.brc_count.specs.Locking.{entries_found}
 use Rattle.brc_count.specs.Owned.{Keeps, Gains, Loses}
 use Rattle.brc_containers.specs.Changing.{Changes}
@@ -69,7 +69,7 @@ module _ {A : Type 0} where
   pub takes_last : (before now mid new : FrameSeen A) (k : ℕ) (block : ℕ × Payload A) (left : Payload A)
       (index cell : ℕ) (given : HandleSeen)
       → Began before now k block → KeepsThread before now → KeepsFrame before now → IsAsBefore now mid
-      → Ended mid new (Take index given.place) (block.0, left)
+      → UnlockedBy mid new (Take index given.place) (block.0, left)
       → index + 1 ≡ length (entries_of block.1) → slice_get (entries_of block.1) index ≡ Some cell
       → entries_of left ≡ remove (entries_of block.1) index → kind_of left ≡ kind_of block.1
       → ChangesPlace mid new given.place (Some cell) → TakesLast before new k given
@@ -91,7 +91,7 @@ module _ {A : Type 0} where
           cell = block.0;
           of_place = was.began.cell;
           events = ended.event ∙ ap
-              (λ log. Did (Unlock (Take index given.place)) 0 (moves.Put block.0 (contents_of left)) ∷ log)
+              (λ log. Stepped (Unlock (Take index given.place)) 0 (moves.Put block.0 (contents_of left)) ∷ log)
               was.began.event;
           unlocked = ended.unlocked;
           keeps = thread_kept_on was.keeps ended.keeps;

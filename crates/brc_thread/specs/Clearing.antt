@@ -8,7 +8,7 @@ use Rattle.brc_count.specs.law.world.declared.event.Change.TheVariants.{Keep, Ta
 use Rattle.brc_count.specs.law.world.declared.event.Source.TheVariants as sources
 use Rattle.brc_count.specs.law.rule.declared.contents.Contents.{Contents}
 use Rattle.brc_count.specs.law.rule.Logs.{kind_in, entries_in}
-use Rattle.brc_count.specs.Frames.{FrameSeen, HandleSeen, Given, ReleasedOf, Refused, IsAsBefore}
+use Rattle.brc_count.specs.Frames.{FrameSeen, HandleSeen, GivenHandle, ReleasedOf, Refused, IsAsBefore}
 use Rattle.brc_count.specs.Locking.{Busy, cell_in}
 use Rattle.brc_count.specs.Owned.{Keeps, Gains}
 use Rattle.brc_containers.specs.Changing.{Changes}
@@ -39,13 +39,13 @@ module _ {A : Type 0} where
     pub some : 0 < length (entries_in found)
 
   -- A take: an entry came out, or none was found; or it is refused, Busy first and a place last.
-  abbrev pub Takes : FrameSeen A → FrameSeen A → ℕ → Result (Option HandleSeen) Fault → Type 0
-  Takes old new k (Ok (Some given)) = TakesLast old new k given
-  Takes old new k (Ok None) = FindsNone old new k
-  Takes old new k (Err faults.Busy) = Busy old new k
-  Takes old new k (Err faults.FrameFull) = FindsSome old new k × Refused old faults.FrameFull
-  Takes old new k (Err faults.OutOfMemory) = FindsSome old new k × Refused old faults.OutOfMemory
-  Takes old new k (Err _) = ⊥
+  abbrev pub TakesGlobal : FrameSeen A → FrameSeen A → ℕ → Result (Option HandleSeen) Fault → Type 0
+  TakesGlobal old new k (Ok (Some given)) = TakesLast old new k given
+  TakesGlobal old new k (Ok None) = FindsNone old new k
+  TakesGlobal old new k (Err faults.Busy) = Busy old new k
+  TakesGlobal old new k (Err faults.FrameFull) = FindsSome old new k × Refused old faults.FrameFull
+  TakesGlobal old new k (Err faults.OutOfMemory) = FindsSome old new k × Refused old faults.OutOfMemory
+  TakesGlobal old new k (Err _) = ⊥
 
   -- with an entry that came out the frame has a handle more
   abbrev pub HandsSome : FrameSeen A → FrameSeen A → Result (Option HandleSeen) Fault → Type 0
@@ -97,7 +97,7 @@ module _ {A : Type 0} where
   pub record ClearsGlobals (old new : FrameSeen A) (result : Result (Unit {0}) Fault) : Type 0 where
     pub held : FrameSeen A
     pub globals : HandleSeen
-    pub given : Given old held (sources.Immortal GLOBALS) GLOBALS globals
+    pub given : GivenHandle old held (sources.Immortal GLOBALS) GLOBALS globals
     pub left : FrameSeen A
     pub takes : TakesAll held left globals.place result
     pub gives_back : (c : ℕ) → cell_in left globals.place ≡ Some c → ReleasedOf left new globals.place c

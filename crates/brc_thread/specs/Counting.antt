@@ -4,20 +4,20 @@ use Rattle.brc_words.specs.declared.limits.TheConstants.{MOST_REGISTRATIONS}
 use Rattle.brc_count.specs.law.world.Lists.{one}
 use Rattle.brc_count.specs.law.world.Holding.{is_birth}
 use Rattle.brc_count.specs.law.world.Steps.{is_free_step}
-use Rattle.brc_count.specs.law.rule.declared.told.Told.{Told}
-use Rattle.brc_count.specs.law.rule.declared.told.Told.TheVariants.{Did}
+use Rattle.brc_count.specs.law.rule.declared.told.LogItem.{LogItem}
+use Rattle.brc_count.specs.law.rule.declared.told.LogItem.TheVariants.{Stepped}
 use Rattle.brc_count.specs.law.rule.declared.view.View.{View}
 use Rattle.brc_count.specs.declared.ledger.Ledger.{Ledger}
 -- how many threads the root has registered
 pub use Rattle.brc_count.specs.law.steps.Joining.{registrations}
 
 -- the step bears an object, gives a cell back
-abbrev pub bears : Told → ℕ
-bears (Did s number moved) = one (is_birth s)
+abbrev pub bears : LogItem → ℕ
+bears (Stepped s number moved) = one (is_birth s)
 bears x = 0
 
-abbrev pub frees : Told → ℕ
-frees (Did s number moved) = one (is_free_step s)
+abbrev pub frees : LogItem → ℕ
+frees (Stepped s number moved) = one (is_free_step s)
 frees x = 0
 
 -- how many threads the root has gathered: it has a log for each
@@ -25,11 +25,11 @@ abbrev pub gatherings : View → ℕ
 gatherings v = length v.gathered
 
 -- what those that it gathered did, added up
-abbrev pub births_of_all : List (ℕ × List Told) → ℕ
-births_of_all lives = sum_by (λ (life : ℕ × List Told). sum_by bears life.1) lives
+abbrev pub births_of_all : List (ℕ × List LogItem) → ℕ
+births_of_all lives = sum_by (λ (life : ℕ × List LogItem). sum_by bears life.1) lives
 
-abbrev pub frees_of_all : List (ℕ × List Told) → ℕ
-frees_of_all lives = sum_by (λ (life : ℕ × List Told). sum_by frees life.1) lives
+abbrev pub frees_of_all : List (ℕ × List LogItem) → ℕ
+frees_of_all lives = sum_by (λ (life : ℕ × List LogItem). sum_by frees life.1) lives
 
 -- as far as 32 bits count, and as far as 64 bits do: every number that a heap comes to is below that, but no type says
 -- so

@@ -32,7 +32,7 @@ blocks_in (Some block ∷ slots) = block ∷ blocks_in slots
 
 module _ {A : Type 0} where
   -- the slot has a block, which is the cell's and has these contents
-  pub record HasBlock (slots : List (Option (ℕ × Payload A))) (c : ℕ) (contents : Contents) : Type 0 where
+  pub record SlotHas (slots : List (Option (ℕ × Payload A))) (c : ℕ) (contents : Contents) : Type 0 where
     pub payload : Payload A
     pub there : get_elem? slots c ≡ some (Some (c, payload))
     pub holds : contents_of payload ≡ contents
@@ -41,7 +41,7 @@ module _ {A : Type 0} where
   -- there is no block. So the blocks, one after the other, are those of these cells, each once.
   pub record AllAtHome (n : ℕ) (h : Heap) (run : Run) (slots : List (Option (ℕ × Payload A))) : Type 0 where
     pub deep : length slots ≡ n
-    pub immortals : (c : ℕ) → c < FIRST_MORTAL → HasBlock slots c (contents_at run c)
-    pub live : (c : ℕ) → c < n → lives_at h c ≡ true → HasBlock slots c (contents_at run c)
+    pub immortals : (c : ℕ) → c < FIRST_MORTAL → SlotHas slots c (contents_at run c)
+    pub live : (c : ℕ) → c < n → lives_at h c ≡ true → SlotHas slots c (contents_at run c)
     pub free : (c : ℕ) → FIRST_MORTAL ≤ c → c < n → lives_at h c ≡ false → get_elem? slots c ≡ some None
     pub cells : map (λ (block : ℕ × Payload A). block.0) (blocks_in slots) ≡ used_from h 0 n

@@ -33,7 +33,7 @@ module _ {A : Type 0} where
   -- all are, if it has gathered as often as it has registered. If all are gathered, what their logs count, added up, is
   -- what that world counts, its past and its numbers together. The blocks that are left are then those of all live
   -- objects and immortals, each with what was put home there last.
-  pub record Ends (n limit id : ℕ) (root : View) (slots : List (Option (ℕ × Payload A))) : Type 0 where
+  pub record IsLastState (n limit id : ℕ) (root : View) (slots : List (Option (ℕ × Payload A))) : Type 0 where
     pub remains : Remains n limit id root slots
     pub reached : IsReached (world n limit remains.kept.run)
     pub headline : Headline (world n limit remains.kept.run)

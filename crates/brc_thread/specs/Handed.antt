@@ -4,8 +4,8 @@ use Rattle.brc_words.specs.declared.kind.Kind.{Kind}
 use Rattle.brc_count.specs.law.world.declared.event.Step.TheVariants.{Free, Birth}
 use Rattle.brc_count.specs.law.world.Heap.{Heap, AreOptions, is_registered}
 use Rattle.brc_count.specs.law.world.Lists.{place_at}
-use Rattle.brc_count.specs.law.rule.declared.told.Told.{Told}
-use Rattle.brc_count.specs.law.rule.declared.told.Told.TheVariants.{Did, Saw, Lost}
+use Rattle.brc_count.specs.law.rule.declared.told.LogItem.{LogItem}
+use Rattle.brc_count.specs.law.rule.declared.told.LogItem.TheVariants.{Stepped, Loaded, Lost}
 use Rattle.brc_count.specs.law.rule.Logs.{Run, own_of, world, IsLegal}
 use Rattle.brc_count.specs.law.rule.Seen.{part_seen}
 use Rattle.brc_count.specs.table.Seated.{TableSeen}
@@ -18,7 +18,7 @@ world_of heap run = world heap.cells heap.local_limit run
 
 -- Of any number of heaps, each with its run: the handle was given, and isn't spent. By the steps of its own thread at
 -- its own heap alone, the place that it names has the cell. The last of them that filled the place gave the handle.
-pub record IsHeld (runs : TableSeen → Run) (handle : HandleSeen) (c : ℕ) : Type 0 where
+pub record IsHeldHandle (runs : TableSeen → Run) (handle : HandleSeen) (c : ℕ) : Type 0 where
   pub some_thread : 0 < handle.thread
   pub registered : is_registered (world_of handle.heap (runs handle.heap)) handle.thread ≡ true
   pub there : place_at (part_seen handle.heap.cells (own_of handle.thread (runs handle.heap))).frame
@@ -35,12 +35,12 @@ pub record OwnsIn {A : Type 0} (runs : TableSeen → Run) (frame : FrameSeen A) 
   pub cell : cell_in frame handle.place ≡ Some c
 
 -- the step doesn't give the cell back, and bears no object there
-abbrev pub Spares : ℕ → Told → Type 0
-Spares c (Did s number moved) = (s ≢ Free c) × ((kind : Kind) (k : ℕ) → s ≢ Birth c kind k)
-Spares c (Saw word number) = Unit {0}
+abbrev pub Spares : ℕ → LogItem → Type 0
+Spares c (Stepped s number moved) = (s ≢ Free c) × ((kind : Kind) (k : ℕ) → s ≢ Birth c kind k)
+Spares c (Loaded word number) = Unit {0}
 Spares c (Lost word number) = Unit {0}
 
 -- the next step of a heap's run, of whatever thread
-pub record Next (heap : TableSeen) (run : Run) (u : ℕ) (told : Told) : Type 0 where
+pub record Next (heap : TableSeen) (run : Run) (u : ℕ) (told : LogItem) : Type 0 where
   pub options : AreOptions heap.cells heap.local_limit
   pub legal : IsLegal heap.cells heap.local_limit ((u, told) ∷ run)

@@ -1,7 +1,7 @@
 -- What a mutator ends as, where its frame is lent.
 use Rattle.std.specs.Borrow.{Lends, Fml, RattleType, MutBor}
 use Rattle.std.specs.declared.alloc.Allocator.{Ghosts as TheAllocator}
-use Rattle.brc_count.specs.biased.declared.home.Home.{Ghosts as TheHome}
+use Rattle.brc_count.specs.biased.declared.home.HasTable.{Ghosts as TheHome}
 use Rattle.brc_count.specs.Frames.{FrameSeen}
 use Rattle.brc_count.specs.contracts.frame.Frame as frame
 use Rattle.brc_thread.specs.contracts.mutator.Mutator as mutator

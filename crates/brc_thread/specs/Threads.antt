@@ -3,9 +3,9 @@ use Rattle.std.specs.Prelude.{◌≡◌, ◌⊎◌, ◌<◌, ◌≤◌, ℕ, Lis
 use Rattle.brc_words.specs.declared.fault.Fault.{Fault}
 use Rattle.brc_words.specs.declared.fault.Fault.TheVariants.{TooManyThreads, OutOfMemory}
 use Rattle.brc_words.specs.declared.limits.TheConstants.{MOST_THREADS, MOST_REGISTRATIONS}
-use Rattle.brc_count.specs.law.rule.declared.told.Told.{Told}
+use Rattle.brc_count.specs.law.rule.declared.told.LogItem.{LogItem}
 use Rattle.brc_count.specs.law.rule.Seen.{part_seen}
-use Rattle.brc_count.specs.law.steps.Joining.{next_thread, registrations, Leaves}
+use Rattle.brc_count.specs.law.steps.Joining.{next_thread, registrations, HasLeft}
 use Rattle.brc_count.specs.table.Seated.{TableSeen, SeatSeen, RootSeen, view_of}
 use Rattle.brc_count.specs.declared.ledger.Ledger.{Ledger}
 
@@ -17,7 +17,7 @@ RefusesThread root OutOfMemory = (next_thread root.view ≤ MOST_THREADS) × (re
 RefusesThread root _ = ⊥
 
 -- how many objects a thread made that did this, and how many cells it gave back
-abbrev pub ledger_of : ℕ → List Told → Ledger
+abbrev pub ledger_of : ℕ → List LogItem → Ledger
 ledger_of n log = record { allocs = (part_seen n log).row.allocs; frees = (part_seen n log).row.frees }
 
 -- the heap of a thread that is done, and its seat with the log of all that it did
@@ -33,6 +33,6 @@ retired_seen seat cells limit = record {
 
 -- It has left and holds nothing: its hand is free, nothing is popped, its worklist is empty, and no slot is out.
 pub record Retires (A : Type 0) (seat : SeatSeen A) (cells : ℕ) (ledger : Ledger) : Type 0 where
-  pub leaves : Leaves cells (view_of seat)
+  pub leaves : HasLeft cells (view_of seat)
   pub bare : seat.slots ≡ []
   pub counted : ledger ≡ ledger_of cells seat.log

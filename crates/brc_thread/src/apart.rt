@@ -10,7 +10,7 @@ ghost use Rattle.brc_thread.specs.Threads.{RefusesThread};
 
 use crate::mutator::Mutator;
 use crate::root::Root;
-use brc_count::biased::Home;
+use brc_count::biased::HasTable;
 use brc_words::{FIRST_MORTAL, Fault, MOST_THREADS};
 use std::alloc::Allocator;
 
@@ -29,7 +29,7 @@ impl<A: Allocator + Copy> Root<A> {
     /// The mutator of the next thread, as by `register`. Its claims begin with a part of the heap of its own, and each
     /// later one near the thread's last (`Mutator::claim_near`). The mortal cells are cut into 64 parts, one for each
     /// number: so threads that make objects at the same time meet in a free word only once a part is full.
-    pub fn register_apart<H: Home<A> + Drop>(
+    pub fn register_apart<H: HasTable<A> + Drop>(
         &mut self,
         alloc: A,
         heap: H,

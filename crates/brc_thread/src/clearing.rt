@@ -8,23 +8,23 @@ ghost use Rattle.std.specs.Prelude.{◌≡◌, Some, OnErr};
 ghost use Rattle.brc_words.specs.declared.limits.TheConstants.{GLOBALS};
 ghost use Rattle.brc_count.specs.Frames.{IsUnlocked, Owns};
 ghost use Rattle.brc_count.specs.Owned.{Keeps};
-ghost use Rattle.brc_thread.specs.Clearing.{Takes, HandsSome, Looks, TakesAll, Clears};
+ghost use Rattle.brc_thread.specs.Clearing.{TakesGlobal, HandsSome, Looks, TakesAll, Clears};
 
 use crate::mutator::Mutator;
-use brc_count::biased::Home;
+use brc_count::biased::HasTable;
 use brc_count::{Frame, Handle};
 use brc_words::{Fault, MOST_ENTRIES};
 use std::alloc::Allocator;
 
 /// The last entry's reference of an object becomes a handle's; None where it has no entry. Busy where another thread
 /// has it locked, then FrameFull and OutOfMemory.
-fn take_last<H: Home<A>, A: Allocator>(
+fn take_last<H: HasTable<A>, A: Allocator>(
     frame: &mut Frame<H, A>,
     handle: &Handle<A>,
 ) -> Result<Option<Handle<A>>, Fault>
     requires owned { Owns frame.old handle.now }
     requires unlocked { IsUnlocked frame.old }
-    ensures takes { Takes frame.old frame.new handle.now.place result }
+    ensures takes { TakesGlobal frame.old frame.new handle.now.place result }
     ensures hands { HandsSome frame.old frame.new result }
     ensures unlocked { IsUnlocked frame.new }
 {
@@ -47,7 +47,7 @@ fn take_last<H: Home<A>, A: Allocator>(
 }
 
 /// Whether an object has an entry. Busy where another thread has it locked.
-fn has_entry<H: Home<A>, A: Allocator>(
+fn has_entry<H: HasTable<A>, A: Allocator>(
     frame: &mut Frame<H, A>,
     handle: &Handle<A>,
 ) -> Result<bool, Fault>
@@ -66,7 +66,7 @@ fn has_entry<H: Home<A>, A: Allocator>(
 }
 
 /// Takes the last entry of an object and releases it, until a look finds none.
-fn take_all<H: Home<A>, A: Allocator>(
+fn take_all<H: HasTable<A>, A: Allocator>(
     frame: &mut Frame<H, A>,
     handle: &Handle<A>,
 ) -> Result<(), Fault>
@@ -88,7 +88,7 @@ fn take_all<H: Home<A>, A: Allocator>(
     Ok(())
 }
 
-impl<H: Home<A>, A: Allocator> Mutator<H, A> {
+impl<H: HasTable<A>, A: Allocator> Mutator<H, A> {
     /// Gives back what the globals hold, the entry that came last first. FrameFull and OutOfMemory where a handle to
     /// the globals can't be had; then, at any entry, Busy where another thread has them locked, FrameFull and
     /// OutOfMemory; and NotIdle where they still have an entry after 1,048,576 were taken. What was taken before a

@@ -1,7 +1,7 @@
 //! How a heap ends.
 
 ghost use Rattle.std.specs.Prelude.{◌≡◌};
-ghost use Rattle.brc_thread.specs.Ending.{Ends};
+ghost use Rattle.brc_thread.specs.Ending.{IsLastState};
 
 use crate::heap::Heap;
 use crate::root::Root;
@@ -17,7 +17,7 @@ use std::alloc::Allocator;
 /// immortals, each with what was put home there last.
 pub fn take_apart<A: Allocator>(heap: Heap<A>, root: Root<A>) -> Rest<A>
     requires heap { root.table ≡ heap.table }
-    ensures ended { Ends heap.cells heap.local_limit root.id root.view result }
+    ensures ended { IsLastState heap.cells heap.local_limit root.id root.view result }
 {
     let Heap { table } = heap;
     let Root {

@@ -8,7 +8,7 @@ ghost use Rattle.brc_count.specs.table.Seated.{TableSeen};
 
 use crate::root::Root;
 use brc_count::Ledger;
-use brc_count::biased::Home;
+use brc_count::biased::HasTable;
 use brc_count::table::{HeapTable, Rest};
 use brc_words::Fault;
 use std::alloc::{Allocator, Global};
@@ -25,10 +25,23 @@ pub struct Options {
 
 impl Options {
     /// 4,096 cells, of which 3,830 are for objects, and the largest limit.
-    pub const USUAL: Options = Options {
+    pub const DEFAULT: Options = Options {
         cells: 4_096,
         local_limit: 4_294_967_294,
     };
+
+    /// The name of before of `DEFAULT`.
+    pub const USUAL: Options = Options::DEFAULT;
+}
+
+impl Default for Options {
+    ghost use Rattle.std.specs.Prelude.{◌≡◌};
+
+    ghost is_default = { λ o. (o.cells ≡ 4096) × (o.local_limit ≡ 4294967294) };
+
+    fn default() -> Options {
+        Options::DEFAULT
+    }
 }
 
 /// The words and blocks of one heap. All threads share it by reference; it must be taken apart in the end.
@@ -74,7 +87,7 @@ impl<A: Allocator + Copy> Heap<A> {
     }
 }
 
-impl<'h, A: Allocator> Home<A> for &'h Heap<A> {
+impl<'h, A: Allocator> HasTable<A> for &'h Heap<A> {
     ghost seen = { λ heap. heap.now };
 
     fn table(&self) -> &HeapTable<A> {
@@ -83,7 +96,7 @@ impl<'h, A: Allocator> Home<A> for &'h Heap<A> {
 }
 
 impl<A: Allocator> Heap<A> {
-    /// Its table, for a `Home` of one's own that leads to the heap.
+    /// Its table, for a `HasTable` of one's own that leads to the heap.
     #[inline(always)]
     pub fn table(&self) -> &HeapTable<A>
         ensures { result.now ≡ self.now }

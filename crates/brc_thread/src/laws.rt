@@ -2,13 +2,13 @@
 
 ghost use Rattle.std.specs.Prelude.{◌≡◌, ℕ, List, [], ◌∷◌, Option, Some};
 ghost use Rattle.brc_count.specs.block.declared.payload.Payload.{Payload};
-ghost use Rattle.brc_count.specs.law.rule.declared.told.Told.{Told as told_data};
+ghost use Rattle.brc_count.specs.law.rule.declared.told.LogItem.{LogItem as told_data};
 ghost use Rattle.brc_count.specs.law.rule.Logs.{Run};
 ghost use Rattle.brc_count.specs.table.Rest.{from_block};
 ghost use Rattle.brc_thread.specs.Emptied.{blocks_in};
 ghost use Rattle.brc_count.specs.table.Seated.{TableSeen};
 ghost use Rattle.brc_count.specs.Frames.{FrameSeen, HandleSeen};
-ghost use Rattle.brc_thread.specs.Handed.{IsHeld, OwnsIn, Next, Spares};
+ghost use Rattle.brc_thread.specs.Handed.{IsHeldHandle, OwnsIn, Next, Spares};
 
 use std::alloc::Allocator;
 
@@ -19,9 +19,9 @@ use std::alloc::Allocator;
 #[tactic(auto, using(crate::proofs::Handed::held_where_owned, crate::proofs::Handed::spared))]
 pub fn handles_keep_their_objects<A: Allocator>()
     ensures held { (runs : TableSeen → Run) (frame : FrameSeen A) (handle : HandleSeen) (c : ℕ)
-        → OwnsIn runs frame handle c → IsHeld runs handle c }
+        → OwnsIn runs frame handle c → IsHeldHandle runs handle c }
     ensures kept { (runs : TableSeen → Run) (handle : HandleSeen) (c u : ℕ) (told : told_data)
-        → IsHeld runs handle c → Next handle.heap (runs handle.heap) u told → Spares c told }
+        → IsHeldHandle runs handle c → Next handle.heap (runs handle.heap) u told → Spares c told }
 {}
 
 /// By what `Rest::next` answers, it gives the blocks in the slots one after the other, each once, and then nothing.

@@ -7,18 +7,18 @@ ghost use Rattle.brc_count.specs.Frames.{KeepsHandles, ledger_seen, popped_seen}
 ghost use Rattle.brc_count.specs.Closing.{TurnsLeaving};
 ghost use Rattle.brc_thread.specs.Threads.{ledger_of};
 
-use brc_count::biased::Home;
+use brc_count::biased::HasTable;
 use brc_count::table::ThreadSeat;
 use brc_count::{ClosedFrame, Ledger};
 use std::alloc::{Allocator, Global};
 use std::marker::Model;
 
 /// A thread that has left: it owns nothing, and has popped entries to deal with, and dead blocks.
-pub struct Leaving<H: Home<A>, A: Allocator> {
+pub struct Leaving<H: HasTable<A>, A: Allocator> {
     pub(crate) frame: ClosedFrame<H, A>,
 }
 
-impl<H: Home<A>, A: Allocator> Model for Leaving<H, A> {
+impl<H: HasTable<A>, A: Allocator> Model for Leaving<H, A> {
     ghost use Rattle.brc_count.specs.Frames.{FrameSeen};
 
     ghost Value = { FrameSeen A };
@@ -46,7 +46,7 @@ impl<A: Allocator> Model for Retired<A> {
     ghost invariant = { λ r. Retires A r.seat r.cells r.ledger };
 }
 
-impl<H: Home<A>, A: Allocator> Leaving<H, A> {
+impl<H: HasTable<A>, A: Allocator> Leaving<H, A> {
     /// Which thread it was: the number, from 1 to 64.
     pub fn thread(&self) -> u32
         ensures { result ≡ self.now.seat.thread }
@@ -116,7 +116,7 @@ impl<A: Allocator> Retired<A> {
     }
 }
 
-impl<H: Home<A> + Drop, A: Allocator> Leaving<H, A> {
+impl<H: HasTable<A> + Drop, A: Allocator> Leaving<H, A> {
     /// The thread is given up, and can't be gathered any more: its heap answers Missing for good.
     pub fn abandon(self) {
         let Leaving { frame } = self;

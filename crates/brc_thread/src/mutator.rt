@@ -5,14 +5,15 @@ ghost use Rattle.std.specs.Prelude.{OnOk, OnErr};
 ghost use Rattle.brc_words.specs.declared.limits.TheConstants.{GLOBALS};
 ghost use Rattle.brc_count.specs.law.world.declared.event.Source.TheVariants as sources;
 ghost use Rattle.brc_count.specs.law.living.Living.{OwnLog};
-ghost use Rattle.brc_count.specs.Frames.{Given, Refused, IsAsBefore, IsUnlocked, KeepsHandles, KeepsButStart, Turns};
+ghost use Rattle.brc_count.specs.Frames.{GivenHandle, Refused, IsAsBefore, IsUnlocked, KeepsHandles, KeepsButStart};
+ghost use Rattle.brc_count.specs.Frames.{Turns};
 ghost use Rattle.brc_count.specs.Frames.{word_asked, ledger_seen};
 ghost use Rattle.brc_count.specs.Polling.{Polled};
 ghost use Rattle.brc_count.specs.Closing.{GoesOut};
 ghost use Rattle.brc_count.specs.Owned.{Keeps, Gains};
 
 use crate::leaving::Leaving;
-use brc_count::biased::Home;
+use brc_count::biased::HasTable;
 use brc_count::{Frame, Handle, Ledger};
 use brc_words::Fault;
 use std::alloc::Allocator;
@@ -20,11 +21,11 @@ use std::marker::Model;
 
 /// A thread that is registered and hasn't left: its frame, and nothing else. `H` leads to its heap: `&Heap<A>`, for
 /// one.
-pub struct Mutator<H: Home<A>, A: Allocator> {
+pub struct Mutator<H: HasTable<A>, A: Allocator> {
     pub(crate) frame: Frame<H, A>,
 }
 
-impl<H: Home<A>, A: Allocator> Model for Mutator<H, A> {
+impl<H: HasTable<A>, A: Allocator> Model for Mutator<H, A> {
     ghost use Rattle.brc_count.specs.Frames.{FrameSeen};
 
     ghost Value = { FrameSeen A };
@@ -32,7 +33,7 @@ impl<H: Home<A>, A: Allocator> Model for Mutator<H, A> {
     ghost view = { λ m. m.frame };
 }
 
-impl<H: Home<A>, A: Allocator> Mutator<H, A> {
+impl<H: HasTable<A>, A: Allocator> Mutator<H, A> {
     ghost use Rattle.std.specs.Borrow.{sem};
     ghost use Rattle.brc_thread.specs.Lending.{lends_frame};
 
@@ -72,7 +73,7 @@ impl<H: Home<A>, A: Allocator> Mutator<H, A> {
     pub fn globals(&mut self) -> Result<Handle<A>, Fault>
         requires unlocked { IsUnlocked self.old }
         ensures heap { self.new.heap ≡ self.old.heap }
-        ensures given { IfOk result (Given self.old self.new (sources.Immortal GLOBALS) GLOBALS) }
+        ensures given { IfOk result (GivenHandle self.old self.new (sources.Immortal GLOBALS) GLOBALS) }
         ensures refused { IfErr result (Refused self.old) }
         ensures unchanged { OnErr result (IsAsBefore self.old self.new) }
 
@@ -164,7 +165,7 @@ impl<H: Home<A>, A: Allocator> Mutator<H, A> {
     }
 }
 
-impl<H: Home<A> + Drop, A: Allocator> Mutator<H, A> {
+impl<H: HasTable<A> + Drop, A: Allocator> Mutator<H, A> {
     /// The thread is given up without leaving, and can't be gathered any more: its heap answers Missing for good. It
     /// has no handle, so no reference is lost.
     pub fn abandon(self)

@@ -5,7 +5,7 @@ ghost use Rattle.brc_count.specs.Frames.{IsUnlocked};
 
 use crate::mutator::Mutator;
 use brc_count::RestingFrame;
-use brc_count::biased::Home;
+use brc_count::biased::HasTable;
 use std::alloc::{Allocator, Global};
 use std::marker::Model;
 
@@ -24,7 +24,7 @@ impl<A: Allocator> Model for Resting<A> {
     ghost view = { λ r. r.frame };
 }
 
-impl<H: Home<A> + Drop, A: Allocator> Mutator<H, A> {
+impl<H: HasTable<A> + Drop, A: Allocator> Mutator<H, A> {
     /// The mutator, away from its heap.
     pub fn rest(self) -> Resting<A>
         requires idle { (self.len ≡ 0) × (self.works ≡ []) }
@@ -47,7 +47,7 @@ impl<A: Allocator> Resting<A> {
     }
 
     /// The mutator, at its heap again.
-    pub fn wake<H: Home<A>>(self, heap: H) -> Mutator<H, A>
+    pub fn wake<H: HasTable<A>>(self, heap: H) -> Mutator<H, A>
         requires heap { self.heap ≡ H.seen heap }
         ensures same { result ≡ self }
         ensures idle { (result.len ≡ 0) × (result.works ≡ []) }

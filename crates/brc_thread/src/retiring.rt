@@ -11,14 +11,14 @@ use crate::leaving::{Leaving, Retired};
 use crate::mutator::Mutator;
 use crate::root::Root;
 use brc_count::Ledger;
-use brc_count::biased::Home;
+use brc_count::biased::HasTable;
 use std::alloc::Allocator;
 use std::sync::Wait;
 
 /// So many turns are done between two looks whether anything is left.
 const TURNS: usize = 64;
 
-impl<H: Home<A> + Drop, A: Allocator> Leaving<H, A> {
+impl<H: HasTable<A> + Drop, A: Allocator> Leaving<H, A> {
     /// Deals with all that is left: popped entries first, then dead blocks. Nobody puts more into the queue of a thread
     /// that has left, so this ends; but nothing says after how many turns. It takes no memory.
     pub fn finish_all(self, rt: &impl Wait) -> Retired<A>
@@ -37,10 +37,10 @@ impl<H: Home<A> + Drop, A: Allocator> Leaving<H, A> {
     }
 }
 
-impl<H: Home<A> + Drop, A: Allocator> Mutator<H, A> {
+impl<H: HasTable<A> + Drop, A: Allocator> Mutator<H, A> {
     /// The thread ends: it settles, leaves, which hands over what it owns, and deals with what is left. It needs no
     /// root, so any thread of the machine can end so; `Root::gather` takes in what comes out. It takes no memory.
-    pub fn retire(self, rt: &impl Wait) -> Retired<A>
+    pub fn settle_and_leave(self, rt: &impl Wait) -> Retired<A>
         requires bare { self.len ≡ 0 }
         requires unlocked { IsUnlocked self }
         ensures { RetiresAs self result }
@@ -53,8 +53,8 @@ impl<H: Home<A> + Drop, A: Allocator> Mutator<H, A> {
         }
     }
 
-    /// The thread ends, as by `retire`, and the root, which is at hand, gathers it. The answer is its ledger.
-    pub fn end(self, rt: &impl Wait, root: &mut Root<A>, heap: &Heap<A>) -> Ledger
+    /// The thread ends, as by `settle_and_leave`, and the root, which is at hand, gathers it. The answer is its ledger.
+    pub fn settle_and_join(self, rt: &impl Wait, root: &mut Root<A>, heap: &Heap<A>) -> Ledger
         requires bare { self.len ≡ 0 }
         requires unlocked { IsUnlocked self }
         requires same_heap { self.heap ≡ heap.now }
@@ -62,7 +62,7 @@ impl<H: Home<A> + Drop, A: Allocator> Mutator<H, A> {
         ensures ended { EndsThread self root.old root.new result }
         ensures same_root { (root.new.table ≡ root.old.table) × (root.new.id ≡ root.old.id) }
     {
-        let retired = self.retire(rt);
+        let retired = self.settle_and_leave(rt);
         let ledger = retired.ledger();
         root.gather(heap, retired);
         ledger
@@ -71,7 +71,7 @@ impl<H: Home<A> + Drop, A: Allocator> Mutator<H, A> {
     /// Leaves without waiting: after at most so many turns of work on dead blocks, and without a poll. What it owns is
     /// handed over, so nothing is asked of it later; `Leaving::work` and `finish` do the rest. If a dead block is left
     /// after that many turns, the mutator is returned. It takes no memory.
-    pub fn depart(self, budget: usize) -> Result<Leaving<H, A>, Mutator<H, A>>
+    pub fn leave_without_waiting(self, budget: usize) -> Result<Leaving<H, A>, Mutator<H, A>>
         requires bare { self.len ≡ 0 }
         requires unlocked { IsUnlocked self }
         ensures departs { IfOk result (Departs budget self) }
@@ -80,5 +80,36 @@ impl<H: Home<A> + Drop, A: Allocator> Mutator<H, A> {
         let mut mutator = self;
         let _left = mutator.work(budget);
         mutator.leave()
+    }
+
+    /// The name of before of `settle_and_leave`.
+    pub fn retire(self, rt: &impl Wait) -> Retired<A>
+        requires bare { self.len ≡ 0 }
+        requires unlocked { IsUnlocked self }
+        ensures { RetiresAs self result }
+    {
+        self.settle_and_leave(rt)
+    }
+
+    /// The name of before of `settle_and_join`.
+    pub fn end(self, rt: &impl Wait, root: &mut Root<A>, heap: &Heap<A>) -> Ledger
+        requires bare { self.len ≡ 0 }
+        requires unlocked { IsUnlocked self }
+        requires same_heap { self.heap ≡ heap.now }
+        requires root { root.old.table ≡ heap.now.table }
+        ensures ended { EndsThread self root.old root.new result }
+        ensures same_root { (root.new.table ≡ root.old.table) × (root.new.id ≡ root.old.id) }
+    {
+        self.settle_and_join(rt, root, heap)
+    }
+
+    /// The name of before of `leave_without_waiting`.
+    pub fn depart(self, budget: usize) -> Result<Leaving<H, A>, Mutator<H, A>>
+        requires bare { self.len ≡ 0 }
+        requires unlocked { IsUnlocked self }
+        ensures departs { IfOk result (Departs budget self) }
+        ensures stays { IfErr result (StaysFor budget self) }
+    {
+        self.leave_without_waiting(budget)
     }
 }

@@ -12,7 +12,7 @@ ghost use Rattle.brc_thread.specs.Threads.{RefusesThread};
 use crate::heap::Heap;
 use crate::leaving::Retired;
 use crate::mutator::Mutator;
-use brc_count::biased::Home;
+use brc_count::biased::HasTable;
 use brc_count::table::RootSeat;
 use brc_count::{Frame, Ledger};
 use brc_words::{Fault, MOST_REGISTRATIONS, MOST_THREADS};
@@ -46,7 +46,11 @@ impl<A: Allocator + Copy> Root<A> {
     /// has: once a thread is gathered, its number is given again. TooManyThreads, looked at first, if 64 registered
     /// threads aren't gathered yet, or if 65,536 were registered in all. OutOfMemory if its counts, its owned bits or
     /// its popped bits can't be had. A refusal changes nothing: the number is the next thread's.
-    pub fn register<H: Home<A> + Drop>(&mut self, alloc: A, heap: H) -> Result<Mutator<H, A>, Fault>
+    pub fn register<H: HasTable<A> + Drop>(
+        &mut self,
+        alloc: A,
+        heap: H,
+    ) -> Result<Mutator<H, A>, Fault>
         requires heap { self.old.table ≡ (H.seen heap).table }
         ensures heap { IfOk result (λ mutator. mutator.heap ≡ H.seen heap) }
         ensures thread { IfOk result (λ mutator. mutator.seat.thread ≡ next_thread self.old.view) }

@@ -8,14 +8,14 @@ ghost use Rattle.brc_count.specs.Owned.{Keeps};
 ghost use Rattle.brc_thread.specs.Settling.{PollsAndWorks, Settles};
 
 use crate::mutator::Mutator;
-use brc_count::biased::Home;
+use brc_count::biased::HasTable;
 use std::alloc::Allocator;
 use std::sync::Wait;
 
 /// So many turns of work are done between two polls.
 const TURNS: usize = 64;
 
-impl<H: Home<A>, A: Allocator> Mutator<H, A> {
+impl<H: HasTable<A>, A: Allocator> Mutator<H, A> {
     /// Works, and polls once no dead block is left; whether that poll was told nothing.
     fn has_settled(&mut self) -> bool
         requires unlocked { IsUnlocked self.old }

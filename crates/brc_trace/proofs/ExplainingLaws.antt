@@ -23,7 +23,7 @@ use Rattle.brc_trace.specs.declared.explaining.Why.{Why}
 use Rattle.brc_trace.specs.declared.explaining.Why.TheVariants as whys
 use Rattle.brc_trace.specs.Traces.{Listing, first_number}
 use Rattle.brc_trace.specs.Replaying.{IsReplayed, IsBad, Replays}
-use Rattle.brc_trace.specs.Explaining.{WhyRefused, IsRefused, Explains, Agrees, fault_of_why}
+use Rattle.brc_trace.specs.Explaining.{WhyRefused, IsRefusedAt, Explains, Agrees, fault_of_why}
 use Rattle.brc_trace.proofs.TextLaws.{same_ok}
 use Rattle.brc_trace.proofs.ReadingLoop.{long_text}
 
@@ -31,7 +31,7 @@ pub refused_at : (start : Heap) (number : ℕ) (events : List Event) (at : ℕ) 
     (told : Refused)
     → LeadsTo start (reverse (take at events)) old → at < length events → enabled old (get_or events at d) ≡ false
     → here ≡ old
-    → WhyRefused here (get_or events at d) (at + number) told → IsRefused start number events told
+    → WhyRefused here (get_or events at d) (at + number) told → IsRefusedAt start number events told
 refused_at start number events at old here d told leads within refused same why =
     let P : Heap → Type 0 = λ h. enabled h (get_or events at d) ≡ false in
     let Q : Heap → Type 0 = λ h. WhyRefused h (get_or events at d) (at + number) told in
@@ -124,7 +124,7 @@ same_err : {A E : Type 0} {x y : E} → ◌≡◌ {A = Result A E} (Err x) (Err 
 same_err e = cc
 
 told_of_trace : (start : Heap) (number : ℕ) (events : List Event) (at line : ℕ) (told : Refused)
-    → IsRefused start number events told → IsFirstNotEnabled start events at → line ≡ at + number
+    → IsRefusedAt start number events told → IsFirstNotEnabled start events at → line ≡ at + number
     → line ≡ told.line
 told_of_trace start number events at line told is first counted =
     counted ∙ ap (λ (n : ℕ). n + number) (one_first start events at is.at first is.first) ∙ sym is.why.line_is

@@ -5,17 +5,17 @@ use Rattle.std.specs.Prelude.{IfSome}
 use Rattle.law_world.specs.Heap.{Heap, cell_at, worklist_at}
 use Rattle.law_world.specs.Lists.{is_marked}
 use Rattle.law_world.specs.Steps.{is_owned_by, owned_are_marked}
-use Rattle.brc_trace.specs.declared.lowest.Sought.{Sought}
-use Rattle.brc_trace.specs.declared.lowest.Sought.TheVariants as sought
+use Rattle.brc_trace.specs.declared.lowest.SoughtThread.{SoughtThread}
+use Rattle.brc_trace.specs.declared.lowest.SoughtThread.TheVariants as sought
 use Rattle.brc_trace.specs.Lowest.{is_sought, or_here, lowest}
 
 -- ---- as numbers are looked at, from 0 on
 
-pub search_begins : (h : Heap) (t : ℕ) (what : Sought) → lowest h t what 0 ≡ None
+pub search_begins : (h : Heap) (t : ℕ) (what : SoughtThread) → lowest h t what 0 ≡ None
 unfolding lowest
 search_begins h t what = refl
 
-one_more : (h : Heap) (t : ℕ) (what : Sought) (n : ℕ)
+one_more : (h : Heap) (t : ℕ) (what : SoughtThread) (n : ℕ)
     → lowest h t what (suc n) ≡ or_here (lowest h t what n) (is_sought h t what n) n
 unfolding lowest
 one_more h t what n = refl
@@ -24,14 +24,14 @@ or_here_alike : (found other : Option ℕ) (here there : Bool) (n : ℕ) → fou
     → or_here found here n ≡ or_here other there n
 or_here_alike found other here there n same alike = cc
 
-pub search_goes_on : (h : Heap) (t : ℕ) (what : Sought) (n : ℕ) → lowest h t what n ≡ None
+pub search_goes_on : (h : Heap) (t : ℕ) (what : SoughtThread) (n : ℕ) → lowest h t what n ≡ None
     → is_sought h t what n ≡ false → lowest h t what (n + 1) ≡ None
 search_goes_on h t what n none other =
     ap (lowest h t what) (add-one n) ∙ one_more h t what n
     ∙ or_here_alike (lowest h t what n) None (is_sought h t what n) false n none other
 
 -- what was found stays so with more numbers behind
-found_stays : (h : Heap) (t : ℕ) (what : Sought) (n more : ℕ) → lowest h t what (suc n) ≡ Some n
+found_stays : (h : Heap) (t : ℕ) (what : SoughtThread) (n more : ℕ) → lowest h t what (suc n) ≡ Some n
     → lowest h t what (more + suc n) ≡ Some n
 found_stays h t what n zero found = ap (lowest h t what) (omega arith) ∙ found
 found_stays h t what n (suc more) found =
@@ -40,12 +40,12 @@ found_stays h t what n (suc more) found =
     ∙ or_here_alike (lowest h t what (more + suc n)) (Some n) (is_sought h t what (more + suc n))
     (is_sought h t what (more + suc n)) (more + suc n) (found_stays h t what n more found) refl
 
-found_here : (h : Heap) (t : ℕ) (what : Sought) (n : ℕ) → lowest h t what n ≡ None → is_sought h t what n ≡ true
+found_here : (h : Heap) (t : ℕ) (what : SoughtThread) (n : ℕ) → lowest h t what n ≡ None → is_sought h t what n ≡ true
     → lowest h t what (suc n) ≡ Some n
 found_here h t what n none here =
     one_more h t what n ∙ or_here_alike (lowest h t what n) None (is_sought h t what n) true n none here
 
-pub search_finds : (h : Heap) (t : ℕ) (what : Sought) (n end : ℕ) → lowest h t what n ≡ None → n < end
+pub search_finds : (h : Heap) (t : ℕ) (what : SoughtThread) (n end : ℕ) → lowest h t what n ≡ None → n < end
     → is_sought h t what n ≡ true → Some n ≡ lowest h t what end
 search_finds h t what n end none within here =
     let parts : end ≡ (end - suc n) + suc n = omega arith in
@@ -59,7 +59,7 @@ one_of_two P (Some k) here n so is = so
 one_of_two P None true n so is = is refl
 one_of_two P None false n so is = tt
 
-pub found_is_sought : (h : Heap) (t : ℕ) (what : Sought) (n : ℕ)
+pub found_is_sought : (h : Heap) (t : ℕ) (what : SoughtThread) (n : ℕ)
     → IfSome (lowest h t what n) (λ k. is_sought h t what k ≡ true)
 unfolding lowest
 found_is_sought h t what zero = tt

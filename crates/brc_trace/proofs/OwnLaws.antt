@@ -22,7 +22,7 @@ use Rattle.brc_trace.specs.Lowest.{lowest_at}
 use Rattle.brc_trace.specs.OwnReasons.{unless, IsOwnSo, vacancy, place_reason, given_reason, change_reason, free_reason}
 use Rattle.brc_trace.specs.OwnReasons.{word_reason, unclosed, unopened, close_reason, reopen_reason, own_reason}
 use Rattle.brc_trace.specs.OwnReasons.{gather_reason}
-use Rattle.brc_trace.specs.declared.lowest.Sought.TheVariants as sought
+use Rattle.brc_trace.specs.declared.lowest.SoughtThread.TheVariants as sought
 use Rattle.brc_trace.specs.declared.own_reasons.OwnReason.{OwnReason}
 use Rattle.brc_trace.specs.declared.own_reasons.OwnReason.TheVariants as owns
 use Rattle.brc_trace.proofs.LowestLaws.{found_is_sought}

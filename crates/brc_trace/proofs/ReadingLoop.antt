@@ -17,7 +17,7 @@ use Rattle.brc_text.proofs.TokenLaws.{some_bind}
 use Rattle.brc_text.proofs.LineLaws.{pieces_ended, pieces_open, cut_shorter}
 use Rattle.brc_trace.specs.Events.{event_at}
 use Rattle.brc_trace.specs.Traces.{Listing, by_words, by_line, before_others, events_at, mark_at, head_at, head_number}
-use Rattle.brc_trace.specs.Traces.{first_number, below_head, headed_at, below_mark, lines_at, trace_at, Refuses}
+use Rattle.brc_trace.specs.Traces.{first_number, below_head, headed_at, below_mark, lines_at, trace_at, RefusesTrace}
 
 -- ---- the first line of a text
 
@@ -206,12 +206,12 @@ has_mark text behind edition some =
 
 -- a fault in the events is the fault of the trace
 pub refused_below : (edition : Edition) (fault : Fault) (head : ℕ × ℕ) (events : Result (List Event) ℕ)
-    → Refuses fault events
-    → Refuses fault (below_head edition (Some head) events)
+    → RefusesTrace fault events
+    → RefusesTrace fault (below_head edition (Some head) events)
 refused_below edition faults.OutOfMemory head events h = tt
 refused_below edition (faults.BadTrace bad reasons.NotALine) head events h = ap (below_head edition (Some head)) h
 refused_below edition _ head events h = absurd h
 
 -- a fault told of one reading is that of an equal one
-pub refused_same : {X : Type 0} (fault : Fault) (a b : Result X ℕ) → a ≡ b → Refuses fault a → Refuses fault b
-refused_same fault a b e h = subst (Refuses fault) e h
+pub refused_same : {X : Type 0} (fault : Fault) (a b : Result X ℕ) → a ≡ b → RefusesTrace fault a → RefusesTrace fault b
+refused_same fault a b e h = subst (RefusesTrace fault) e h

@@ -15,7 +15,7 @@ use Rattle.law_world.specs.Runs.{IsRun, world_after}
 use Rattle.brc_text.specs.Lines.{pieces}
 use Rattle.brc_trace.specs.Events.{event_at}
 use Rattle.brc_trace.specs.Traces.{by_line, before_others, first_number, events_at, below_head, IsHead}
-use Rattle.brc_trace.specs.Replaying.{AreMade, told, Steps, IsReplayed}
+use Rattle.brc_trace.specs.Replaying.{AreMade, told, ReplaysLines, IsReplayed}
 use Rattle.brc_trace.proofs.ReadingLoop.{with_front, bad_line, good_line, line_shorter, no_line, joined, nothing_before}
 
 -- ---- behind an event that isn't enabled
@@ -120,7 +120,7 @@ refused_by : (edition : Edition) (first : ℕ) (start world new : Heap) (text re
     (event : Event) (later : Result (List Event) ℕ)
     → SteppedTo edition first start text rest number world
     → events_at edition number (pieces rest) ≡ before_others number (Some event) later → enabled world event ≡ false
-    → Steps (Err (told number later)) start new first (events_at edition first (pieces text))
+    → ReplaysLines (Err (told number later)) start new first (events_at edition first (pieces text))
 refused_by edition first start world new text rest behind number event (Err bad) so here refused = sym so.so_far
     ∙ ap (with_front so.front) here
 refused_by edition first start world new text rest behind number event (Ok later) so here refused =
@@ -147,9 +147,9 @@ pub line_is_refused : (edition : Edition) (first : ℕ) (start world new : Heap)
     → SteppedTo edition first start text rest number world → by_line (event_at edition) rest ≡ Some (event, behind)
     → enabled world event ≡ false
     → fault ≡ told number (events_at edition (number + 1) (pieces behind))
-    → Steps (Err fault) start new first (events_at edition first (pieces text))
+    → ReplaysLines (Err fault) start new first (events_at edition first (pieces text))
 line_is_refused edition first start world new text rest behind number event fault so some refused is =
-    let P : Fault → Type 0 = λ f. Steps (Err f) start new first (events_at edition first (pieces text)) in
+    let P : Fault → Type 0 = λ f. ReplaysLines (Err f) start new first (events_at edition first (pieces text)) in
     subst P (sym is) (refused_by edition first start world new text rest behind number event
     (events_at edition (number + 1) (pieces behind)) so (good_line edition number rest behind event some) refused)
 

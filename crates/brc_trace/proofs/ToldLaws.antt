@@ -12,7 +12,7 @@ use Rattle.law_world.specs.Steps.{is_owned_by, may_leave, others_ok}
 use Rattle.brc_trace.specs.Lowest.{lowest_at, is_sought}
 use Rattle.brc_trace.specs.OwnReasons.{unless}
 use Rattle.brc_trace.specs.ToldReasons.{IsToldSo, leave_reason, told_reason}
-use Rattle.brc_trace.specs.declared.lowest.Sought.TheVariants as sought
+use Rattle.brc_trace.specs.declared.lowest.SoughtThread.TheVariants as sought
 use Rattle.brc_trace.specs.declared.told_reasons.ToldReason.TheVariants as tolds
 use Rattle.brc_trace.proofs.LowestLaws.{found_is_sought, none_owned}
 use Rattle.brc_trace.proofs.ReasonLaws.{and_true, not_true, first_true, second_true, is_none-unless, is_none-option_map}

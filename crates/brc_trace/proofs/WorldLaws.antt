@@ -2,7 +2,7 @@
 use Rattle.std.proofs.Common.{◌≡◌, ◌∙◌, ℕ, zero, suc, ◌+◌, ◌-◌, ◌<◌, ◌≤◌, ◌==◌, Bool, true, false, if◌then◌else◌, List}
 use Rattle.std.proofs.Common.{[], ◌∷◌, ◌++◌, length, Option, Result, Ok, Err, refl, sym, ap, append-nil, arith}
 use Rattle.std.specs.Io.KnownBytes.{Appends}
-use Rattle.brc_text.specs.Puts.{Puts, PutsUpTo}
+use Rattle.brc_text.specs.Puts.{PutsText, PutsUpTo}
 use Rattle.brc_words.specs.declared.fault.Fault.{Fault}
 use Rattle.brc_text.proofs.PutLaws.{starts, goes_on, fails, ends}
 use Rattle.law_world.specs.Heap.{Heap, popped_at, worklist_at, queue_at}
@@ -94,7 +94,7 @@ turns_end {text = text} {first = first} {count = count} {turns = turns} before p
 -- the last piece, put or not, ends the text
 pub last_puts : {old mid : Option (List ℕ)} {whole rest : List ℕ} (new : Option (List ℕ))
     (result : Result (Unit {0}) Fault) (piece : List ℕ) → PutsUpTo old mid whole rest
-    → rest ≡ piece → Puts mid new result piece → Puts old new result whole
+    → rest ≡ piece → PutsText mid new result piece → PutsText old new result whole
 last_puts new (Ok done) piece so_far is put = ends (goes_on new piece [] so_far (is ∙ sym (append-nil piece)) put) refl
 last_puts new (Err fault) piece so_far is failed =
     (failed.0, failed.1 ++ [], fails piece [] so_far (is ∙ sym (append-nil piece)) failed.2)

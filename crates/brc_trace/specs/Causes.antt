@@ -113,7 +113,7 @@ pub record IsUnknown (line shown : List ℕ) : Type 0 where
 -- ---- the cause
 
 -- words are read from the bytes, and this is so of them
-pub record Spells (IsSo : List Token → Type 0) (bytes : List ℕ) : Type 0 where
+pub record AreWordsOf (IsSo : List Token → Type 0) (bytes : List ℕ) : Type 0 where
   pub words : List Token
   pub read : tokens_at 8 bytes ≡ Some words
   pub so : IsSo words
@@ -135,9 +135,9 @@ IsCause edition causes.LeadingZero number piece = HasLeadingZero piece.0
 IsCause edition causes.NotAHead number piece = number ≡ head_number edition
 IsCause edition causes.TooManyWords number piece = is_some (behind_words 8 piece.0) ≡ true
 IsCause edition (causes.UnknownWord shown) number piece = IsUnknown piece.0 shown
-IsCause edition causes.NotAnEvent number piece = Spells (λ words. event_word edition words ≡ None) piece.0
-IsCause edition causes.OutOfRange number piece = Spells (λ words. has_form edition words ≡ true) piece.0
-IsCause edition (causes.NotItsForm word) number piece = Spells (LacksForm edition word) piece.0
+IsCause edition causes.NotAnEvent number piece = AreWordsOf (λ words. event_word edition words ≡ None) piece.0
+IsCause edition causes.OutOfRange number piece = AreWordsOf (λ words. has_form edition words ≡ true) piece.0
+IsCause edition (causes.NotItsForm word) number piece = AreWordsOf (LacksForm edition word) piece.0
 
 -- ---- which edition
 

@@ -32,7 +32,7 @@ pub record WhyRefused (world : Heap) (event : Event) (line : ℕ) (told : Refuse
   pub finer_told : has_parts told.refusal ≡ true → is_some told.finer ≡ true
 
 -- the events before are a run, the next one isn't enabled where they lead, and it is told why; the first has this line
-pub record IsRefused (start : Heap) (number : ℕ) (events : List Event) (told : Refused) : Type 0 where
+pub record IsRefusedAt (start : Heap) (number : ℕ) (events : List Event) (told : Refused) : Type 0 where
   pub at : ℕ
   pub first : IsFirstNotEnabled start events at
   pub why : WhyRefused (world_after start (reverse (take at events))) first.event (at + number) told
@@ -40,7 +40,7 @@ pub record IsRefused (start : Heap) (number : ℕ) (events : List Event) (told :
 -- what is told of events: none where they are a run
 abbrev pub ExplainsEvents : Heap → ℕ → List Event → Option Refused → Type 0
 ExplainsEvents start number events None = IsRun start (reverse events)
-ExplainsEvents start number events (Some told) = IsRefused start number events told
+ExplainsEvents start number events (Some told) = IsRefusedAt start number events told
 
 -- what is told of the bytes' trace
 pub record ExplainsTrace (bytes : List ℕ) (told : Option Refused) : Type 0 where

@@ -16,7 +16,7 @@ use Rattle.law_world.specs.Heap.{Heap, entries_at, row_at, frame_at, popped_at, 
 use Rattle.law_world.specs.Steps.{is_empty, is_closed, closes_next, opens_next, untie_ok, is_unlocked, may_begin_closing}
 use Rattle.brc_state.specs.OwnPart.{locked_entries_at}
 use Rattle.brc_trace.specs.Lowest.{lowest_at}
-use Rattle.brc_trace.specs.declared.lowest.Sought.TheVariants as sought
+use Rattle.brc_trace.specs.declared.lowest.SoughtThread.TheVariants as sought
 use Rattle.brc_trace.specs.declared.own_reasons.OwnReason.{OwnReason}
 use Rattle.brc_trace.specs.declared.own_reasons.OwnReason.TheVariants as owns
 

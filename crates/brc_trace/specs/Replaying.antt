@@ -52,12 +52,12 @@ told refused (Ok later) = faults.BadTrace refused reasons.NotEnabled
 told refused (Err bad) = faults.BadTrace bad reasons.NotALine
 
 -- what becomes of a world by lines of events, of which the first has this number, by the answer
-abbrev pub Steps : Result (Unit {0}) Fault → Heap → Heap → ℕ → Result (List Event) ℕ → Type 0
-Steps (Ok u) old new number read = AreMade old read new
-Steps (Err faults.OutOfMemory) old new number read = Unit {0}
-Steps (Err (faults.BadTrace line reasons.NotALine)) old new number read = read ≡ Err line
-Steps (Err (faults.BadTrace line reasons.NotEnabled)) old new number read = AreRefused old number read line
-Steps (Err _) old new number read = ⊥
+abbrev pub ReplaysLines : Result (Unit {0}) Fault → Heap → Heap → ℕ → Result (List Event) ℕ → Type 0
+ReplaysLines (Ok u) old new number read = AreMade old read new
+ReplaysLines (Err faults.OutOfMemory) old new number read = Unit {0}
+ReplaysLines (Err (faults.BadTrace line reasons.NotALine)) old new number read = read ≡ Err line
+ReplaysLines (Err (faults.BadTrace line reasons.NotEnabled)) old new number read = AreRefused old number read line
+ReplaysLines (Err _) old new number read = ⊥
 
 -- ---- the whole
 

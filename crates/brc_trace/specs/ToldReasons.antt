@@ -10,7 +10,7 @@ use Rattle.law_world.specs.Heap.{Heap, cell_at, worklist_at, words_for, is_regis
 use Rattle.law_world.specs.Steps.{is_owned_by}
 use Rattle.brc_trace.specs.Lowest.{lowest_at}
 use Rattle.brc_trace.specs.OwnReasons.{unless, IsSoOfLowest}
-use Rattle.brc_trace.specs.declared.lowest.Sought.TheVariants as sought
+use Rattle.brc_trace.specs.declared.lowest.SoughtThread.TheVariants as sought
 use Rattle.brc_trace.specs.declared.told_reasons.ToldReason.{ToldReason}
 use Rattle.brc_trace.specs.declared.told_reasons.ToldReason.TheVariants as tolds
 

@@ -146,12 +146,12 @@ abbrev pub bad_line : ℕ → Fault
 bad_line line = faults.BadTrace line reasons.NotALine
 
 -- a bad line is told, and memory may run out; there is no other fault
-abbrev pub Refuses : {X : Type 0} → Fault → Result X ℕ → Type 0
-Refuses faults.OutOfMemory read = Unit {0}
-Refuses (faults.BadTrace bad reasons.NotALine) read = read ≡ Err bad
-Refuses _ read = ⊥
+abbrev pub RefusesTrace : {X : Type 0} → Fault → Result X ℕ → Type 0
+RefusesTrace faults.OutOfMemory read = Unit {0}
+RefusesTrace (faults.BadTrace bad reasons.NotALine) read = read ≡ Err bad
+RefusesTrace _ read = ⊥
 
 -- the answer, seen by view, is what the text spells
-abbrev pub Gives : {X Y : Type 0} → (Y → X) → Result Y Fault → Result X ℕ → Type 0
-Gives view (Ok answer) read = read ≡ Ok (view answer)
-Gives view (Err fault) read = Refuses fault read
+abbrev pub ReadsTrace : {X Y : Type 0} → (Y → X) → Result Y Fault → Result X ℕ → Type 0
+ReadsTrace view (Ok answer) read = read ≡ Ok (view answer)
+ReadsTrace view (Err fault) read = RefusesTrace fault read

@@ -11,7 +11,7 @@ ghost use Rattle.brc_trace.specs.Causes.{form as form_of_word, has_form as have_
 ghost use Rattle.brc_trace.specs.Causes.{piece_at};
 
 use crate::event_line::{is_two, step_of};
-use crate::reading::{head_number, read_mark};
+use crate::trace_reading::{head_number, read_mark};
 use brc_excerpt::Excerpt;
 use brc_text::{Keyword, Token, Words};
 use law_world::Edition;

@@ -3,7 +3,7 @@
 ghost use Rattle.std.specs.Prelude.{◌≡◌, ◌∷◌, [], Some, None, MatchOption};
 ghost use Rattle.brc_text.specs.declared.token.Token.TheVariants as tokens;
 ghost use Rattle.brc_text.specs.Lines.{line as spelled};
-ghost use Rattle.brc_text.specs.Puts.{Puts};
+ghost use Rattle.brc_text.specs.Puts.{PutsText};
 ghost use Rattle.brc_text.specs.declared.keyword.Keyword.TheVariants as words;
 ghost use Rattle.brc_trace.specs.Operands.{change_words};
 ghost use Rattle.brc_trace.specs.Events.{birth_at, step_at, is_root_step as is_of_the_root, made_by, event_at};
@@ -195,7 +195,7 @@ fn put_one<W: Write>(
     word: Keyword,
     operand: Token,
 ) -> Result<(), Fault>
-    ensures { Puts (W.contents writer.old) (W.contents writer.new) result
+    ensures { PutsText (W.contents writer.old) (W.contents writer.new) result
         (spelled (tokens.Number thread ∷ tokens.Word word ∷ operand ∷ [])) }
 {
     put_line(writer, &[number(thread), Token::Word(word), operand])
@@ -209,7 +209,7 @@ fn put_two<W: Write>(
     first: Token,
     second: Token,
 ) -> Result<(), Fault>
-    ensures { Puts (W.contents writer.old) (W.contents writer.new) result
+    ensures { PutsText (W.contents writer.old) (W.contents writer.new) result
         (spelled (tokens.Number thread ∷ tokens.Word word ∷ first ∷ second ∷ [])) }
 {
     put_line(writer, &[number(thread), Token::Word(word), first, second])
@@ -224,7 +224,7 @@ fn put_three<W: Write>(
     second: Token,
     third: Token,
 ) -> Result<(), Fault>
-    ensures { Puts (W.contents writer.old) (W.contents writer.new) result
+    ensures { PutsText (W.contents writer.old) (W.contents writer.new) result
         (spelled (tokens.Number thread ∷ tokens.Word word ∷ first ∷ second ∷ third ∷ [])) }
 {
     put_line(
@@ -235,7 +235,7 @@ fn put_three<W: Write>(
 
 /// Writes the line of an unlock.
 fn put_unlock<W: Write>(writer: &mut W, thread: u32, change: Change) -> Result<(), Fault>
-    ensures { Puts (W.contents writer.old) (W.contents writer.new) result
+    ensures { PutsText (W.contents writer.old) (W.contents writer.new) result
         (spelled (tokens.Number thread ∷ tokens.Word words.Unlock ∷ change_words change)) }
 {
     let unlock = Keyword::Unlock;
@@ -269,7 +269,7 @@ fn put_unlock<W: Write>(writer: &mut W, thread: u32, change: Change) -> Result<(
 
 /// Writes the line of an event.
 pub fn put_event<W: Write>(writer: &mut W, event: Event) -> Result<(), Fault>
-    ensures { Puts (W.contents writer.old) (W.contents writer.new) result (spelled (event_words event)) }
+    ensures { PutsText (W.contents writer.old) (W.contents writer.new) result (spelled (event_words event)) }
 {
     let thread = event.thread;
     match event.step {

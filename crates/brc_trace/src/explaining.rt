@@ -12,10 +12,10 @@ ghost use Rattle.brc_trace.specs.View.{listing};
 
 use crate::causes::{Cause, cause_of};
 use crate::finer::{Finer, finer_of};
-use crate::reading::{head_number, read_trace};
 use crate::replaying::run_replay;
 use crate::standing::{Standing, seen};
 use crate::trace::Trace;
+use crate::trace_reading::{head_number, read_trace};
 use brc_core::{Event, Refusal, StepFault, World};
 use brc_input::read_input;
 use brc_words::{Fault, MOST_INPUT, Reason};

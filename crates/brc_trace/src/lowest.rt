@@ -10,7 +10,7 @@ use std::alloc::Allocator;
 
 /// What is sought of a thread.
 #[derive(Clone, Copy, Debug, PartialEq, Eq)]
-pub(crate) enum Sought {
+pub(crate) enum SoughtThread {
     /// A place of its frame that has a cell.
     Filled,
     /// A cell that it has popped and not dealt with.
@@ -37,30 +37,30 @@ pub(crate) fn is_owned_by(thread: u32, owner: Owner) -> bool
 fn is_sought<A: Allocator + Copy>(
     world: &World<A>,
     thread: u32,
-    sought: Sought,
+    sought: SoughtThread,
     number: u32,
 ) -> bool
     ensures { result ≡ so_of world.now thread sought number }
 {
     match sought {
-        Sought::Filled => world.place(thread, number).is_some(),
-        Sought::Popped => world.popped(thread, number),
-        Sought::Work => world.on_worklist(thread, number),
-        Sought::Owned => {
+        SoughtThread::Filled => world.place(thread, number).is_some(),
+        SoughtThread::Popped => world.popped(thread, number),
+        SoughtThread::Work => world.on_worklist(thread, number),
+        SoughtThread::Owned => {
             is_owned_by(thread, world.cell(number).owner) && !world.on_worklist(thread, number)
         }
     }
 }
 
 /// The numbers below this one are those of its places, or of all cells.
-fn end_of<A: Allocator + Copy>(world: &World<A>, thread: u32, sought: Sought) -> u32
+fn end_of<A: Allocator + Copy>(world: &World<A>, thread: u32, sought: SoughtThread) -> u32
     ensures { result ≡ where_it_ends world.now thread sought }
 {
     match sought {
-        Sought::Filled => world.places(thread),
-        Sought::Popped => world.cells(),
-        Sought::Work => world.cells(),
-        Sought::Owned => world.cells(),
+        SoughtThread::Filled => world.places(thread),
+        SoughtThread::Popped => world.cells(),
+        SoughtThread::Work => world.cells(),
+        SoughtThread::Owned => world.cells(),
     }
 }
 
@@ -68,7 +68,7 @@ fn end_of<A: Allocator + Copy>(world: &World<A>, thread: u32, sought: Sought) ->
 pub(crate) fn lowest<A: Allocator + Copy>(
     world: &World<A>,
     thread: u32,
-    sought: Sought,
+    sought: SoughtThread,
 ) -> Option<u32>
     ensures { result ≡ lowest_at world.now thread sought }
 {

@@ -13,7 +13,7 @@ ghost use Rattle.brc_trace.specs.OwnReasons.{close_reason as close_of, reopen_re
 ghost use Rattle.brc_trace.specs.OwnReasons.{own_reason as own_reason_of, gather_reason as gather_of};
 ghost use Rattle.brc_trace.specs.OwnReasons.{root_reason as root_reason_of, own_reason_at as at_event};
 
-use crate::lowest::{Sought, lowest};
+use crate::lowest::{SoughtThread, lowest};
 use crate::standing::locked_cell;
 use brc_core::{Change, Event, Hand, LastDropped, Step, World};
 use brc_words::{Kind, MOST_BIRTHS, MOST_ENTRIES, MOST_PLACES, is_mortal_kind};
@@ -263,10 +263,10 @@ fn close_reason<A: Allocator + Copy>(world: &World<A>, thread: u32, word: u32) -
         };
     }
     if !world.has_no_place(thread) {
-        return Some(OwnReason::StillFilled(lowest(world, thread, Sought::Filled)));
+        return Some(OwnReason::StillFilled(lowest(world, thread, SoughtThread::Filled)));
     }
     if !may_begin_closing(world, thread, word) {
-        return Some(OwnReason::StillPopped(lowest(world, thread, Sought::Popped)));
+        return Some(OwnReason::StillPopped(lowest(world, thread, SoughtThread::Popped)));
     }
     None
 }
@@ -353,10 +353,10 @@ fn gather_reason<A: Allocator + Copy>(world: &World<A>, thread: u32) -> Option<O
     ensures { result ≡ gather_of world.now thread }
 {
     if !world.has_nothing_popped(thread) {
-        return Some(OwnReason::StillPopped(lowest(world, thread, Sought::Popped)));
+        return Some(OwnReason::StillPopped(lowest(world, thread, SoughtThread::Popped)));
     }
     if !world.has_no_work(thread) {
-        return Some(OwnReason::StillWork(lowest(world, thread, Sought::Work)));
+        return Some(OwnReason::StillWork(lowest(world, thread, SoughtThread::Work)));
     }
     None
 }

@@ -2,7 +2,7 @@
 
 ghost use Rattle.brc_trace.specs.Replaying.{Replays};
 
-use crate::stepping::world_of;
+use crate::trace_steps::world_of;
 use crate::world_text::write_world;
 use brc_input::read_input;
 use brc_words::Fault;

@@ -4,7 +4,7 @@ ghost use Rattle.std.specs.Prelude.{◌≡◌};
 ghost use Rattle.brc_trace.specs.ToldReasons.{nudge_reason as nudge_of, leave_reason as leave_of};
 ghost use Rattle.brc_trace.specs.ToldReasons.{told_reason as told_of};
 
-use crate::lowest::{Sought, lowest};
+use crate::lowest::{SoughtThread, lowest};
 use brc_core::{Edition, Step, World};
 use law_world::words_for;
 use std::alloc::Allocator;
@@ -44,10 +44,10 @@ fn leave_reason<A: Allocator + Copy>(world: &World<A>, thread: u32) -> Option<To
             if world.has_no_work(thread) {
                 None
             } else {
-                Some(ToldReason::StillWork(lowest(world, thread, Sought::Work)))
+                Some(ToldReason::StillWork(lowest(world, thread, SoughtThread::Work)))
             }
         }
-        Edition::Two => match lowest(world, thread, Sought::Owned) {
+        Edition::Two => match lowest(world, thread, SoughtThread::Owned) {
             Some(cell) => Some(ToldReason::StillOwns(cell)),
             None => None,
         },

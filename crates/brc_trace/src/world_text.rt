@@ -4,7 +4,7 @@ ghost use Rattle.std.specs.Prelude.{◌≡◌, ◌-◌, length, true};
 ghost use Rattle.law_world.specs.Heap.{cell_at, entries_at};
 ghost use Rattle.law_world.specs.Holding.{lives_at, live_count};
 ghost use Rattle.brc_core.specs.Readings.{ledgers_of};
-ghost use Rattle.brc_text.specs.Puts.{Puts};
+ghost use Rattle.brc_text.specs.Puts.{PutsText};
 ghost use Rattle.brc_trace.specs.Worlds.{over, state_word, count_token, owner_number, local_token, entries_text};
 ghost use Rattle.brc_trace.specs.Worlds.{object_line, object_text, thread_text, edition_text, world_line, ledger_line};
 ghost use Rattle.brc_trace.specs.Worlds.{world_text};
@@ -62,7 +62,7 @@ fn token_of_local(state: State, local: u32) -> Token
 
 /// Writes these entries of a cell.
 fn put_list<W: Write>(writer: &mut W, cell: u32, entries: &[u32]) -> Result<(), Fault>
-    ensures { Puts (W.contents writer.old) (W.contents writer.new) result (entries_text cell entries.now) }
+    ensures { PutsText (W.contents writer.old) (W.contents writer.new) result (entries_text cell entries.now) }
 {
     for index in 0..entries.len() {
         put_line(
@@ -84,7 +84,7 @@ fn put_entries<A: Allocator + Copy, W: Write>(
     writer: &mut W,
     cell: u32,
 ) -> Result<(), Fault>
-    ensures { Puts (W.contents writer.old) (W.contents writer.new) result
+    ensures { PutsText (W.contents writer.old) (W.contents writer.new) result
         (entries_text cell (entries_at world.now cell)) }
 {
     put_list(writer, cell, world.entries(cell))
@@ -98,7 +98,8 @@ fn put_object_line<A: Allocator + Copy, W: Write>(
 ) -> Result<(), Fault>
     requires { lives_at world.now cell ≡ true }
 
-    ensures { Puts (W.contents writer.old) (W.contents writer.new) result (object_line cell (cell_at world.now cell)) }
+    ensures { PutsText (W.contents writer.old) (W.contents writer.new) result
+        (object_line cell (cell_at world.now cell)) }
 {
     let kind = world.kind(cell).unwrap_or(Kind::Nothing);
     let owner = world.owner(cell).unwrap_or(Owner::Free);
@@ -127,7 +128,7 @@ fn put_object<A: Allocator + Copy, W: Write>(
     writer: &mut W,
     cell: u32,
 ) -> Result<(), Fault>
-    ensures { Puts (W.contents writer.old) (W.contents writer.new) result (object_text world.now cell) }
+    ensures { PutsText (W.contents writer.old) (W.contents writer.new) result (object_text world.now cell) }
 {
     if !world.is_live(cell) {
         return Ok(());
@@ -137,7 +138,7 @@ fn put_object<A: Allocator + Copy, W: Write>(
 }
 
 fn put_objects<A: Allocator + Copy, W: Write>(world: &World<A>, writer: &mut W) -> Result<(), Fault>
-    ensures { Puts (W.contents writer.old) (W.contents writer.new) result
+    ensures { PutsText (W.contents writer.old) (W.contents writer.new) result
         (over (object_text world.now) 0 (length world.now.cells)) }
 {
     for cell in 0..world.cells() {
@@ -147,7 +148,7 @@ fn put_objects<A: Allocator + Copy, W: Write>(world: &World<A>, writer: &mut W) 
 }
 
 fn put_threads<A: Allocator + Copy, W: Write>(world: &World<A>, writer: &mut W) -> Result<(), Fault>
-    ensures { Puts (W.contents writer.old) (W.contents writer.new) result
+    ensures { PutsText (W.contents writer.old) (W.contents writer.new) result
         (over (thread_text world.now) 1 (length world.now.rows - 1)) }
 {
     for before in 0..world.registered() {
@@ -158,7 +159,7 @@ fn put_threads<A: Allocator + Copy, W: Write>(world: &World<A>, writer: &mut W) 
 
 /// Writes the edition of the heap's events, unless it is the first.
 fn put_edition<W: Write>(writer: &mut W, edition: Edition) -> Result<(), Fault>
-    ensures { Puts (W.contents writer.old) (W.contents writer.new) result (edition_text edition) }
+    ensures { PutsText (W.contents writer.old) (W.contents writer.new) result (edition_text edition) }
 {
     match edition {
         Edition::One => Ok(()),
@@ -168,7 +169,7 @@ fn put_edition<W: Write>(writer: &mut W, edition: Edition) -> Result<(), Fault>
 
 /// Writes how many cells the heap has, and its local limit.
 fn put_head<A: Allocator + Copy, W: Write>(world: &World<A>, writer: &mut W) -> Result<(), Fault>
-    ensures { Puts (W.contents writer.old) (W.contents writer.new) result
+    ensures { PutsText (W.contents writer.old) (W.contents writer.new) result
         (world_line (length world.now.cells) world.now.limit) }
 {
     put_line(
@@ -183,7 +184,7 @@ fn put_head<A: Allocator + Copy, W: Write>(world: &World<A>, writer: &mut W) -> 
 
 /// Writes the births and frees of all threads, and how many objects live.
 fn put_ledger<A: Allocator + Copy, W: Write>(world: &World<A>, writer: &mut W) -> Result<(), Fault>
-    ensures { Puts (W.contents writer.old) (W.contents writer.new) result
+    ensures { PutsText (W.contents writer.old) (W.contents writer.new) result
         (ledger_line (ledgers_of world.now) (live_count world.now)) }
 {
     let ledgers = world.ledgers();
@@ -203,7 +204,7 @@ pub fn write_world<A: Allocator + Copy, W: Write>(
     world: &World<A>,
     writer: &mut W,
 ) -> Result<(), Fault>
-    ensures { Puts (W.contents writer.old) (W.contents writer.new) result (world_text world.now) }
+    ensures { PutsText (W.contents writer.old) (W.contents writer.new) result (world_text world.now) }
 {
     put_edition(writer, world.edition())?;
     put_head(world, writer)?;

@@ -2,7 +2,7 @@
 
 ghost use Rattle.std.specs.Prelude.{◌≡◌, length, true};
 ghost use Rattle.law_world.specs.Heap.{is_registered, row_at, frame_at};
-ghost use Rattle.brc_text.specs.Puts.{Puts};
+ghost use Rattle.brc_text.specs.Puts.{PutsText};
 ghost use Rattle.brc_trace.specs.Worlds.{over, is_over, thread_line, status_word, phase_word, hand_text, place_text};
 ghost use Rattle.brc_trace.specs.Worlds.{frame_text, locked_text, pile_word, lies_on, lying_text, is_empty_pile};
 ghost use Rattle.brc_trace.specs.Worlds.{pile_text, holdings_text, thread_text};
@@ -82,7 +82,7 @@ fn is_over(status: Status) -> bool
 }
 
 fn put_status<W: Write>(writer: &mut W, thread: u32, status: Status) -> Result<(), Fault>
-    ensures { Puts (W.contents writer.old) (W.contents writer.new) result (thread_line thread status) }
+    ensures { PutsText (W.contents writer.old) (W.contents writer.new) result (thread_line thread status) }
 {
     put_line(
         writer,
@@ -95,7 +95,7 @@ fn put_status<W: Write>(writer: &mut W, thread: u32, status: Status) -> Result<(
 }
 
 fn put_hand<W: Write>(writer: &mut W, thread: u32, hand: Hand) -> Result<(), Fault>
-    ensures { Puts (W.contents writer.old) (W.contents writer.new) result (hand_text thread hand) }
+    ensures { PutsText (W.contents writer.old) (W.contents writer.new) result (hand_text thread hand) }
 {
     match hand {
         Hand::Free => Ok(()),
@@ -119,7 +119,7 @@ fn put_place<W: Write>(
     place: u32,
     found: Option<u32>,
 ) -> Result<(), Fault>
-    ensures { Puts (W.contents writer.old) (W.contents writer.new) result (place_text word thread place found) }
+    ensures { PutsText (W.contents writer.old) (W.contents writer.new) result (place_text word thread place found) }
 {
     match found {
         None => Ok(()),
@@ -140,7 +140,7 @@ fn put_locked<A: Allocator + Copy, W: Write>(
     writer: &mut W,
     thread: u32,
 ) -> Result<(), Fault>
-    ensures { Puts (W.contents writer.old) (W.contents writer.new) result
+    ensures { PutsText (W.contents writer.old) (W.contents writer.new) result
         (locked_text world.now thread (row_at world.now thread).locked) }
 {
     match world.locked(thread) {
@@ -157,7 +157,7 @@ fn put_frame<A: Allocator + Copy, W: Write>(
     writer: &mut W,
     thread: u32,
 ) -> Result<(), Fault>
-    ensures { Puts (W.contents writer.old) (W.contents writer.new) result
+    ensures { PutsText (W.contents writer.old) (W.contents writer.new) result
         (over (frame_text world.now thread) 0 (length (frame_at world.now thread))) }
 {
     for place in 0..world.places(thread) {
@@ -201,7 +201,7 @@ fn put_lying<A: Allocator + Copy, W: Write>(
     pile: Pile,
     cell: u32,
 ) -> Result<(), Fault>
-    ensures { Puts (W.contents writer.old) (W.contents writer.new) result (lying_text world.now thread pile cell) }
+    ensures { PutsText (W.contents writer.old) (W.contents writer.new) result (lying_text world.now thread pile cell) }
 {
     if !lies_on(world, thread, pile, cell) {
         return Ok(());
@@ -222,7 +222,7 @@ fn put_pile<A: Allocator + Copy, W: Write>(
     thread: u32,
     pile: Pile,
 ) -> Result<(), Fault>
-    ensures { Puts (W.contents writer.old) (W.contents writer.new) result (pile_text world.now thread pile) }
+    ensures { PutsText (W.contents writer.old) (W.contents writer.new) result (pile_text world.now thread pile) }
 {
     if is_empty_pile(world, thread, pile) {
         return Ok(());
@@ -242,7 +242,7 @@ fn put_holdings<A: Allocator + Copy, W: Write>(
 ) -> Result<(), Fault>
     requires { hand ≡ (row_at world.now thread).hand }
 
-    ensures { Puts (W.contents writer.old) (W.contents writer.new) result (holdings_text world.now thread) }
+    ensures { PutsText (W.contents writer.old) (W.contents writer.new) result (holdings_text world.now thread) }
 {
     put_hand(writer, thread, hand)?;
     put_locked(world, writer, thread)?;
@@ -260,7 +260,7 @@ pub(crate) fn put_thread<A: Allocator + Copy, W: Write>(
 ) -> Result<(), Fault>
     requires { is_registered world.now thread ≡ true }
 
-    ensures { Puts (W.contents writer.old) (W.contents writer.new) result (thread_text world.now thread) }
+    ensures { PutsText (W.contents writer.old) (W.contents writer.new) result (thread_text world.now thread) }
 {
     let (Some(status), Some(hand)) = (world.status(thread), world.hand(thread)) else {
         return Ok(());

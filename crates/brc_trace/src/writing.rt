@@ -1,7 +1,7 @@
 //! Writing a trace.
 
 ghost use Rattle.std.specs.Prelude.{◌≡◌};
-ghost use Rattle.brc_text.specs.Puts.{Puts};
+ghost use Rattle.brc_text.specs.Puts.{PutsText};
 ghost use Rattle.brc_trace.specs.Traces.{mark_text, trace_text};
 ghost use Rattle.brc_trace.specs.View.{listing};
 
@@ -15,7 +15,7 @@ use std::io::Write;
 
 /// Writes the line above the head that says which edition the trace is of; a trace of edition One has none.
 fn put_mark<W: Write>(writer: &mut W, edition: Edition) -> Result<(), Fault>
-    ensures { Puts (W.contents writer.old) (W.contents writer.new) result (mark_text edition) }
+    ensures { PutsText (W.contents writer.old) (W.contents writer.new) result (mark_text edition) }
 {
     match edition {
         Edition::One => Ok(()),
@@ -25,7 +25,7 @@ fn put_mark<W: Write>(writer: &mut W, edition: Edition) -> Result<(), Fault>
 
 /// Writes the one spelling of the trace: all of it, or Io after a front of it. No memory is taken.
 pub fn write_trace<A: Allocator, W: Write>(trace: &Trace<A>, writer: &mut W) -> Result<(), Fault>
-    ensures { Puts (W.contents writer.old) (W.contents writer.new) result (trace_text (listing trace.now)) }
+    ensures { PutsText (W.contents writer.old) (W.contents writer.new) result (trace_text (listing trace.now)) }
 {
     put_mark(writer, trace.edition)?;
     put_line(

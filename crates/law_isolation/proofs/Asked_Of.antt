@@ -5,7 +5,7 @@ use Rattle.std.proofs.lemmas.List.{get_or-set_other, set-get_or}
 use Rattle.brc_words.specs.declared.fault.Fault.{Fault}
 use Rattle.brc_words.specs.declared.fault.Fault.TheVariants as faults
 use Rattle.brc_plain.specs.Outcomes.{or_fault}
-use Rattle.brc_count.specs.declared.handed.Handed.{Handed}
+use Rattle.brc_count.specs.declared.handed.HandedBack.{HandedBack}
 use Rattle.brc_count.specs.Frames.{FrameSeen, HandleSeen}
 use Rattle.brc_meaning.specs.declared.reference.Reference.{Reference}
 use Rattle.brc_meaning.specs.declared.object.Object.{Object}
@@ -13,8 +13,9 @@ use Rattle.brc_meaning.specs.declared.state.State.{State}
 use Rattle.brc_meaning.specs.Outcomes.{◌>>=◌}
 use Rattle.brc_meaning.specs.States.{held, holding, calling, called, with_register}
 use Rattle.law_isolation.specs.Means.{Means, MeansBesides}
-use Rattle.law_isolation.specs.Goes.{is_want, Goes}
-use Rattle.law_isolation.specs.Calls.{with_objects, Comes, GivesNone, GivesOne, HandedMeant, HandsMeant, TakesMeant}
+use Rattle.law_isolation.specs.Goes.{is_want, LedAsMeant}
+use Rattle.law_isolation.specs.Calls.{with_objects, ComesAsMeant, GivesNone, GivesOne, HandedMeant, HandsMeant}
+use Rattle.law_isolation.specs.Calls.{TakesMeant}
 use Rattle.law_isolation.specs.Calls.{SwapsMeant, PutsMeant}
 use Rattle.law_isolation.specs.Asked.{asking, AsksNone, AsksOne, HandsBack, TakesAsked, SwapsAsked, PutsAsked}
 
@@ -27,7 +28,7 @@ module _ {A : Type 0} where
   -- ---- what a call comes to, as the register is asked
 
   pub asks : {call : Object A → Result (Option Reference × Object A) Fault} {container : ℕ} {s : State A}
-      {outcome : Result (Option Reference × List (Object A)) Fault} → Comes call container s outcome
+      {outcome : Result (Option Reference × List (Object A)) Fault} → ComesAsMeant call container s outcome
       → asking call container s ≡ outcome
   asks {call = call} {s = s} comes =
       ap (λ (r : Result Reference Fault). r >>= λ reference. calling call reference s.objects) comes.refers
@@ -47,25 +48,27 @@ module _ {A : Type 0} where
       means = gives.means;
     }
 
-    back_asked : {V : Type 0} (value : HandleSeen) (reference : Reference) (handed : Handed V)
+    back_asked : {V : Type 0} (value : HandleSeen) (reference : Reference) (handed : HandedBack V)
         → HandedMeant call container base new registers s value reference handed
         → HandsBack call container base new registers s value reference handed
     back_asked value reference handed meant own = (asks (meant own).0, (meant own).1)
 
-    pub takes_asked : {V : Type 0} (value : HandleSeen) (reference : Reference) (result : Result (Unit {0}) (Handed V))
+    pub takes_asked : {V : Type 0} (value : HandleSeen) (reference : Reference)
+        (result : Result (Unit {0}) (HandedBack V))
         → TakesMeant call container base new registers s value reference result
         → TakesAsked call container base new registers s value reference result
     takes_asked value reference (Ok done) gives = none_asked gives
     takes_asked value reference (Err handed) meant = back_asked value reference handed meant
 
-    pub swaps_asked : {V : Type 0} (value : HandleSeen) (reference : Reference) (result : Result HandleSeen (Handed V))
+    pub swaps_asked : {V : Type 0} (value : HandleSeen) (reference : Reference)
+        (result : Result HandleSeen (HandedBack V))
         → SwapsMeant call container base new registers s value reference result
         → SwapsAsked call container base new registers s value reference result
     swaps_asked value reference (Ok given) gives = one_asked given gives
     swaps_asked value reference (Err handed) meant = back_asked value reference handed meant
 
     pub puts_asked : {V : Type 0} (value : HandleSeen) (reference : Reference)
-        (result : Result (Option HandleSeen) (Handed V))
+        (result : Result (Option HandleSeen) (HandedBack V))
         → PutsMeant call container base new registers s value reference result
         → PutsAsked call container base new registers s value reference result
     puts_asked value reference (Ok None) gives = none_asked gives

@@ -8,7 +8,7 @@ use Rattle.brc_words.specs.declared.fault.Fault.TheVariants as faults
 use Rattle.brc_words.specs.declared.key.Key.{Key}
 use Rattle.brc_words.specs.declared.kind.Kind.{Kind}
 use Rattle.brc_words.specs.declared.kind.Kind.TheVariants as kinds
-use Rattle.brc_count.specs.declared.handed.Handed.{Handed}
+use Rattle.brc_count.specs.declared.handed.HandedBack.{HandedBack}
 use Rattle.brc_count.specs.Frames.{FrameSeen, HandleSeen}
 use Rattle.brc_handles.specs.Handles.{slot, IsApart}
 use Rattle.brc_containers.specs.Called.{Late}
@@ -53,7 +53,7 @@ module _ {A : Type 0} (base : ℕ) (old new : FrameSeen A) (registers : List (Op
 
   module _ (value : HandleSeen) (reference : Reference) (means : MeansBesides base old registers s value reference)
       (apart : IsApart value registers) where
-    pub push_means : (result : Result (Unit {0}) (Handed HandleSeen))
+    pub push_means : (result : Result (Unit {0}) (HandedBack HandleSeen))
         → Late old h.place (λ mid. ListPush mid new h.place value.place result)
         → IfErr result (λ handed. handed.fault ≢ faults.Busy)
         → TakesMeant (object_call (calls.Push reference)) container base new registers s value reference result
@@ -63,7 +63,7 @@ module _ {A : Type 0} (base : ℕ) (old new : FrameSeen A) (registers : List (Op
         (λ part here object each. object_kept (IsMeant part) (calls.Push reference) object here each)
         plain_push (push_matches means.cells reference) result late busy
 
-    pub send_means : (result : Result (Unit {0}) (Handed HandleSeen))
+    pub send_means : (result : Result (Unit {0}) (HandedBack HandleSeen))
         → Late old h.place (λ mid. MailboxSend mid new h.place value.place result)
         → IfErr result (λ handed. handed.fault ≢ faults.Busy)
         → TakesMeant (object_call (calls.Send reference)) container base new registers s value reference result
@@ -73,7 +73,7 @@ module _ {A : Type 0} (base : ℕ) (old new : FrameSeen A) (registers : List (Op
         (λ part here object each. object_kept (IsMeant part) (calls.Send reference) object here each)
         plain_send (send_matches means.cells reference) result late busy
 
-    pub set_means : (index : ℕ) (result : Result HandleSeen (Handed HandleSeen))
+    pub set_means : (index : ℕ) (result : Result HandleSeen (HandedBack HandleSeen))
         → Late old h.place (λ mid. ListSet mid new h.place index value.place result)
         → IfOk result (λ given. given ≡ value)
         → IfErr result (λ handed. handed.fault ≢ faults.Busy)
@@ -84,7 +84,7 @@ module _ {A : Type 0} (base : ℕ) (old new : FrameSeen A) (registers : List (Op
         (λ part here object each. object_kept (IsMeant part) (calls.Set index reference) object here each)
         (plain_set index) (set_matches means.cells index reference) result late same busy
 
-    pub put_means : (V : Type 0) (key : Key A) (result : Result (Option HandleSeen) (Handed V))
+    pub put_means : (V : Type 0) (key : Key A) (result : Result (Option HandleSeen) (HandedBack V))
         → Late old h.place (λ mid. DictPut mid new h.place key value result)
         → IfErr result (λ handed. handed.fault ≢ faults.Busy)
         → PutsMeant (keyed_call key (keyed.Put reference)) container base new registers s value reference result

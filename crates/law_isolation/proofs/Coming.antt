@@ -23,8 +23,8 @@ use Rattle.brc_meaning.specs.Wholes.{Each}
 use Rattle.brc_meaning.proofs.WholeCalls.{IsKept}
 use Rattle.brc_count.specs.law.payloads.Payloads.{payloads_of}
 use Rattle.brc_count.specs.law.living.Living.{OwnLog}
-use Rattle.law_isolation.specs.Means.{cell_meant, contents_meant, IsMeant, Shows}
-use Rattle.law_isolation.specs.Calls.{with_objects, Comes, GivesNone, GivesOne}
+use Rattle.law_isolation.specs.Means.{cell_meant, contents_meant, IsMeant, ShowsState}
+use Rattle.law_isolation.specs.Calls.{with_objects, ComesAsMeant, GivesNone, GivesOne}
 use Rattle.law_isolation.proofs.Matching.{ObjectCall, Matches, told, outcome_meant}
 use Rattle.law_isolation.proofs.Left_Alone.{ReplacesIn}
 use Rattle.law_isolation.proofs.Found_There.{FoundAs, found_as}
@@ -104,7 +104,7 @@ module _ {A : Type 0} (cells : ℕ → ℕ) (part : ℕ → Bool) (s : State A) 
       ∙ ap (λ (outcome : Result (Option Reference × Object A) Fault). outcome >>= then) went
 
   pub comes_done : (done : Option Reference × Object A) → call there.object ≡ Ok done
-      → Comes call container s (Ok (done.0, changed there.reference done.1 s.objects))
+      → ComesAsMeant call container s (Ok (done.0, changed there.reference done.1 s.objects))
   comes_done done went =
       record {
         reference = there.reference;
@@ -113,7 +113,7 @@ module _ {A : Type 0} (cells : ℕ → ℕ) (part : ℕ → Bool) (s : State A) 
             (Ok done) there.stands went;
       }
 
-  pub comes_refused : (fault : Fault) → call there.object ≡ Err fault → Comes call container s (Err fault)
+  pub comes_refused : (fault : Fault) → call there.object ≡ Err fault → ComesAsMeant call container s (Err fault)
   comes_refused fault went =
       record {
         reference = there.reference;
@@ -123,7 +123,7 @@ module _ {A : Type 0} (cells : ℕ → ℕ) (part : ℕ → Bool) (s : State A) 
       }
 
 module _ {A : Type 0} (base : ℕ) (cells : ℕ → ℕ) (part : ℕ → Bool) (old new : FrameSeen A)
-    (registers : List (Option HandleSeen)) (s : State A) (shows : Shows base cells part old registers s)
+    (registers : List (Option HandleSeen)) (s : State A) (shows : ShowsState base cells part old registers s)
     (own : OwnLog new.heap.cells new.seat.log) (container : ℕ) (h : HandleSeen)
     (in_register : slot registers container ≡ Some h) (call : ObjectCall A)
     (places : KeepsPlacesOf old new registers) where
@@ -131,7 +131,7 @@ module _ {A : Type 0} (base : ℕ) (cells : ℕ → ℕ) (part : ℕ → Bool) (
 
   pub refused : {R : Type 0} (plain : PlainCall R) (answered : R → Option ℕ) → Matches cells call plain answered
       → (fault : Fault) → RefusedPlainly old new h.place plain fault
-      → Comes call container s (Err fault) × Shows base cells part new registers s
+      → ComesAsMeant call container s (Err fault) × ShowsState base cells part new registers s
   refused plain answered matches fault why =
       let looks : LooksOn old new h.place why.found = keep_looks old new h.place why.found own why.looks in
       let there : FoundAs cells part s container looks.cell why.found =
@@ -149,8 +149,8 @@ module _ {A : Type 0} (base : ℕ) (cells : ℕ → ℕ) (part : ℕ → Bool) (
   pub record Went (told_cell : Option ℕ) : Type 0 where
     pub answer : Option Reference
     pub made : List (Object A)
-    pub comes : Comes call container s (Ok (answer, made))
-    pub shown : Shows base cells part new registers (with_objects made s)
+    pub comes : ComesAsMeant call container s (Ok (answer, made))
+    pub shown : ShowsState base cells part new registers (with_objects made s)
     pub is_cell : option_map (cell_meant cells) answer ≡ told_cell
     pub is_meant : IfSome answer (IsMeant part)
 
@@ -163,7 +163,7 @@ module _ {A : Type 0} (base : ℕ) (cells : ℕ → ℕ) (part : ℕ → Bool) (
         → cell ≡ cell_meant cells reference
         → (done : Option Reference × Object A) → call object ≡ Ok done → contents_meant cells done.1 ≡ put
         → Each (IsMeant part) done.1
-        → Shows base cells part new registers (with_objects (changed reference done.1 s.objects) s)
+        → ShowsState base cells part new registers (with_objects (changed reference done.1 s.objects) s)
     shown_after cell found put replaces (references.Small number) is_meant object stands cell_is done went
         leaves leads =
         absurd (
@@ -214,7 +214,7 @@ module _ {A : Type 0} (base : ℕ) (cells : ℕ → ℕ) (part : ℕ → Bool) (
   pub gives_none : Went None → GivesNone call container base new registers s
   gives_none done = record {
     made = done.made;
-    comes = subst (λ (answer : Option Reference). Comes call container s (Ok (answer, done.made)))
+    comes = subst (λ (answer : Option Reference). ComesAsMeant call container s (Ok (answer, done.made)))
         (none_only done.answer done.is_cell) done.comes;
     means = record { cells = cells; part = part; shows = done.shown };
   }
@@ -226,7 +226,8 @@ module _ {A : Type 0} (base : ℕ) (cells : ℕ → ℕ) (part : ℕ → Bool) (
       record {
         reference = one.0;
         made = done.made;
-        comes = subst (λ (answer : Option Reference). Comes call container s (Ok (answer, done.made))) one.1 done.comes;
+        comes = subst (λ (answer : Option Reference). ComesAsMeant call container s (Ok (answer, done.made))) one.1
+            done.comes;
         means = record {
           cells = cells;
           part = part;

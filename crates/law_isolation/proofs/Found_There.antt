@@ -6,7 +6,7 @@ use Rattle.std.proofs.lemmas.Bool.{and_parts, ne_eqb, cond-false}
 use Rattle.brc_words.specs.declared.limits.TheConstants.{GLOBALS}
 use Rattle.brc_count.specs.law.rule.declared.contents.Contents.{Contents}
 use Rattle.brc_count.specs.law.rule.declared.contents.Contents.TheVariants as contents
-use Rattle.brc_count.specs.law.rule.declared.told.Told.{Told}
+use Rattle.brc_count.specs.law.rule.declared.told.LogItem.{LogItem}
 use Rattle.brc_count.specs.law.rule.Logs.{opening_contents}
 use Rattle.brc_count.specs.Frames.{FrameSeen, HandleSeen}
 use Rattle.brc_count.specs.Locking.{cell_in}
@@ -23,7 +23,7 @@ use Rattle.brc_plain.specs.Outcomes.{or_fault}
 use Rattle.brc_words.specs.declared.fault.Fault.TheVariants as faults
 use Rattle.std.proofs.lemmas.Option.{same_Some}
 use Rattle.brc_count.specs.law.payloads.Payloads.{payloads_of, FindsOwn}
-use Rattle.law_isolation.specs.Means.{cell_of_small, cell_meant, contents_meant, IsMeant, HasAt, HeldAs, Shows}
+use Rattle.law_isolation.specs.Means.{cell_of_small, cell_meant, contents_meant, IsMeant, HasAt, HeldAs, ShowsState}
 
 -- ---- the integers that are there always
 
@@ -58,7 +58,7 @@ small_opens (negsuc n) is =
 -- ---- what is found
 
 -- a register that has a handle refers to what the handle's place has
-has_reference : (n : ℕ) (log : List Told) (cells : ℕ → ℕ) (part : ℕ → Bool) (h : HandleSeen) (o : Option HandleSeen)
+has_reference : (n : ℕ) (log : List LogItem) (cells : ℕ → ℕ) (part : ℕ → Bool) (h : HandleSeen) (o : Option HandleSeen)
     (q : Option Reference)
     → o ≡ Some h → HeldAs n log cells part o q → (reference : Reference) × (q ≡ Some reference) × HasAt n log cells part
     h.place reference
@@ -81,7 +81,7 @@ module _ {A : Type 0} where
     pub leads : Each (IsMeant part) object
 
   module _ (base : ℕ) (cells : ℕ → ℕ) (part : ℕ → Bool) (frame : FrameSeen A) (registers : List (Option HandleSeen))
-      (s : State A) (shows : Shows base cells part frame registers s)
+      (s : State A) (shows : ShowsState base cells part frame registers s)
       (container : ℕ) (h : HandleSeen) (in_register : slot registers container ≡ Some h) (cell : ℕ) (found : Contents)
       (of_place : cell_in frame h.place ≡ Some cell)
       (finds : FindsOwn frame.heap.cells frame.seat.log cell found) where

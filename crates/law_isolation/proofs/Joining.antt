@@ -6,15 +6,15 @@ use Rattle.brc_words.specs.declared.fault.Fault.{Fault}
 use Rattle.brc_words.specs.declared.fault.Fault.TheVariants as faults
 use Rattle.brc_count.specs.law.world.declared.event.Change.TheVariants as changes
 use Rattle.brc_count.specs.law.rule.declared.contents.Contents.{Contents}
-use Rattle.brc_count.specs.declared.handed.Handed.{Handed}
+use Rattle.brc_count.specs.declared.handed.HandedBack.{HandedBack}
 use Rattle.brc_count.specs.Frames.{FrameSeen, HandleSeen}
 use Rattle.brc_count.specs.Locking.{KeepsFrame, cell_in}
 use Rattle.brc_handles.specs.Handles.{slot, IsApart}
 use Rattle.brc_lock.specs.Waiting.{Waits}
 use Rattle.brc_lock.proofs.Kept.{waits_frame}
 use Rattle.brc_containers.specs.Called.{Late}
-use Rattle.brc_containers.specs.Changing.{PlainCall, Puts, Swaps, Takes, Shares, RefusedPlainly, RefusedCall}
-use Rattle.brc_containers.specs.Changing.{RefusedEntry, RefusedPlace, KeepsPlaces}
+use Rattle.brc_containers.specs.Changing.{PlainCall, CallPuts, Swaps, CallTakes, Shares, RefusedPlainly, RefusedCall}
+use Rattle.brc_containers.specs.Changing.{RefusedEntry, RefusedPlace, KeepsAllPlaces}
 use Rattle.brc_lists.specs.Calls.{PutsValue, SwapsValue, TakesEntry, SharesEntry}
 use Rattle.brc_meaning.specs.declared.reference.Reference.{Reference}
 use Rattle.brc_meaning.specs.declared.object.Object.{Object}
@@ -23,9 +23,10 @@ use Rattle.brc_meaning.specs.declared.state.State.{State}
 use Rattle.brc_meaning.specs.Wholes.{Each}
 use Rattle.brc_meaning.proofs.WholeCalls.{IsKept}
 use Rattle.brc_count.specs.law.living.Living.{OwnLog}
-use Rattle.law_isolation.specs.Means.{cell_meant, IsMeant, HasAt, Shows, Means, MeansBesides}
+use Rattle.law_isolation.specs.Means.{cell_meant, IsMeant, HasAt, ShowsState, Means, MeansBesides}
 use Rattle.law_isolation.specs.Goes.{is_want}
-use Rattle.law_isolation.specs.Calls.{Comes, GivesNone, GivesOne, HandsMeant, HandedMeant, TakesMeant, SwapsMeant}
+use Rattle.law_isolation.specs.Calls.{ComesAsMeant, GivesNone, GivesOne, HandsMeant, HandedMeant, TakesMeant}
+use Rattle.law_isolation.specs.Calls.{SwapsMeant}
 use Rattle.law_isolation.proofs.Matching.{ObjectCall, Matches, no_cell, one_cell}
 use Rattle.law_isolation.proofs.Left_Alone.{waits_leave}
 use Rattle.law_isolation.proofs.Showing.{KeepsPlacesOf, has_kept, shows_left, vacant_apart}
@@ -83,7 +84,7 @@ module _ {A : Type 0} (base : ℕ) (old new : FrameSeen A) (registers : List (Op
     (container : ℕ) (h : HandleSeen) (in_register : slot registers container ≡ Some h) (call : ObjectCall A)
     (no_int : (number : ℤ) → call (objects.Int number) ≡ Err faults.WrongKind) where
   shows_waited : (cells : ℕ → ℕ) (part : ℕ → Bool) (k : ℕ) (mid : FrameSeen A) → Waits old k mid
-      → Shows base cells part old registers s → Shows base cells part mid registers s
+      → ShowsState base cells part old registers s → ShowsState base cells part mid registers s
   shows_waited cells part k mid waits shows =
       shows_left base cells part old mid registers s shows (waits_leave waits)
       (all_places old mid registers (waits_frame waits).places)
@@ -99,7 +100,7 @@ module _ {A : Type 0} (base : ℕ) (old new : FrameSeen A) (registers : List (Op
     has_waited k mid waits = has_kept old mid means.cells means.part value.place reference
         ((waits_frame waits).places value.place) means.has
 
-    shown_mid : (k : ℕ) (mid : FrameSeen A) → Waits old k mid → Shows base means.cells means.part mid registers s
+    shown_mid : (k : ℕ) (mid : FrameSeen A) → Waits old k mid → ShowsState base means.cells means.part mid registers s
     shown_mid k mid waits = shows_waited means.cells means.part k mid waits means.shows
 
     -- the value that a call was made with is the reference's cell
@@ -111,7 +112,7 @@ module _ {A : Type 0} (base : ℕ) (old new : FrameSeen A) (registers : List (Op
     -- a refusal hands the value back
     pub handed_back : {R V : Type 0} (plain : PlainCall R) (answered : R → Option ℕ)
         → Matches means.cells call plain answered → (mid : FrameSeen A) → Waits old h.place mid → KeepsFrame mid new
-        → (handed : Handed V) → (is_want handed.fault ≡ false → RefusedPlainly mid new h.place plain handed.fault)
+        → (handed : HandedBack V) → (is_want handed.fault ≡ false → RefusedPlainly mid new h.place plain handed.fault)
         → HandedMeant call container base new registers s value reference handed
     handed_back plain answered matches mid waits keeps_frame handed why want =
         let turned = refused base means.cells means.part mid new registers s (shown_mid h.place mid waits) own container
@@ -131,7 +132,7 @@ module _ {A : Type 0} (base : ℕ) (old new : FrameSeen A) (registers : List (Op
     pub put_in : {R : Type 0} (plain : ℕ → PlainCall R) (answered : R → Option ℕ) (answer : R) → answered answer ≡ None
         → Matches means.cells call (plain (cell_meant means.cells reference)) answered → (mid : FrameSeen A)
         → Waits old h.place mid
-        → Puts mid new h.place value.place plain answer → GivesNone call container base new registers s
+        → CallPuts mid new h.place value.place plain answer → GivesNone call container base new registers s
     put_in plain answered answer none matches mid waits did =
         let is_value : did.value ≡ cell_meant means.cells reference = value_is mid did.value did.of_value
         (has_waited h.place mid waits) in
@@ -174,7 +175,7 @@ module _ {A : Type 0} (base : ℕ) (old new : FrameSeen A) (registers : List (Op
 
     pub puts_means : (plain : ℕ → PlainCall (Unit {0}))
         → Matches means.cells call (plain (cell_meant means.cells reference)) no_cell
-        → (result : Result (Unit {0}) (Handed HandleSeen))
+        → (result : Result (Unit {0}) (HandedBack HandleSeen))
         → Late old h.place (λ mid. PutsValue mid new h.place value.place plain result)
         → IfErr result (λ handed. handed.fault ≢ faults.Busy)
         → TakesMeant call container base new registers s value reference result
@@ -186,7 +187,7 @@ module _ {A : Type 0} (base : ℕ) (old new : FrameSeen A) (registers : List (Op
 
     pub swaps_means : (plain : ℕ → PlainCall ℕ)
         → Matches means.cells call (plain (cell_meant means.cells reference)) one_cell
-        → (result : Result HandleSeen (Handed HandleSeen))
+        → (result : Result HandleSeen (HandedBack HandleSeen))
         → Late old h.place (λ mid. SwapsValue mid new h.place value.place plain result)
         → IfOk result (λ given. given ≡ value) → IfErr result (λ handed. handed.fault ≢ faults.Busy)
         → SwapsMeant call container base new registers s value reference result
@@ -204,13 +205,13 @@ module _ {A : Type 0} (base : ℕ) (old new : FrameSeen A) (registers : List (Op
       (keeps : (part : ℕ → Bool) (object : Object A) → Each (IsMeant part) object
       → IfOk (call object) (IsKept (IsMeant part) (Each (IsMeant part))))
       (plain : PlainCall ℕ) (matches : Matches means.cells call plain one_cell) where
-    shown_then : (k : ℕ) (mid : FrameSeen A) → Waits old k mid → Shows base means.cells means.part mid registers s
+    shown_then : (k : ℕ) (mid : FrameSeen A) → Waits old k mid → ShowsState base means.cells means.part mid registers s
     shown_then k mid waits = shows_waited means.cells means.part k mid waits means.shows
 
     -- a refusal leaves all as it was
-    pub left_there : (mid : FrameSeen A) → Waits old h.place mid → KeepsPlaces mid new → (fault : Fault)
+    pub left_there : (mid : FrameSeen A) → Waits old h.place mid → KeepsAllPlaces mid new → (fault : Fault)
         → RefusedPlainly mid new h.place plain fault
-        → Comes call container s (Err fault) × Means base new registers s
+        → ComesAsMeant call container s (Err fault) × Means base new registers s
     left_there mid waits keeps_places fault why =
         let turned = refused base means.cells means.part mid new registers s (shown_then h.place mid waits) own
         container h in_register call (all_places mid new registers keeps_places.places) plain one_cell matches
@@ -232,7 +233,7 @@ module _ {A : Type 0} (base : ℕ) (old new : FrameSeen A) (registers : List (Op
         → IfErr result (λ fault. fault ≢ faults.Busy) → HandsMeant call container base new registers s result
     takes_means (Ok given) late busy =
         let mid : FrameSeen A = late.0 in
-        let did : Takes mid new h.place plain given = late.2.did in
+        let did : CallTakes mid new h.place plain given = late.2.did in
         took_out mid late.1 given
         (vacant_apart base means.cells means.part mid new registers s (shown_then h.place mid late.1) given.place
         did.vacant did.places.others)

@@ -8,22 +8,22 @@ use Rattle.brc_words.specs.declared.limits.TheConstants.{FIRST_MORTAL}
 use Rattle.brc_count.specs.law.world.declared.event.Change.{Change}
 use Rattle.brc_count.specs.law.world.declared.event.Source.{Source}
 use Rattle.brc_count.specs.law.rule.declared.contents.Contents.{Contents}
-use Rattle.brc_count.specs.law.rule.declared.told.Told.{Told}
-use Rattle.brc_count.specs.Frames.{FrameSeen, HandleSeen, Given, CountsUp, IsAsBefore}
+use Rattle.brc_count.specs.law.rule.declared.told.LogItem.{LogItem}
+use Rattle.brc_count.specs.Frames.{FrameSeen, HandleSeen, GivenHandle, CountsUp, IsAsBefore}
 use Rattle.brc_count.specs.biased.Up.{CountsHere}
 use Rattle.brc_count.specs.biased.Seeking.{ClaimsAround, PassesOver}
 use Rattle.brc_count.specs.Making.{Made}
 use Rattle.brc_count.specs.law.rule.Seen.{counts_seen}
 use Rattle.brc_lock.specs.Waiting.{Waits, IsBusy}
 use Rattle.brc_containers.specs.Called.{Late}
-use Rattle.brc_containers.specs.Changing.{PlainCall, Changes, Puts, Swaps, Takes, Shares, RefusedPlainly}
+use Rattle.brc_containers.specs.Changing.{PlainCall, Changes, CallPuts, Swaps, CallTakes, Shares, RefusedPlainly}
 use Rattle.brc_containers.specs.Changing.{RefusedForWant}
 use Rattle.brc_containers.specs.Looking.{LooksAt}
 use Rattle.brc_count.specs.law.living.Later.{IsLater}
 use Rattle.brc_count.proofs.law.living.Earlier.{later_same, later_one, later_both, later_is}
 
 -- the thread counts the cell on its local word, or doesn't
-here_or : (n limit : ℕ) (log : List Told) (c : ℕ) → (CountsHere n limit log c) ⊎ (¬ CountsHere n limit log c)
+here_or : (n limit : ℕ) (log : List LogItem) (c : ℕ) → (CountsHere n limit log c) ⊎ (¬ CountsHere n limit log c)
 here_or n limit log c = elim (leb_tells 1 (counts_seen n log c)) [
   | inl some ↦ elim (leb_tells limit (counts_seen n log c)) [
     | inl at_limit ↦ inr (λ here. omega (arith, here.below, at_limit.1))
@@ -33,7 +33,7 @@ here_or n limit log c = elim (leb_tells 1 (counts_seen n log c)) [
 ]
 
 -- one step more
-one_more : (old : List Told) (x : Told) (new : List Told) → new ≡ x ∷ old → IsLater old new
+one_more : (old : List LogItem) (x : LogItem) (new : List LogItem) → new ≡ x ∷ old → IsLater old new
 one_more old x new is = later_is old new (x ∷ old) is (later_one x old old (later_same old))
 
 module _ {A : Type 0} where
@@ -66,7 +66,7 @@ module _ {A : Type 0} where
   ]
 
   pub later_given : {old new : FrameSeen A} {source : Source} {c : ℕ} {given : HandleSeen}
-      → Given old new source c given
+      → GivenHandle old new source c given
       → IsLater old.seat.log new.seat.log
   later_given {old = old} {new = new} {source = source} {c = c} {given = given} is =
       counted old new source given.place c is.counted

@@ -17,8 +17,8 @@ use Rattle.brc_count.specs.law.known.declared.word.Word.TheVariants.{Of}
 use Rattle.brc_count.specs.law.rule.declared.contents.Contents.{Contents}
 use Rattle.brc_count.specs.law.rule.declared.told.Moved.{Moved}
 use Rattle.brc_count.specs.law.rule.declared.told.Moved.TheVariants as moves
-use Rattle.brc_count.specs.law.rule.declared.told.Told.{Told}
-use Rattle.brc_count.specs.law.rule.declared.told.Told.TheVariants.{Did, Lost}
+use Rattle.brc_count.specs.law.rule.declared.told.LogItem.{LogItem}
+use Rattle.brc_count.specs.law.rule.declared.told.LogItem.TheVariants.{Stepped, Lost}
 use Rattle.brc_count.specs.law.rule.Logs.{entries_found}
 use Rattle.brc_count.specs.law.rule.Seen.{part_seen, counts_seen}
 use Rattle.brc_count.specs.biased.Up.{CountsHere}
@@ -31,21 +31,22 @@ use Rattle.brc_count.proofs.law.payloads.Going_On as payloads
 use Rattle.brc_count.specs.law.living.Living.{is_dead}
 
 -- the second log, in a heap of m cells, has the payloads, the dead cells and the births of the first, in one of n
-pub record Leaves (n : ℕ) (before : List Told) (m : ℕ) (log : List Told) : Type 0 where
+pub record Leaves (n : ℕ) (before : List LogItem) (m : ℕ) (log : List LogItem) : Type 0 where
   pub payloads : (c : ℕ) → payloads_of m log c ≡ payloads_of n before c
   pub dead : (c : ℕ) → is_dead m log c ≡ is_dead n before c
   pub allocs : (part_seen m log).row.allocs ≡ (part_seen n before).row.allocs
 
 -- the same, but one cell has this payload now
-pub record Replaces (n : ℕ) (before : List Told) (m : ℕ) (log : List Told) (cell : ℕ) (put : Contents) : Type 0 where
+pub record Replaces (n : ℕ) (before : List LogItem) (m : ℕ) (log : List LogItem) (cell : ℕ)
+    (put : Contents) : Type 0 where
   pub payloads : (c : ℕ) → payloads_of m log c ≡ cond (eqb cell c) (Some put) (payloads_of n before c)
   pub dead : (c : ℕ) → is_dead m log c ≡ is_dead n before c
   pub allocs : (part_seen m log).row.allocs ≡ (part_seen n before).row.allocs
 
-pub leaves_itself : (n : ℕ) (log : List Told) → Leaves n log n log
+pub leaves_itself : (n : ℕ) (log : List LogItem) → Leaves n log n log
 leaves_itself n log = record { payloads = λ c. refl; dead = λ c. refl; allocs = refl }
 
-pub leaves_on : {n m q : ℕ} {one other log : List Told} → Leaves n one m other → Leaves m other q log
+pub leaves_on : {n m q : ℕ} {one other log : List LogItem} → Leaves n one m other → Leaves m other q log
     → Leaves n one q log
 leaves_on first second = record {
   payloads = λ c. second.payloads c ∙ first.payloads c;
@@ -53,7 +54,7 @@ leaves_on first second = record {
   allocs = second.allocs ∙ first.allocs;
 }
 
-pub replaces_on : {n m q cell : ℕ} {one other log : List Told} {put : Contents} → Leaves n one m other
+pub replaces_on : {n m q cell : ℕ} {one other log : List LogItem} {put : Contents} → Leaves n one m other
     → Replaces m other q log cell put → Replaces n one q log cell put
 replaces_on {cell = cell} {put = put} first second = record {
   payloads = λ c. second.payloads c ∙ ap (cond (eqb cell c) (Some put)) (first.payloads c);
@@ -89,8 +90,8 @@ shared_up_spares n part source k number entries (Some c) = (refl, refl)
 
 -- ---- items
 
-module _ (n : ℕ) (log : List Told) where
-  leaves_sparing : (x : Told) → ((c : ℕ) → payloads_of n (x ∷ log) c ≡ payloads_of n log c)
+module _ (n : ℕ) (log : List LogItem) where
+  leaves_sparing : (x : LogItem) → ((c : ℕ) → payloads_of n (x ∷ log) c ≡ payloads_of n log c)
       → Spares (part_seen n log) (part_seen n (x ∷ log)) → Leaves n log n (x ∷ log)
   leaves_sparing x keeps spares =
       record { payloads = keeps; dead = λ c. ap (λ (marks : List Bool). is_marked marks c) spares.0; allocs = spares.1 }
@@ -99,25 +100,25 @@ module _ (n : ℕ) (log : List Told) where
   lost_leaves w number = record { payloads = λ c. refl; dead = λ c. refl; allocs = refl }
 
   pub lock_leaves : (k number d : ℕ) (found : Contents)
-      → Leaves n log n (Did (Lock k) number (moves.Found d found) ∷ log)
+      → Leaves n log n (Stepped (Lock k) number (moves.Found d found) ∷ log)
   lock_leaves k number d found =
-      leaves_sparing (Did (Lock k) number (moves.Found d found))
+      leaves_sparing (Stepped (Lock k) number (moves.Found d found))
       (λ c. payloads.found n log (Lock k) number d found c refl)
       (lock_spares n (part_seen n log) k number (entries_found (moves.Found d found))
       (meant (part_seen n log) (Lock k)))
 
   pub local_up_leaves : (source : Source) (k number : ℕ)
-      → Leaves n log n (Did (LocalUp source k) number moves.Nothing ∷ log)
+      → Leaves n log n (Stepped (LocalUp source k) number moves.Nothing ∷ log)
   local_up_leaves source k number =
-      leaves_sparing (Did (LocalUp source k) number moves.Nothing)
+      leaves_sparing (Stepped (LocalUp source k) number moves.Nothing)
       (λ c. payloads.plain n log (LocalUp source k) number c refl)
       (local_up_spares n (part_seen n log) source k number (entries_found moves.Nothing)
       (meant (part_seen n log) (LocalUp source k)))
 
   pub shared_up_leaves : (source : Source) (k number : ℕ)
-      → Leaves n log n (Did (SharedUp source k) number moves.Nothing ∷ log)
+      → Leaves n log n (Stepped (SharedUp source k) number moves.Nothing ∷ log)
   shared_up_leaves source k number =
-      leaves_sparing (Did (SharedUp source k) number moves.Nothing)
+      leaves_sparing (Stepped (SharedUp source k) number moves.Nothing)
       (λ c. payloads.plain n log (SharedUp source k) number c refl)
       (shared_up_spares n (part_seen n log) source k number (entries_found moves.Nothing)
       (meant (part_seen n log) (SharedUp source k)))
@@ -126,9 +127,9 @@ module _ (n : ℕ) (log : List Told) where
   pub unlock_replaces : (change : Change) (number d : ℕ) (put : Contents)
       → is_shared (private_seen n log) (part_seen n log).frame (locked_seen n log) change ≡ false
       → private_seen n log d ≡ true
-      → Replaces n log n (Did (Unlock change) number (moves.Put d put) ∷ log) d put
+      → Replaces n log n (Stepped (Unlock change) number (moves.Put d put) ∷ log) d put
   unlock_replaces change number d put kept own =
-      let spares : Spares (part_seen n log) (part_seen n (Did (Unlock change) number (moves.Put d put) ∷ log)) =
+      let spares : Spares (part_seen n log) (part_seen n (Stepped (Unlock change) number (moves.Put d put) ∷ log)) =
       unlock_spares n (part_seen n log) change number (entries_found (moves.Put d put))
       (meant (part_seen n log) (Unlock change)) in
       record {
@@ -140,14 +141,14 @@ module _ (n : ℕ) (log : List Told) where
   -- one that keeps what it found changes nothing, where what was found is the payload
   pub keep_leaves : (number d : ℕ) (found : Contents) → ((payload : Contents) → payloads_of n log d ≡ Some payload
       → found ≡ payload)
-      → Leaves n log n (Did (Unlock changes.Keep) number (moves.Put d found) ∷ log)
+      → Leaves n log n (Stepped (Unlock changes.Keep) number (moves.Put d found) ∷ log)
   keep_leaves number d found own =
-      leaves_sparing (Did (Unlock changes.Keep) number (moves.Put d found)) keeps
+      leaves_sparing (Stepped (Unlock changes.Keep) number (moves.Put d found)) keeps
       (unlock_spares n (part_seen n log) changes.Keep number (entries_found (moves.Put d found))
       (meant (part_seen n log) (Unlock changes.Keep)))
     where
       was_there : (b : Bool) → private_seen n log d ≡ b → (c : ℕ)
-          → payloads_of n (Did (Unlock changes.Keep) number (moves.Put d found) ∷ log) c ≡ payloads_of n log c
+          → payloads_of n (Stepped (Unlock changes.Keep) number (moves.Put d found) ∷ log) c ≡ payloads_of n log c
       was_there false out c = payloads.outside n log changes.Keep number d found c refl out
       was_there true in_it c = payloads.changed n log changes.Keep number d found c refl in_it
           ∙ (elim (cases_Bool (eqb d c)) [
@@ -160,7 +161,7 @@ module _ (n : ℕ) (log : List Told) where
                 ∙ ap (payloads_of n log) (eqb-true d c on)
           ])
 
-      keeps : (c : ℕ) → payloads_of n (Did (Unlock changes.Keep) number (moves.Put d found) ∷ log) c
+      keeps : (c : ℕ) → payloads_of n (Stepped (Unlock changes.Keep) number (moves.Put d found) ∷ log) c
           ≡ payloads_of n log c
       keeps c = was_there (private_seen n log d) refl c
 
@@ -175,7 +176,7 @@ module _ (n : ℕ) (log : List Told) where
 
   -- a locking locks the cell of its place
   pub locks_its_cell : (k number c : ℕ) (moved : Moved) → place_seen n log k ≡ Some c
-      → locked_seen n (Did (Lock k) number moved ∷ log) ≡ Some c
+      → locked_seen n (Stepped (Lock k) number moved ∷ log) ≡ Some c
   locks_its_cell k number c moved there =
       locks_by (part_seen n log) k number c (entries_found moved) (meant (part_seen n log) (Lock k)) there there
 
@@ -195,7 +196,7 @@ never_shares set frame into d change is own =
 -- ---- frames
 
 -- either the thread counts the cell here, or it doesn't
-pub counts_here : (n limit : ℕ) (log : List Told) (c : ℕ) → CountsHere n limit log c ⊎ ¬ CountsHere n limit log c
+pub counts_here : (n limit : ℕ) (log : List LogItem) (c : ℕ) → CountsHere n limit log c ⊎ ¬ CountsHere n limit log c
 counts_here n limit log c = elim (cases_lt 0 (counts_seen n log c)) [
   | inr none ↦ inr (λ (here : CountsHere n limit log c). omega (arith, none, here.some_count))
   | inl some ↦ elim (cases_lt (counts_seen n log c) limit) [
@@ -212,13 +213,13 @@ module _ {A : Type 0} where
   ReplacesIn old new cell put = Replaces old.heap.cells old.seat.log new.heap.cells new.seat.log cell put
 
   -- what is so of the log that the new frame has, in the old one's heap
-  pub on_frame : (old new : FrameSeen A) (log : List Told) (P : ℕ → List Told → Type 0) → new.heap ≡ old.heap
+  pub on_frame : (old new : FrameSeen A) (log : List LogItem) (P : ℕ → List LogItem → Type 0) → new.heap ≡ old.heap
       → new.seat.log ≡ log → P old.heap.cells log → P new.heap.cells new.seat.log
   on_frame old new log P heap events is =
       subst (λ (there : TableSeen). P there.cells new.seat.log) (sym heap) (subst (P old.heap.cells) (sym events) is)
 
   -- and the other way round
-  pub off_frame : (old new : FrameSeen A) (log : List Told) (P : ℕ → List Told → Type 0) → new.heap ≡ old.heap
+  pub off_frame : (old new : FrameSeen A) (log : List LogItem) (P : ℕ → List LogItem → Type 0) → new.heap ≡ old.heap
       → new.seat.log ≡ log → P new.heap.cells new.seat.log → P old.heap.cells log
   off_frame old new log P heap events is =
       subst (P old.heap.cells) events (subst (λ (there : TableSeen). P there.cells new.seat.log) heap is)
@@ -229,17 +230,17 @@ module _ {A : Type 0} where
   up_leaves old new source k c heap counts = elim (cases_lt c FIRST_MORTAL) [
     | inl fixed ↦
         let up = counts.immortal fixed in
-        on_frame old new (Did (LocalUp source k) up.found moves.Nothing ∷ old.seat.log)
+        on_frame old new (Stepped (LocalUp source k) up.found moves.Nothing ∷ old.seat.log)
         (Leaves old.heap.cells old.seat.log) heap up.told
         (local_up_leaves old.heap.cells old.seat.log source k up.found)
     | inr mortal ↦ elim (counts_here old.heap.cells old.heap.local_limit old.seat.log c) [
       | inl here ↦
-          on_frame old new (Did (LocalUp source k) (counts_seen old.heap.cells old.seat.log c + 1) moves.Nothing
+          on_frame old new (Stepped (LocalUp source k) (counts_seen old.heap.cells old.seat.log c + 1) moves.Nothing
           ∷ old.seat.log) (Leaves old.heap.cells old.seat.log) heap (counts.own mortal here)
           (local_up_leaves old.heap.cells old.seat.log source k (counts_seen old.heap.cells old.seat.log c + 1))
       | inr elsewhere ↦
           let up = counts.shared mortal elsewhere in
-          on_frame old new (Did (SharedUp source k) up.found moves.Nothing ∷ old.seat.log)
+          on_frame old new (Stepped (SharedUp source k) up.found moves.Nothing ∷ old.seat.log)
           (Leaves old.heap.cells old.seat.log) heap up.told
           (shared_up_leaves old.heap.cells old.seat.log source k up.found)
     ]

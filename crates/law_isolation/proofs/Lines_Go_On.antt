@@ -6,7 +6,7 @@ use Rattle.brc_count.specs.Frames.{FrameSeen, HandleSeen}
 use Rattle.brc_script.specs.Instructions.{NumberedLine}
 use Rattle.brc_meaning.specs.declared.state.State.{State}
 use Rattle.brc_meaning.specs.Outcomes.{◌>>=◌}
-use Rattle.brc_meaning.specs.Sections.{Stop, lines_after}
+use Rattle.brc_meaning.specs.Sections.{SectionStop, lines_after}
 use Rattle.brc_meaning.proofs.WrittenOut.{lines_append}
 use Rattle.law_isolation.specs.Goes.{is_machines}
 use Rattle.law_isolation.specs.Lines.{At, WentOn, BrokeOff, Faulted, Stopped}
@@ -16,12 +16,15 @@ module _ {A : Type 0} where
   after_both : (lines later : List (NumberedLine A)) (s next : State A) → lines_after lines s ≡ Ok next
       → lines_after (lines ++ later) s ≡ lines_after later next
   after_both lines later s next is =
-      sym (lines_append lines later s) ∙ ap (λ (r : Result (State A) (Stop A)). r >>= λ last. lines_after later last) is
+      sym (lines_append lines later s) ∙ ap
+      (λ (r : Result (State A) (SectionStop A)). r >>= λ last. lines_after later last) is
 
-  stopped_both : (lines later : List (NumberedLine A)) (s : State A) (stop : Stop A) → lines_after lines s ≡ Err stop
+  stopped_both : (lines later : List (NumberedLine A)) (s : State A) (stop : SectionStop A)
+      → lines_after lines s ≡ Err stop
       → lines_after (lines ++ later) s ≡ Err stop
   stopped_both lines later s stop is =
-      sym (lines_append lines later s) ∙ ap (λ (r : Result (State A) (Stop A)). r >>= λ last. lines_after later last) is
+      sym (lines_append lines later s) ∙ ap
+      (λ (r : Result (State A) (SectionStop A)). r >>= λ last. lines_after later last) is
 
   appended : (xs ys zs : List (NumberedLine A)) → xs ++ (ys ++ zs) ≡ (xs ++ ys) ++ zs
   appended [] ys zs = refl

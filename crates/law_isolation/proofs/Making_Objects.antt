@@ -9,8 +9,8 @@ use Rattle.brc_count.specs.law.world.declared.event.Step.TheVariants.{Birth, Cla
 use Rattle.brc_count.proofs.law.known.Kept_Law.{places_kept}
 use Rattle.brc_count.specs.law.rule.declared.contents.Contents.{Contents}
 use Rattle.brc_count.specs.law.rule.declared.told.Moved.TheVariants as moves
-use Rattle.brc_count.specs.law.rule.declared.told.Told.{Told}
-use Rattle.brc_count.specs.law.rule.declared.told.Told.TheVariants.{Did, Saw, Lost}
+use Rattle.brc_count.specs.law.rule.declared.told.LogItem.{LogItem}
+use Rattle.brc_count.specs.law.rule.declared.told.LogItem.TheVariants.{Stepped, Loaded, Lost}
 use Rattle.brc_count.specs.law.rule.Logs.{kind_in, log_items}
 use Rattle.brc_count.specs.law.rule.Seen.{part_seen}
 use Rattle.brc_count.specs.table.Seated.{TableSeen}
@@ -29,7 +29,7 @@ use Rattle.brc_count.proofs.law.payloads.Going_On.{born}
 use Rattle.brc_count.specs.law.living.Living.{OwnLog, is_dead}
 use Rattle.brc_count.specs.law.living.Quiet.{Quietly, NoItem, OneMore}
 use Rattle.brc_count.proofs.law.living.Quiet_Items.{quiet_places}
-use Rattle.law_isolation.specs.Means.{Lives, LivesAt, HeldAs, IsMeant, Shows, Means, MeansBesides, cell_meant}
+use Rattle.law_isolation.specs.Means.{Lives, LivesAt, HeldAs, IsMeant, ShowsState, Means, MeansBesides, cell_meant}
 use Rattle.law_isolation.specs.Means.{contents_meant, left}
 use Rattle.law_isolation.proofs.Meant_Contents.{meant_same, contents_agree}
 use Rattle.law_isolation.proofs.Quiet_Lives.{living, lives_quietly, held_quietly, allocs_quietly}
@@ -48,10 +48,10 @@ got_last (z ∷ xs) x = got_last xs x
 
 -- ---- claiming is quiet
 
-looks_quietly : (looks before : List Told) → are_free_looks looks ≡ true → Quietly before (looks ++ before)
+looks_quietly : (looks before : List LogItem) → are_free_looks looks ≡ true → Quietly before (looks ++ before)
 looks_quietly [] before only = NoItem
-looks_quietly (Saw word number ∷ looks) before only = OneMore (Saw word number) (looks ++ before)
-    (looks_quietly looks before (rest (is_free_look (Saw word number)) (are_free_looks looks) only)) refl
+looks_quietly (Loaded word number ∷ looks) before only = OneMore (Loaded word number) (looks ++ before)
+    (looks_quietly looks before (rest (is_free_look (Loaded word number)) (are_free_looks looks) only)) refl
   where
     rest : (a b : Bool) → (a && b) ≡ true → b ≡ true
     rest true b is = is
@@ -62,14 +62,14 @@ looks_quietly (Lost word number ∷ looks) before only = OneMore (Lost word numb
     rest : (a b : Bool) → (a && b) ≡ true → b ≡ true
     rest true b is = is
     rest false b is = absurd (true≢false (sym is))
-looks_quietly (Did s number moved ∷ looks) before only = absurd (true≢false (sym only))
+looks_quietly (Stepped s number moved ∷ looks) before only = absurd (true≢false (sym only))
 
-claims_quietly : (n start c : ℕ) (before log : List Told) → ClaimsAround n start c before log → Quietly before log
+claims_quietly : (n start c : ℕ) (before log : List LogItem) → ClaimsAround n start c before log → Quietly before log
 claims_quietly n start c before log claims =
     let looked : Quietly before claims.mid = subst (Quietly before) (sym claims.passed.above)
     (looks_quietly claims.passed.looks before claims.passed.only) in
     subst (Quietly before) (sym claims.told)
-    (OneMore (Did (Claim c) claims.number moves.Nothing) claims.mid looked refl)
+    (OneMore (Stepped (Claim c) claims.number moves.Nothing) claims.mid looked refl)
 
 -- ---- a birth
 
@@ -105,11 +105,12 @@ meant_more part made (references.Object place) meant = more (place == made) (par
 no_payload : (b : Bool) (put : Contents) → b ≡ false → (if b then Some put else None) ≡ None
 no_payload b put is = ap (λ a. if a then Some put else None) is
 
-module _ {A : Type 0} (n : ℕ) (log : List Told) (cells : ℕ → ℕ) (part : ℕ → Bool) (made : List (Object A)) (d : ℕ)
+module _ {A : Type 0} (n : ℕ) (log : List LogItem) (cells : ℕ → ℕ) (part : ℕ → Bool) (made : List (Object A)) (d : ℕ)
     (kind : Kind) (k number : ℕ) (object : Object A)
     (alone : Each (IsMeant part) object)
-    (own : OwnLog n (Did (Birth d kind k) number (moves.Put d (contents_meant cells object)) ∷ log))
-    (placed : place_seen n (Did (Birth d kind k) number (moves.Put d (contents_meant cells object)) ∷ log) k ≡ Some d)
+    (own : OwnLog n (Stepped (Birth d kind k) number (moves.Put d (contents_meant cells object)) ∷ log))
+    (placed : place_seen n
+    (Stepped (Birth d kind k) number (moves.Put d (contents_meant cells object)) ∷ log) k ≡ Some d)
     (lives : Lives n log cells part made) where
   -- an object of the part comes before the new one
   pub comes_before : (place : ℕ) → part place ≡ true → place ≢ length made
@@ -133,12 +134,12 @@ module _ {A : Type 0} (n : ℕ) (log : List Told) (cells : ℕ → ℕ) (part : 
       sym (no_payload (private_seen n log d) (last_put log d) own.1) ∙ ap (payloads_of n log) same ∙ at.payload in cc)
 
   old_one : (place : ℕ) → part place ≡ true
-      → LivesAt n (Did (Birth d kind k) number (moves.Put d (contents_meant cells object)) ∷ log)
+      → LivesAt n (Stepped (Birth d kind k) number (moves.Put d (contents_meant cells object)) ∷ log)
       (cells_with cells (length made) d) (part_with part (length made)) (made ++ object ∷ []) place
   old_one place of =
       let at : LivesAt n log cells part made place = lives.there place of in
       let there : cells_with cells (length made) d place ≡ cells place = same_cell place of in
-      let after : List Told = Did (Birth d kind k) number (moves.Put d (contents_meant cells object)) ∷ log in
+      let after : List LogItem = Stepped (Birth d kind k) number (moves.Put d (contents_meant cells object)) ∷ log in
       record {
         object = at.object;
         stands = got_before made object at.object place at.stands;
@@ -154,10 +155,10 @@ module _ {A : Type 0} (n : ℕ) (log : List Told) (cells : ℕ → ℕ) (part : 
             at.object at.leads;
       }
 
-  new_one : LivesAt n (Did (Birth d kind k) number (moves.Put d (contents_meant cells object)) ∷ log)
+  new_one : LivesAt n (Stepped (Birth d kind k) number (moves.Put d (contents_meant cells object)) ∷ log)
       (cells_with cells (length made) d) (part_with part (length made)) (made ++ object ∷ []) (length made)
   new_one =
-      let after : List Told = Did (Birth d kind k) number (moves.Put d (contents_meant cells object)) ∷ log in
+      let after : List LogItem = Stepped (Birth d kind k) number (moves.Put d (contents_meant cells object)) ∷ log in
       let there : cells_with cells (length made) d (length made) ≡ d = cell_here cells (length made) d in
       record {
         object = object;
@@ -174,11 +175,11 @@ module _ {A : Type 0} (n : ℕ) (log : List Told) (cells : ℕ → ℕ) (part : 
   of_part : (place : ℕ) → place ≢ length made → part_with part (length made) place ≡ true → part place ≡ true
   of_part place other of = sym (part_else part (length made) place other) ∙ of
 
-  pub lives_born : Lives n (Did (Birth d kind k) number (moves.Put d (contents_meant cells object)) ∷ log)
+  pub lives_born : Lives n (Stepped (Birth d kind k) number (moves.Put d (contents_meant cells object)) ∷ log)
       (cells_with cells (length made) d) (part_with part (length made)) (made ++ object ∷ [])
   lives_born = record {
     there = λ place of. elim (cases_eq place (length made)) [
-      | inl same ↦ subst (LivesAt n (Did (Birth d kind k) number (moves.Put d (contents_meant cells object)) ∷ log)
+      | inl same ↦ subst (LivesAt n (Stepped (Birth d kind k) number (moves.Put d (contents_meant cells object)) ∷ log)
           (cells_with cells (length made) d) (part_with part (length made)) (made ++ object ∷ [])) (sym same) new_one
       | inr other ↦ old_one place (of_part place other of)
     ];
@@ -206,8 +207,8 @@ module _ {A : Type 0} (n : ℕ) (log : List Told) (cells : ℕ → ℕ) (part : 
   pub held_born : (register : Option HandleSeen) (reference : Option Reference)
       → HeldAs n log cells part register reference
       → ((j c : ℕ) → place_seen n log j ≡ Some c
-      → place_seen n (Did (Birth d kind k) number (moves.Put d (contents_meant cells object)) ∷ log) j ≡ Some c)
-      → HeldAs n (Did (Birth d kind k) number (moves.Put d (contents_meant cells object)) ∷ log)
+      → place_seen n (Stepped (Birth d kind k) number (moves.Put d (contents_meant cells object)) ∷ log) j ≡ Some c)
+      → HeldAs n (Stepped (Birth d kind k) number (moves.Put d (contents_meant cells object)) ∷ log)
       (cells_with cells (length made) d) (part_with part (length made)) register reference
   held_born None None held keeps = held
   held_born None (Some reference) held keeps = held
@@ -221,14 +222,15 @@ module _ {A : Type 0} (n : ℕ) (log : List Told) (cells : ℕ → ℕ) (part : 
 -- ---- frames
 
 -- what a place has after quiet items it had before
-places_quietly : (n : ℕ) (before log : List Told) (k c : ℕ) → Quietly before log → place_seen n log k ≡ Some c
+places_quietly : (n : ℕ) (before log : List LogItem) (k c : ℕ) → Quietly before log → place_seen n log k ≡ Some c
     → place_seen n before k ≡ Some c
 places_quietly n before log k c NoItem at = at
 places_quietly n before log k c (OneMore x older goes quiet) at = places_quietly n before older k c goes
     (quiet_places n x older k c quiet at)
 
-born_allocs : (n : ℕ) (log : List Told) (d : ℕ) (kind : Kind) (k number : ℕ) (put : Contents)
-    → (part_seen n (Did (Birth d kind k) number (moves.Put d put) ∷ log)).row.allocs ≡ (part_seen n log).row.allocs + 1
+born_allocs : (n : ℕ) (log : List LogItem) (d : ℕ) (kind : Kind) (k number : ℕ) (put : Contents)
+    → (part_seen n (Stepped (Birth d kind k) number (moves.Put d put) ∷ log)).row.allocs ≡ (part_seen n log).row.allocs
+    + 1
 born_allocs n log d kind k number put = refl
 
 module _ {A : Type 0} (base : ℕ) (old new : FrameSeen A) (registers : List (Option HandleSeen)) (s : State A)
@@ -237,33 +239,36 @@ module _ {A : Type 0} (base : ℕ) (old new : FrameSeen A) (registers : List (Op
     (made : Made old new (contents_meant (λ place. place) object) given)
     (own : OwnLog new.heap.cells new.seat.log) where
   -- before the birth: the cell is claimed, and its words are set
-  abbrev claimed_log : List Told
-  claimed_log = Did (InitShared made.cell) (2 ^ 42) moves.Nothing ∷ Did (InitLocal made.cell) 1 moves.Nothing ∷ made.mid
+  abbrev claimed_log : List LogItem
+  claimed_log = Stepped (InitShared made.cell) (2 ^ 42) moves.Nothing ∷ Stepped
+      (InitLocal made.cell) 1 moves.Nothing ∷ made.mid
 
-  abbrev born_log : List Told
-  born_log = Did (Birth made.cell (kind_in (contents_meant (λ place. place) object)) given.place) old.seat.thread
+  abbrev born_log : List LogItem
+  born_log = Stepped (Birth made.cell (kind_in (contents_meant (λ place. place) object)) given.place) old.seat.thread
       (moves.Put made.cell (contents_meant means.cells object)) ∷ claimed_log
 
   abbrev kept : ℕ → Bool
   kept = left new.heap.cells claimed_log means.cells means.part
 
   goes : Quietly old.seat.log claimed_log
-  goes = OneMore (Did (InitShared made.cell) (2 ^ 42) moves.Nothing)
-      (Did (InitLocal made.cell) 1 moves.Nothing ∷ made.mid)
-      (OneMore (Did (InitLocal made.cell) 1 moves.Nothing) made.mid
+  goes = OneMore (Stepped (InitShared made.cell) (2 ^ 42) moves.Nothing)
+      (Stepped (InitLocal made.cell) 1 moves.Nothing ∷ made.mid)
+      (OneMore (Stepped (InitLocal made.cell) 1 moves.Nothing) made.mid
       (claims_quietly old.heap.cells made.start made.cell old.seat.log made.mid made.claimed) refl) refl
 
   born_told : new.seat.log ≡ born_log
   born_told = made.told
-      ∙ ap (λ put. Did (Birth made.cell (kind_in (contents_meant (λ place. place) object)) given.place) old.seat.thread
+      ∙ ap (λ put. Stepped (Birth made.cell (kind_in (contents_meant (λ place. place) object)) given.place)
+      old.seat.thread
       (moves.Put made.cell put) ∷ claimed_log)
       (contents_agree means.cells (λ place. place) (λ reference. ⊥) object (λ reference none. absurd none) alone)
 
   own_after : OwnLog new.heap.cells born_log
   own_after = subst (OwnLog new.heap.cells) born_told own
 
-  shown : Shows base means.cells means.part (record old { heap = new.heap }) registers s
-  shown = subst (λ h. Shows base means.cells means.part (record old { heap = h }) registers s) (sym same) means.shows
+  shown : ShowsState base means.cells means.part (record old { heap = new.heap }) registers s
+  shown = subst (λ h. ShowsState base means.cells means.part (record old { heap = h }) registers s)
+      (sym same) means.shows
 
   lives_claimed : Lives new.heap.cells claimed_log means.cells kept s.objects
   lives_claimed = lives_quietly new.heap.cells old.seat.log claimed_log means.cells means.part s.objects own_after.0
@@ -312,7 +317,8 @@ module _ {A : Type 0} (base : ℕ) (old new : FrameSeen A) (registers : List (Op
       (λ here. absurd (let none : None ≡ Some (cell_meant means.cells reference) = sym vacant
       ∙ ap (place_seen new.heap.cells old.seat.log) (sym here) ∙ held.cell in cc)) ∙ held.cell)
 
-  shows_born : Shows base (cells_with means.cells (length s.objects) made.cell) (part_with kept (length s.objects)) new
+  shows_born : ShowsState base (cells_with means.cells (length s.objects) made.cell)
+      (part_with kept (length s.objects)) new
       registers (record s { objects = s.objects ++ object ∷ [] })
   shows_born =
       let kind : Kind = kind_in (contents_meant (λ place. place) object) in

@@ -1,6 +1,6 @@
 -- After quiet items a frame shows what it showed, where its registers' places have what they had.
 use Rattle.std.proofs.Common.{◌≡◌, ℕ, Bool, List, Option, Some, None, IfSome, slice_index_or, refl, sym, ◌∙◌, subst}
-use Rattle.brc_count.specs.law.rule.declared.told.Told.{Told}
+use Rattle.brc_count.specs.law.rule.declared.told.LogItem.{LogItem}
 use Rattle.brc_count.specs.table.Seated.{TableSeen}
 use Rattle.brc_count.specs.Frames.{FrameSeen, HandleSeen, IsAsBefore, place_seen}
 use Rattle.brc_lock.specs.Waiting.{Waits, NoTry, OneMore as OneTry}
@@ -10,14 +10,14 @@ use Rattle.brc_meaning.specs.declared.object.Object.{Object}
 use Rattle.brc_meaning.specs.declared.state.State.{State}
 use Rattle.brc_count.specs.law.living.Living.{OwnLog}
 use Rattle.brc_count.specs.law.living.Quiet.{Quietly, NoItem, OneMore}
-use Rattle.law_isolation.specs.Means.{Lives, HasAt, HeldAs, Shows, Means, MeansBesides, left}
+use Rattle.law_isolation.specs.Means.{Lives, HasAt, HeldAs, ShowsState, Means, MeansBesides, left}
 use Rattle.law_isolation.specs.Keeping.{KeepsPlace, KeepsRegisters}
 use Rattle.law_isolation.proofs.Quiet_Lives.{lives_quietly, held_quietly, allocs_quietly}
 
 module _ {A : Type 0} where
   -- ---- one log
 
-  register_quietly : (n : ℕ) (before log : List Told) (cells : ℕ → ℕ) (part : ℕ → Bool) (made : List (Object A))
+  register_quietly : (n : ℕ) (before log : List LogItem) (cells : ℕ → ℕ) (part : ℕ → Bool) (made : List (Object A))
       → OwnLog n log → Quietly before log → Lives n before cells part made
       → (register : Option HandleSeen) (reference : Option Reference) → HeldAs n before cells part register reference
       → IfSome register (λ h. place_seen n log h.place ≡ place_seen n before h.place)
@@ -33,9 +33,9 @@ module _ {A : Type 0} where
   -- a frame at a heap that is the same shows the same
   at_same_heap : (base : ℕ) (cells : ℕ → ℕ) (part : ℕ → Bool) (old : FrameSeen A) (registers : List (Option HandleSeen))
       (s : State A) (heap : TableSeen) → heap ≡ old.heap
-      → Shows base cells part old registers s → Shows base cells part (record old { heap = heap }) registers s
+      → ShowsState base cells part old registers s → ShowsState base cells part (record old { heap = heap }) registers s
   at_same_heap base cells part old registers s heap same =
-      subst (λ h. Shows base cells part (record old { heap = h }) registers s) (sym same)
+      subst (λ h. ShowsState base cells part (record old { heap = h }) registers s) (sym same)
 
   keeps_at_heap : (old new : FrameSeen A) (registers : List (Option HandleSeen)) (heap : TableSeen) → heap ≡ old.heap
       → KeepsRegisters old new registers → KeepsRegisters (record old { heap = heap }) new registers
@@ -44,12 +44,12 @@ module _ {A : Type 0} where
 
   pub shows_quietly : (base : ℕ) (cells : ℕ → ℕ) (part : ℕ → Bool) (old new : FrameSeen A)
       (registers : List (Option HandleSeen)) (s : State A)
-      → Shows base cells part old registers s → new.heap ≡ old.heap → Quietly old.seat.log new.seat.log
+      → ShowsState base cells part old registers s → new.heap ≡ old.heap → Quietly old.seat.log new.seat.log
       → OwnLog new.heap.cells new.seat.log → KeepsRegisters old new registers
-      → Shows base cells (left new.heap.cells new.seat.log cells part) new registers s
+      → ShowsState base cells (left new.heap.cells new.seat.log cells part) new registers s
   shows_quietly base cells part old new registers s shows same goes own keeps =
       let n : ℕ = new.heap.cells in
-      let was : Shows base cells part (record old { heap = new.heap }) registers s =
+      let was : ShowsState base cells part (record old { heap = new.heap }) registers s =
       at_same_heap base cells part old registers s new.heap same shows in
       let kept : KeepsRegisters (record old { heap = new.heap }) new registers =
       keeps_at_heap old new registers new.heap same keeps in
@@ -65,13 +65,13 @@ module _ {A : Type 0} where
   -- what has one place that is kept too
   has_quietly : (base : ℕ) (cells : ℕ → ℕ) (part : ℕ → Bool) (old new : FrameSeen A)
       (registers : List (Option HandleSeen)) (s : State A) (loose : HandleSeen) (reference : Reference)
-      → Shows base cells part old registers s → new.heap ≡ old.heap → Quietly old.seat.log new.seat.log
+      → ShowsState base cells part old registers s → new.heap ≡ old.heap → Quietly old.seat.log new.seat.log
       → OwnLog new.heap.cells new.seat.log → KeepsPlace old new loose
       → HasAt old.heap.cells old.seat.log cells part loose.place reference
       → HasAt new.heap.cells new.seat.log cells (left new.heap.cells new.seat.log cells part) loose.place reference
   has_quietly base cells part old new registers s loose reference shows same goes own keeps has =
       let n : ℕ = new.heap.cells in
-      let was : Shows base cells part (record old { heap = new.heap }) registers s =
+      let was : ShowsState base cells part (record old { heap = new.heap }) registers s =
       at_same_heap base cells part old registers s new.heap same shows in
       held_quietly n old.seat.log new.seat.log cells part s.objects loose.place reference own goes was.lives
       (subst (λ h. HasAt h.cells old.seat.log cells part loose.place reference) (sym same) has) (keeps ∙ has.cell)
@@ -117,8 +117,8 @@ module _ {A : Type 0} where
       subst (λ frame. Means base frame registers s) is
       (record { cells = means.cells; part = means.part; shows = of_spare means.cells means.part means.shows })
     where
-      of_spare : (cells : ℕ → ℕ) (part : ℕ → Bool) → Shows base cells part old registers s
-          → Shows base cells part (record old { spare = new.spare }) registers s
+      of_spare : (cells : ℕ → ℕ) (part : ℕ → Bool) → ShowsState base cells part old registers s
+          → ShowsState base cells part (record old { spare = new.spare }) registers s
       of_spare cells part shows = record {
         lives = shows.lives;
         held = shows.held;
@@ -141,8 +141,8 @@ module _ {A : Type 0} where
         has = means.has;
       })
     where
-      of_spare : (cells : ℕ → ℕ) (part : ℕ → Bool) → Shows base cells part old registers s
-          → Shows base cells part (record old { spare = new.spare }) registers s
+      of_spare : (cells : ℕ → ℕ) (part : ℕ → Bool) → ShowsState base cells part old registers s
+          → ShowsState base cells part (record old { spare = new.spare }) registers s
       of_spare cells part shows = record {
         lives = shows.lives;
         held = shows.held;

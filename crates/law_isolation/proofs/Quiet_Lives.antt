@@ -5,8 +5,8 @@ use Rattle.std.proofs.lemmas.Bool.{cases_Bool, eqb-true, true≢false}
 use Rattle.std.proofs.lemmas.List.{get_or_past}
 use Rattle.brc_count.specs.law.world.declared.event.Step.TheVariants.{Free}
 use Rattle.brc_count.specs.law.rule.declared.contents.Contents.{Contents}
-use Rattle.brc_count.specs.law.rule.declared.told.Told.{Told}
-use Rattle.brc_count.specs.law.rule.declared.told.Told.TheVariants.{Did}
+use Rattle.brc_count.specs.law.rule.declared.told.LogItem.{LogItem}
+use Rattle.brc_count.specs.law.rule.declared.told.LogItem.TheVariants.{Stepped}
 use Rattle.brc_count.specs.law.rule.Logs.{entries_in}
 use Rattle.brc_count.specs.law.rule.Seen.{part_seen}
 use Rattle.brc_count.specs.Frames.{place_seen}
@@ -23,7 +23,7 @@ use Rattle.law_isolation.proofs.Meant_Contents.{each_entry}
 -- ---- of one item
 
 -- what is held isn't dead, also before the first item
-pub living : (n : ℕ) (log : List Told) → OwnLog n log → Living n log
+pub living : (n : ℕ) (log : List LogItem) → OwnLog n log → Living n log
 living n [] own = record {
   placed = λ k c at. absurd (let none : None ≡ Some c = sym (get_or_past [] k None (omega arith)) ∙ at in cc);
   entered = λ c i d payload has. absurd (let none : None ≡ Some payload = has in cc);
@@ -31,9 +31,9 @@ living n [] own = record {
 living n (x ∷ log) own = own.2
 
 -- what was given back was dead
-kept_alive : (n : ℕ) (x : Told) (log : List Told) (d : ℕ) → ItemFits n log x → is_dead n log d ≡ false
+kept_alive : (n : ℕ) (x : LogItem) (log : List LogItem) (d : ℕ) → ItemFits n log x → is_dead n log d ≡ false
     → frees x d ≡ false
-kept_alive n (Did (Free e) number moved) log d fits alive = elim (cases_Bool (e == d)) [
+kept_alive n (Stepped (Free e) number moved) log d fits alive = elim (cases_Bool (e == d)) [
   | inr other ↦ other
   | inl same ↦ absurd (true≢false (sym fits ∙ ap (is_dead n log) (eqb-true e d same) ∙ alive))
 ]
@@ -45,13 +45,14 @@ by_free true before payload is = absurd (let none : None ≡ Some payload = is i
 by_free false before payload is = (refl, is)
 
 -- who has a payload after a quiet item had it before
-had_payload : (n : ℕ) (x : Told) (log : List Told) (c : ℕ) (payload : Contents) → is_quiet x ≡ true
+had_payload : (n : ℕ) (x : LogItem) (log : List LogItem) (c : ℕ) (payload : Contents) → is_quiet x ≡ true
     → payloads_of n (x ∷ log) c ≡ Some payload → (frees x c ≡ false) × (payloads_of n log c ≡ Some payload)
 had_payload n x log c payload quiet has = by_free (frees x c) (payloads_of n log c) payload
     (sym (quiet_payloads n x log c quiet) ∙ has)
 
 -- and who wasn't dead has it after a quiet item
-has_still : (n : ℕ) (x : Told) (log : List Told) (d : ℕ) (payload : Contents) → is_quiet x ≡ true → ItemFits n log x
+has_still : (n : ℕ) (x : LogItem) (log : List LogItem) (d : ℕ) (payload : Contents) → is_quiet x ≡ true
+    → ItemFits n log x
     → is_dead n log d ≡ false → payloads_of n log d ≡ Some payload → payloads_of n (x ∷ log) d ≡ Some payload
 has_still n x log d payload quiet fits alive has =
     quiet_payloads n x log d quiet ∙ ap (λ b. if b then None else payloads_of n log d)
@@ -60,7 +61,7 @@ has_still n x log d payload quiet fits alive has =
 -- ---- of quiet items
 
 -- what is still private, and not dead, has the payload that it had, and wasn't dead
-pub stays_quietly : (n : ℕ) (before log : List Told) (c : ℕ) (payload : Contents) → Quietly before log
+pub stays_quietly : (n : ℕ) (before log : List LogItem) (c : ℕ) (payload : Contents) → Quietly before log
     → payloads_of n log c ≡ Some payload → is_dead n log c ≡ false
     → (payloads_of n before c ≡ Some payload) × (is_dead n before c ≡ false)
 stays_quietly n before log c payload NoItem has alive = (has, alive)
@@ -70,7 +71,7 @@ stays_quietly n before log c payload (OneMore x older goes quiet) has alive =
     stays_quietly n before older c payload goes had.1 (was_alive n x older c had.0 alive)
 
 -- what it holds wasn't given back
-pub entry_stays : (n : ℕ) (before log : List Told) (c i d : ℕ) (payload there : Contents) → Quietly before log
+pub entry_stays : (n : ℕ) (before log : List LogItem) (c i d : ℕ) (payload there : Contents) → Quietly before log
     → OwnLog n log → payloads_of n log c ≡ Some payload → is_dead n log c ≡ false
     → slice_get (entries_in payload) i ≡ Some d → payloads_of n before d ≡ Some there → payloads_of n log d ≡ Some there
 entry_stays n before log c i d payload there NoItem own has alive at was = was
@@ -82,7 +83,7 @@ entry_stays n before log c i d payload there (OneMore x older goes quiet) own ha
     (entry_stays n before older c i d payload there goes own.0 had.1 lived at was)
 
 -- nor what a place has still
-pub placed_stays : (n : ℕ) (before log : List Told) (k d : ℕ) (there : Contents) → Quietly before log → OwnLog n log
+pub placed_stays : (n : ℕ) (before log : List LogItem) (k d : ℕ) (there : Contents) → Quietly before log → OwnLog n log
     → place_seen n log k ≡ Some d → payloads_of n before d ≡ Some there
     → payloads_of n log d ≡ Some there
 placed_stays n before log k d there NoItem own at was = was
@@ -91,7 +92,7 @@ placed_stays n before log k d there (OneMore x older goes quiet) own at was =
     has_still n x older d there quiet own.1 ((living n older own.0).placed k d stood)
     (placed_stays n before older k d there goes own.0 stood was)
 
-pub allocs_quietly : (n : ℕ) (before log : List Told) → Quietly before log
+pub allocs_quietly : (n : ℕ) (before log : List LogItem) → Quietly before log
     → (part_seen n log).row.allocs ≡ (part_seen n before).row.allocs
 allocs_quietly n before log NoItem = refl
 allocs_quietly n before log (OneMore x older goes quiet) = quiet_allocs n x older quiet
@@ -112,7 +113,7 @@ the_some (Some x) is = (x, refl)
 the_some None is = absurd (true≢false (sym is))
 
 -- an object that is left: it was of the part, is private still, and isn't dead
-pub left_parts : (n : ℕ) (log : List Told) (cells : ℕ → ℕ) (part : ℕ → Bool) (place : ℕ)
+pub left_parts : (n : ℕ) (log : List LogItem) (cells : ℕ → ℕ) (part : ℕ → Bool) (place : ℕ)
     → left n log cells part place ≡ true
     → (part place ≡ true) × (payload : Contents) × (payloads_of n log (cells place) ≡ Some payload)
     × (is_dead n log (cells place) ≡ false)
@@ -125,7 +126,7 @@ left_parts n log cells part place is =
     the_some (payloads_of n log (cells place)) two.0 in
     (one.0, there.0, there.1, unnot (is_dead n log (cells place)) two.1)
 
-pub is_left : (n : ℕ) (log : List Told) (cells : ℕ → ℕ) (part : ℕ → Bool) (place : ℕ) (payload : Contents)
+pub is_left : (n : ℕ) (log : List LogItem) (cells : ℕ → ℕ) (part : ℕ → Bool) (place : ℕ) (payload : Contents)
     → part place ≡ true → payloads_of n log (cells place) ≡ Some payload → is_dead n log (cells place) ≡ false
     → left n log cells part place ≡ true
 is_left n log cells part place payload of has alive =
@@ -138,7 +139,7 @@ some_same a b o one other = let same : Some a ≡ Some b = sym one ∙ other in 
 
 module _ {A : Type 0} where
   -- a reference to what was there is one to what is left, where its cell isn't dead and wasn't given back
-  meant_still : (n : ℕ) (before log : List Told) (cells : ℕ → ℕ) (part : ℕ → Bool) (made : List (Object A))
+  meant_still : (n : ℕ) (before log : List LogItem) (cells : ℕ → ℕ) (part : ℕ → Bool) (made : List (Object A))
       (reference : Reference) → Lives n before cells part made
       → is_dead n log (cell_meant cells reference) ≡ false
       → ((there : Contents) → payloads_of n before (cell_meant cells reference) ≡ Some there
@@ -150,7 +151,7 @@ module _ {A : Type 0} where
       is_left n log cells part place (contents_meant cells at.object) meant
       (stays (contents_meant cells at.object) at.payload) alive
 
-  pub lives_quietly : (n : ℕ) (before log : List Told) (cells : ℕ → ℕ) (part : ℕ → Bool) (made : List (Object A))
+  pub lives_quietly : (n : ℕ) (before log : List LogItem) (cells : ℕ → ℕ) (part : ℕ → Bool) (made : List (Object A))
       → OwnLog n log → Quietly before log → Lives n before cells part made
       → Lives n log cells (left n log cells part) made
   lives_quietly n before log cells part made own goes lives = record {
@@ -180,7 +181,8 @@ module _ {A : Type 0} where
   }
 
   -- a place that has the same still
-  pub held_quietly : (n : ℕ) (before log : List Told) (cells : ℕ → ℕ) (part : ℕ → Bool) (made : List (Object A)) (k : ℕ)
+  pub held_quietly : (n : ℕ) (before log : List LogItem) (cells : ℕ → ℕ) (part : ℕ → Bool) (made : List (Object A))
+      (k : ℕ)
       (reference : Reference)
       → OwnLog n log → Quietly before log → Lives n before cells part made → HasAt n before cells part k reference
       → place_seen n log k ≡ Some (cell_meant cells reference) → HasAt n log cells (left n log cells part) k reference

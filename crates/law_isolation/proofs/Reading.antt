@@ -19,7 +19,7 @@ use Rattle.brc_count.specs.Locking.{KeepsThread, KeepsFrame}
 use Rattle.brc_handles.specs.Handles.{slot}
 use Rattle.brc_lock.specs.Waiting.{Waits}
 use Rattle.brc_lock.proofs.Kept.{waits_frame}
-use Rattle.brc_containers.specs.Looking.{IsInt, IsText, IsContainer, LooksAt, RefusedLook, RefusedCopy, LenOf, IntOf}
+use Rattle.brc_containers.specs.Looking.{IsInt, IsText, HoldsContainer, LooksAt, RefusedLook, RefusedCopy, LenOf, IntOf}
 use Rattle.brc_containers.specs.Looking.{TextOf, KindOf}
 use Rattle.brc_containers.specs.Called.{Late}
 use Rattle.brc_meaning.specs.declared.reference.Reference.{Reference}
@@ -28,7 +28,7 @@ use Rattle.brc_meaning.specs.declared.object.Object.TheVariants as objects
 use Rattle.brc_meaning.specs.declared.state.State.{State}
 use Rattle.brc_meaning.specs.Objects.{entries_in, number_in}
 use Rattle.brc_count.specs.law.living.Living.{OwnLog}
-use Rattle.law_isolation.specs.Means.{cell_meant, contents_meant, Shows, Means}
+use Rattle.law_isolation.specs.Means.{cell_meant, contents_meant, ShowsState, Means}
 use Rattle.law_isolation.specs.Calls.{kind_meant, Finds}
 use Rattle.law_isolation.proofs.Left_Alone.{waits_leave}
 use Rattle.law_isolation.proofs.Found_There.{FoundAs, found_as}
@@ -46,7 +46,7 @@ module _ {A : Type 0} (cells : ℕ → ℕ) where
   kind_shown (objects.Dict pairs) = refl
   kind_shown (objects.Mailbox entries) = refl
 
-  len_shown : (object : Object A) → IsContainer (contents_meant cells object)
+  len_shown : (object : Object A) → HoldsContainer (contents_meant cells object)
       → entries_in object ≡ Ok (length (logs.entries_in (contents_meant cells object)))
   len_shown (objects.Int number) fits = absurd (let bad : false ≡ true = fits in cc)
   len_shown (objects.Text bytes) fits = absurd (let bad : false ≡ true = fits in cc)
@@ -58,7 +58,7 @@ module _ {A : Type 0} (cells : ℕ → ℕ) where
       ∙ length-map pairs (λ (pair : Key A × Reference). (plain_key pair.0, cell_meant cells pair.1))))
   len_shown (objects.Mailbox entries) fits = ap Ok (sym (length-map entries (cell_meant cells)))
 
-  len_none : (object : Object A) → (IsContainer (contents_meant cells object) → ⊥)
+  len_none : (object : Object A) → (HoldsContainer (contents_meant cells object) → ⊥)
       → entries_in object ≡ Err faults.WrongKind
   len_none (objects.Int number) misfits = refl
   len_none (objects.Text bytes) misfits = refl
@@ -134,7 +134,7 @@ module _ {A : Type 0} (base : ℕ) (old new : FrameSeen A) (registers : List (Op
       → (P : Object A → Type 0) → ((object : Object A) → found ≡ contents_meant means.cells object → P object)
       → Means base new registers s × Finds container s P
   looked mid waits keeps_thread keeps_frame found looks P tells =
-      let shows : Shows base means.cells means.part mid registers s =
+      let shows : ShowsState base means.cells means.part mid registers s =
       shows_left base means.cells means.part old mid registers s means.shows (waits_leave waits)
       (all_places old mid registers (waits_frame waits).places) in
       let on : LooksOn mid new h.place found = look_looks mid new h.place found own keeps_thread.heap looks in
@@ -169,12 +169,12 @@ module _ {A : Type 0} (base : ℕ) (old new : FrameSeen A) (registers : List (Op
   len_read (Ok len) late busy =
       let told = late.2.found in
       looked late.0 late.1 late.2.thread late.2.frame told.0 told.1 (λ object. entries_in object ≡ Ok len)
-      (λ object is. len_shown means.cells object (subst IsContainer is told.2)
+      (λ object is. len_shown means.cells object (subst HoldsContainer is told.2)
       ∙ ap (λ (found : Contents). Ok (length (logs.entries_in found))) (sym is) ∙ ap Ok told.3)
   len_read (Err fault) late busy =
-      let why = misfit late.0 new h.place IsContainer fault busy late.2.refused in
+      let why = misfit late.0 new h.place HoldsContainer fault busy late.2.refused in
       looked late.0 late.1 late.2.thread late.2.frame why.1.0 why.1.1 (λ object. entries_in object ≡ Err fault)
-      (λ object is. len_none means.cells object (λ fits. why.1.2 (subst IsContainer (sym is) fits))
+      (λ object is. len_none means.cells object (λ fits. why.1.2 (subst HoldsContainer (sym is) fits))
       ∙ ap Err (sym why.0))
 
   pub int_read : (result : Result ℤ Fault) → Late old h.place (λ mid. IntOf mid new h.place result)

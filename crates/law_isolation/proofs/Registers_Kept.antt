@@ -5,13 +5,13 @@ use Rattle.std.proofs.lemmas.Bool.{cases_eq, cases_lt}
 use Rattle.std.proofs.lemmas.List.{get_or_past, get_or-set_same, get_or-set_other, get_or-replicate, length-set}
 use Rattle.brc_words.specs.declared.fault.Fault.TheVariants as faults
 use Rattle.brc_plain.specs.Outcomes.{or_fault}
-use Rattle.brc_count.specs.law.rule.declared.told.Told.{Told}
+use Rattle.brc_count.specs.law.rule.declared.told.LogItem.{LogItem}
 use Rattle.brc_count.specs.Frames.{FrameSeen, HandleSeen, ledger_seen}
 use Rattle.brc_handles.specs.Handles.{slot, IsBare}
 use Rattle.brc_meaning.specs.declared.reference.Reference.{Reference}
 use Rattle.brc_meaning.specs.declared.state.State.{State}
 use Rattle.brc_meaning.specs.States.{held, holding, start, no_registers}
-use Rattle.law_isolation.specs.Means.{HasAt, HeldAs, Shows, Means, MeansBesides, SIXTEEN}
+use Rattle.law_isolation.specs.Means.{HasAt, HeldAs, ShowsState, Means, MeansBesides, SIXTEEN}
 
 -- ---- one list
 
@@ -31,7 +31,7 @@ some_inside xs r x is = elim (cases_lt r (length xs)) [
   | inr past ↦ absurd (let none : None ≡ Some x = sym (get_or_past xs r None past) ∙ is in cc)
 ]
 
-module _ (n : ℕ) (log : List Told) (cells : ℕ → ℕ) (part : ℕ → Bool) where
+module _ (n : ℕ) (log : List LogItem) (cells : ℕ → ℕ) (part : ℕ → Bool) where
   -- what a register that has a handle shows
   pub named : (register : Option HandleSeen) (plain : Option Reference) (h : HandleSeen) → register ≡ Some h
       → HeldAs n log cells part register plain
@@ -74,7 +74,7 @@ module _ {A : Type 0} where
 
   pub shown_in : (base : ℕ) (cells : ℕ → ℕ) (part : ℕ → Bool) (frame : FrameSeen A)
       (registers : List (Option HandleSeen)) (s : State A) (r : ℕ) (h : HandleSeen)
-      → Shows base cells part frame registers s → slot registers r ≡ Some h
+      → ShowsState base cells part frame registers s → slot registers r ≡ Some h
       → (reference : Reference) × (slice_index_or s.registers r None ≡ Some reference) × HasAt frame.heap.cells
       frame.seat.log cells part h.place reference
   shown_in base cells part frame registers s r h shows is =
@@ -84,9 +84,9 @@ module _ {A : Type 0} where
   pub shows_set : (base : ℕ) (cells : ℕ → ℕ) (part : ℕ → Bool) (frame : FrameSeen A)
       (registers : List (Option HandleSeen)) (s : State A) (to : ℕ) (register : Option HandleSeen)
       (reference : Option Reference)
-      → Shows base cells part frame registers s → to < SIXTEEN
+      → ShowsState base cells part frame registers s → to < SIXTEEN
       → HeldAs frame.heap.cells frame.seat.log cells part register reference
-      → Shows base cells part frame (slice_set registers to register)
+      → ShowsState base cells part frame (slice_set registers to register)
       (record s { registers = holding to reference s.registers })
   shows_set base cells part frame registers s to register reference shows below held = record {
     lives = shows.lives;

@@ -11,12 +11,12 @@ use Rattle.brc_count.specs.law.world.declared.event.Step.TheVariants.{LocalUp, S
 use Rattle.brc_count.specs.law.world.Lists.{is_marked}
 use Rattle.brc_count.specs.law.known.Items.{Part, meant, part_by}
 use Rattle.brc_count.specs.law.rule.declared.told.Moved.TheVariants.{Nothing}
-use Rattle.brc_count.specs.law.rule.declared.told.Told.{Told}
-use Rattle.brc_count.specs.law.rule.declared.told.Told.TheVariants.{Did}
+use Rattle.brc_count.specs.law.rule.declared.told.LogItem.{LogItem}
+use Rattle.brc_count.specs.law.rule.declared.told.LogItem.TheVariants.{Stepped}
 use Rattle.brc_count.specs.law.rule.Seen.{part_seen, counts_seen}
 use Rattle.brc_count.specs.table.Seated.{TableSeen}
 use Rattle.brc_count.specs.biased.Up.{CountsHere}
-use Rattle.brc_count.specs.Frames.{FrameSeen, HandleSeen, CountsUp, Given, place_seen}
+use Rattle.brc_count.specs.Frames.{FrameSeen, HandleSeen, CountsUp, GivenHandle, place_seen}
 use Rattle.brc_things.specs.Makers.{small_cell}
 use Rattle.brc_handles.specs.Handles.{slot}
 use Rattle.brc_meaning.specs.declared.reference.Reference.{Reference}
@@ -27,7 +27,7 @@ use Rattle.brc_meaning.specs.Objects.{is_small}
 use Rattle.brc_count.specs.law.payloads.Payloads.{payloads_of}
 use Rattle.brc_count.proofs.law.payloads.Going_On.{plain}
 use Rattle.brc_count.specs.law.living.Living.{is_dead}
-use Rattle.law_isolation.specs.Means.{Lives, LivesAt, HasAt, HeldAs, Shows, Means, MeansBesides, cell_meant}
+use Rattle.law_isolation.specs.Means.{Lives, LivesAt, HasAt, HeldAs, ShowsState, Means, MeansBesides, cell_meant}
 use Rattle.law_isolation.specs.Means.{cell_of_small}
 use Rattle.law_isolation.proofs.Registers_Kept.{shown_in}
 
@@ -39,8 +39,8 @@ counts_up (LocalUp source k) = true
 counts_up (SharedUp source k) = true
 counts_up _ = false
 
-module _ (n : ℕ) (log : List Told) where
-  up_payloads : (s : Step) (number c : ℕ) → counts_up s ≡ true → payloads_of n (Did s number Nothing ∷ log) c
+module _ (n : ℕ) (log : List LogItem) where
+  up_payloads : (s : Step) (number c : ℕ) → counts_up s ≡ true → payloads_of n (Stepped s number Nothing ∷ log) c
       ≡ payloads_of n log c
   up_payloads (LocalUp source k) number c up = plain n log (LocalUp source k) number c refl
   up_payloads (SharedUp source k) number c up = plain n log (SharedUp source k) number c refl
@@ -62,18 +62,20 @@ module _ (n : ℕ) (log : List Told) where
   part_allocs part (SharedUp source k) number (Some d) up = refl
   part_allocs part _ number o up = absurd (true≢false (sym up))
 
-  up_dead : (s : Step) (number c : ℕ) → counts_up s ≡ true → is_dead n (Did s number Nothing ∷ log) c ≡ is_dead n log c
+  up_dead : (s : Step) (number c : ℕ) → counts_up s ≡ true
+      → is_dead n (Stepped s number Nothing ∷ log) c ≡ is_dead n log c
   up_dead s number c up = ap (λ marks. is_marked marks c)
       (part_marks (part_seen n log) s number (meant (part_seen n log) s) up)
 
-  pub up_allocs : (s : Step) (number : ℕ) → counts_up s ≡ true → (part_seen n (Did s number Nothing ∷ log)).row.allocs
+  pub up_allocs : (s : Step) (number : ℕ) → counts_up s ≡ true
+      → (part_seen n (Stepped s number Nothing ∷ log)).row.allocs
       ≡ (part_seen n log).row.allocs
   up_allocs s number up = part_allocs (part_seen n log) s number (meant (part_seen n log) s) up
 
   -- objects live as they lived
   pub lives_up : {A : Type 0} (cells : ℕ → ℕ) (part : ℕ → Bool) (made : List (Object A)) (s : Step) (number : ℕ)
       → counts_up s ≡ true
-      → Lives n log cells part made → Lives n (Did s number Nothing ∷ log) cells part made
+      → Lives n log cells part made → Lives n (Stepped s number Nothing ∷ log) cells part made
   lives_up cells part made s number up lives = record {
     there = λ place of.
         let at : LivesAt n log cells part made place = lives.there place of in
@@ -88,7 +90,7 @@ module _ (n : ℕ) (log : List Told) where
   }
 
 -- a register whose place has what it had holds what it held
-pub held_still : (n : ℕ) (before log : List Told) (cells : ℕ → ℕ) (part : ℕ → Bool) (register : Option HandleSeen)
+pub held_still : (n : ℕ) (before log : List LogItem) (cells : ℕ → ℕ) (part : ℕ → Bool) (register : Option HandleSeen)
     (reference : Option Reference)
     → ((k c : ℕ) → place_seen n before k ≡ Some c → place_seen n log k ≡ Some c)
     → HeldAs n before cells part register reference → HeldAs n log cells part register reference
@@ -132,7 +134,7 @@ module _ {A : Type 0} where
     step : Step
     number : ℕ
     up : counts_up step ≡ true
-    is : new.seat.log ≡ Did step number Nothing ∷ old.seat.log
+    is : new.seat.log ≡ Stepped step number Nothing ∷ old.seat.log
 
   raised : (old new : FrameSeen A) (source : Source) (k c : ℕ) → CountsUp old new source k c → Raised old new
   raised old new source k c counted = elim (cases_lt c FIRST_MORTAL) [
@@ -173,7 +175,8 @@ module _ {A : Type 0} where
   ]
 
   -- what a place had it has still
-  given_keeps : (old new : FrameSeen A) (source : Source) (c : ℕ) (given : HandleSeen) → Given old new source c given
+  given_keeps : (old new : FrameSeen A) (source : Source) (c : ℕ) (given : HandleSeen)
+      → GivenHandle old new source c given
       → (k d : ℕ) → place_seen old.heap.cells old.seat.log k ≡ Some d
       → place_seen new.heap.cells new.seat.log k ≡ Some d
   given_keeps old new source c given gives k d at = elim (cases_eq k given.place) [
@@ -187,11 +190,11 @@ module _ {A : Type 0} where
       (s : State A) → new.heap ≡ old.heap → Raised old new
       → ((k d : ℕ) → place_seen old.heap.cells old.seat.log k ≡ Some d
       → place_seen new.heap.cells new.seat.log k ≡ Some d)
-      → Shows base cells part old registers s → Shows base cells part new registers s
+      → ShowsState base cells part old registers s → ShowsState base cells part new registers s
   shows_up base cells part old new registers s same up keeps shows =
       let n : ℕ = new.heap.cells in
-      let was : Shows base cells part (record old { heap = new.heap }) registers s =
-      subst (λ h. Shows base cells part (record old { heap = h }) registers s) (sym same) shows in
+      let was : ShowsState base cells part (record old { heap = new.heap }) registers s =
+      subst (λ h. ShowsState base cells part (record old { heap = h }) registers s) (sym same) shows in
       let kept : (k d : ℕ) → place_seen n old.seat.log k ≡ Some d → place_seen n new.seat.log k ≡ Some d =
       subst (λ (h : TableSeen). (k d : ℕ) → place_seen h.cells old.seat.log k ≡ Some d
       → place_seen n new.seat.log k ≡ Some d) (sym same) keeps in
@@ -208,8 +211,8 @@ module _ {A : Type 0} where
 
   pub shows_given : (base : ℕ) (cells : ℕ → ℕ) (part : ℕ → Bool) (old new : FrameSeen A)
       (registers : List (Option HandleSeen)) (s : State A) (source : Source) (c : ℕ) (given : HandleSeen)
-      → Shows base cells part old registers s → new.heap ≡ old.heap → Given old new source c given
-      → Shows base cells part new registers s
+      → ShowsState base cells part old registers s → new.heap ≡ old.heap → GivenHandle old new source c given
+      → ShowsState base cells part new registers s
   shows_given base cells part old new registers s source c given shows same gives =
       shows_up base cells part old new registers s same (raised old new source given.place c gives.counted)
       (given_keeps old new source c given gives) shows
@@ -218,7 +221,7 @@ module _ {A : Type 0} where
   pub means_retained : (base : ℕ) (old new : FrameSeen A) (registers : List (Option HandleSeen)) (s : State A)
       (from c : ℕ) (h given : HandleSeen)
       → Means base old registers s → slot registers from ≡ Some h → place_seen old.heap.cells old.seat.log h.place
-      ≡ Some c → new.heap ≡ old.heap → Given old new (sources.Frame h.place) c given
+      ≡ Some c → new.heap ≡ old.heap → GivenHandle old new (sources.Frame h.place) c given
       → (reference : Reference) × (slice_index_or s.registers from None ≡ Some reference) × MeansBesides base new
       registers s given reference
   means_retained base old new registers s from c h given means is at same gives =
@@ -242,7 +245,7 @@ module _ {A : Type 0} where
   pub means_small : (base : ℕ) (old new : FrameSeen A) (registers : List (Option HandleSeen)) (s : State A) (number : ℤ)
       (c : ℕ) (given : HandleSeen)
       → Means base old registers s → small_cell number ≡ Some c → new.heap ≡ old.heap
-      → Given old new (sources.Immortal c) c given
+      → GivenHandle old new (sources.Immortal c) c given
       → MeansBesides base new registers s given (references.Small number)
   means_small base old new registers s number c given means is same gives = record {
     cells = means.cells;

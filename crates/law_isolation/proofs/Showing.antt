@@ -5,7 +5,7 @@ use Rattle.std.proofs.Common.{Some, None, IfSome, slice_get, ◌⊎◌, inl, inr
 use Rattle.std.proofs.lemmas.Bool.{cases_eq, eq-eqb, ne_eqb, cond-true, cond-false}
 use Rattle.std.proofs.lemmas.List.{length-set, get_or-set_same, get_or-set_other}
 use Rattle.std.proofs.lemmas.Option.{slice_get-get_or, slice_get_within, get_or_from_slice_get}
-use Rattle.brc_count.specs.law.rule.declared.told.Told.{Told}
+use Rattle.brc_count.specs.law.rule.declared.told.LogItem.{LogItem}
 use Rattle.brc_count.specs.Frames.{FrameSeen, HandleSeen}
 use Rattle.brc_count.specs.Locking.{cell_in}
 use Rattle.brc_handles.specs.Handles.{slot}
@@ -13,7 +13,7 @@ use Rattle.brc_meaning.specs.declared.reference.Reference.{Reference}
 use Rattle.brc_meaning.specs.declared.object.Object.{Object}
 use Rattle.brc_meaning.specs.declared.state.State.{State}
 use Rattle.brc_meaning.specs.Wholes.{Each}
-use Rattle.law_isolation.specs.Means.{cell_meant, contents_meant, IsMeant, HasAt, HeldAs, LivesAt, Lives, Shows}
+use Rattle.law_isolation.specs.Means.{cell_meant, contents_meant, IsMeant, HasAt, HeldAs, LivesAt, Lives, ShowsState}
 use Rattle.law_isolation.specs.Calls.{with_objects}
 use Rattle.law_isolation.proofs.Left_Alone.{Leaves, Replaces, LeavesAll, ReplacesIn}
 
@@ -34,7 +34,7 @@ module _ {X : Type 0} where
       ∙ ap Some (get_or-set_other xs i j x other off) ∙ ap Some (get_or_from_slice_get xs j other other is)
 
 module _ {A : Type 0} where
-  pub lives_left : {n m : ℕ} {before log : List Told} (cells : ℕ → ℕ) (part : ℕ → Bool) (made : List (Object A))
+  pub lives_left : {n m : ℕ} {before log : List LogItem} (cells : ℕ → ℕ) (part : ℕ → Bool) (made : List (Object A))
       → Leaves n before m log → Lives n before cells part made → Lives m log cells part made
   lives_left cells part made leaves lives = record {
     there = λ place is. (let at = lives.there place is in record {
@@ -47,7 +47,7 @@ module _ {A : Type 0} where
     apart = lives.apart;
   }
 
-  module _ (n m : ℕ) (before log : List Told) (cells : ℕ → ℕ) (part : ℕ → Bool) (made : List (Object A))
+  module _ (n m : ℕ) (before log : List LogItem) (cells : ℕ → ℕ) (part : ℕ → Bool) (made : List (Object A))
       (lives : Lives n before cells part made)
       (place : ℕ) (object : Object A) (in_part : part place ≡ true) (leads : Each (IsMeant part) object)
       (replaces : Replaces n before m log (cells place) (contents_meant cells object)) where
@@ -110,8 +110,8 @@ module _ {A : Type 0} where
         ∙ ap (cell_in old) (sym same) ∙ has.cell in absurd (cc))
 
   module _ (base : ℕ) (cells : ℕ → ℕ) (part : ℕ → Bool) (old new : FrameSeen A) (registers : List (Option HandleSeen))
-      (s : State A) (shows : Shows base cells part old registers s) where
-    pub shows_left : LeavesAll old new → KeepsPlacesOf old new registers → Shows base cells part new registers s
+      (s : State A) (shows : ShowsState base cells part old registers s) where
+    pub shows_left : LeavesAll old new → KeepsPlacesOf old new registers → ShowsState base cells part new registers s
     shows_left leaves places = record {
       lives = lives_left cells part s.objects leaves shows.lives;
       held = λ r. held_kept old new cells part (slot registers r) (get_or s.registers r None) (places r) (shows.held r);
@@ -122,7 +122,7 @@ module _ {A : Type 0} where
 
     pub shows_replaced : (place : ℕ) (object : Object A) → part place ≡ true → Each (IsMeant part) object
         → ReplacesIn old new (cells place) (contents_meant cells object) → KeepsPlacesOf old new registers
-        → Shows base cells part new registers (with_objects (set s.objects place object) s)
+        → ShowsState base cells part new registers (with_objects (set s.objects place object) s)
     shows_replaced place object in_part leads replaces places = record {
       lives = lives_replaced old.heap.cells new.heap.cells old.seat.log new.seat.log cells part s.objects shows.lives
           place object in_part leads replaces;

@@ -10,8 +10,8 @@ use Rattle.brc_count.specs.law.world.declared.event.Step.TheVariants.{Lock, Unlo
 use Rattle.brc_words.specs.declared.limits.TheConstants.{FIRST_MORTAL}
 use Rattle.brc_count.specs.law.rule.declared.contents.Contents.{Contents}
 use Rattle.brc_count.specs.law.rule.declared.told.Moved.TheVariants as moves
-use Rattle.brc_count.specs.law.rule.declared.told.Told.{Told}
-use Rattle.brc_count.specs.law.rule.declared.told.Told.TheVariants.{Did}
+use Rattle.brc_count.specs.law.rule.declared.told.LogItem.{LogItem}
+use Rattle.brc_count.specs.law.rule.declared.told.LogItem.TheVariants.{Stepped}
 use Rattle.brc_count.specs.law.rule.Seen.{part_seen, counts_seen}
 use Rattle.brc_count.specs.Frames.{FrameSeen, HandleSeen, CountsUp, place_seen}
 use Rattle.brc_count.specs.Locking.{cell_in}
@@ -25,7 +25,7 @@ use Rattle.law_isolation.proofs.Left_Alone.{lock_leaves, unlock_replaces, keep_l
 use Rattle.law_isolation.proofs.Left_Alone.{on_frame, off_frame, up_leaves, counts_here}
 
 -- a payload that is what it was
-pub replaces_same : {n m : ℕ} {before log : List Told} (cell : ℕ) (found : Contents) → Leaves n before m log
+pub replaces_same : {n m : ℕ} {before log : List LogItem} (cell : ℕ) (found : Contents) → Leaves n before m log
     → payloads_of n before cell ≡ Some found
     → Replaces n before m log cell found
 replaces_same {n = n} {m = m} {before = before} {log = log} cell found leaves is =
@@ -38,10 +38,10 @@ replaces_same {n = n} {m = m} {before = before} {log = log} cell found leaves is
           ∙ sym (cond-true (eqb cell c) (Some found) (payloads_of n before c) on)
     ])
 
-module _ (n : ℕ) (log : List Told) (k cell : ℕ) (found : Contents) (there : place_seen n log k ≡ Some cell) where
+module _ (n : ℕ) (log : List LogItem) (k cell : ℕ) (found : Contents) (there : place_seen n log k ≡ Some cell) where
   -- the log with the locking
-  abbrev locked_log : List Told
-  locked_log = Did (Lock k) 0 (moves.Found cell found) ∷ log
+  abbrev locked_log : List LogItem
+  locked_log = Stepped (Lock k) 0 (moves.Found cell found) ∷ log
 
   private_still : (payload : Contents) → payloads_of n log cell ≡ Some payload → private_seen n locked_log cell ≡ true
   private_still payload is =
@@ -49,7 +49,7 @@ module _ (n : ℕ) (log : List Told) (k cell : ℕ) (found : Contents) (there : 
       ((lock_leaves n log k 0 cell found).payloads cell ∙ is)).0
 
   turn_replaces : (change : Change) (put payload : Contents) → payloads_of n log cell ≡ Some payload
-      → Replaces n log n (Did (Unlock change) 0 (moves.Put cell put) ∷ locked_log) cell put
+      → Replaces n log n (Stepped (Unlock change) 0 (moves.Put cell put) ∷ locked_log) cell put
   turn_replaces change put payload is =
       replaces_on (lock_leaves n log k 0 cell found)
       (unlock_replaces n locked_log change 0 cell put
@@ -58,7 +58,7 @@ module _ (n : ℕ) (log : List Told) (k cell : ℕ) (found : Contents) (there : 
       (private_still payload is))
 
   turn_leaves : FindsOwn n log cell found
-      → Leaves n log n (Did (Unlock changes.Keep) 0 (moves.Put cell found) ∷ locked_log)
+      → Leaves n log n (Stepped (Unlock changes.Keep) 0 (moves.Put cell found) ∷ locked_log)
   turn_leaves finds =
       leaves_on (lock_leaves n log k 0 cell found)
       (keep_leaves n locked_log 0 cell found
@@ -85,7 +85,8 @@ module _ {A : Type 0} where
       → OwnLog new.heap.cells new.seat.log
       → Changes old new k found change put → Turns old new k found put
   changes_turn old new k found put change own did =
-      let log : List Told = Did (Unlock change) 0 (moves.Put did.cell put) ∷ Did (Lock k) 0 (moves.Found did.cell found)
+      let log : List LogItem = Stepped (Unlock change) 0 (moves.Put did.cell put) ∷ Stepped (Lock k) 0
+      (moves.Found did.cell found)
       ∷ old.seat.log in
       let own_here : OwnLog old.heap.cells log = off_frame old new log OwnLog did.keeps.heap did.events own in
       record {
@@ -100,11 +101,13 @@ module _ {A : Type 0} where
 
   kept_looks : (old new : FrameSeen A) (k cell : ℕ) (found : Contents) → OwnLog new.heap.cells new.seat.log
       → new.heap ≡ old.heap → cell_in old k ≡ Some cell
-      → new.seat.log ≡ Did (Unlock changes.Keep) 0 (moves.Put cell found) ∷ Did (Lock k) 0 (moves.Found cell found)
+      → new.seat.log ≡ Stepped (Unlock changes.Keep) 0 (moves.Put cell found) ∷ Stepped (Lock k) 0
+      (moves.Found cell found)
       ∷ old.seat.log
       → LooksOn old new k found
   kept_looks old new k cell found own heap of_place events =
-      let log : List Told = Did (Unlock changes.Keep) 0 (moves.Put cell found) ∷ Did (Lock k) 0 (moves.Found cell found)
+      let log : List LogItem = Stepped (Unlock changes.Keep) 0 (moves.Put cell found) ∷ Stepped (Lock k) 0
+      (moves.Found cell found)
       ∷ old.seat.log in
       let own_here : OwnLog old.heap.cells log = off_frame old new log OwnLog heap events own in
       record {
@@ -126,16 +129,16 @@ module _ {A : Type 0} where
 
   -- counting up is one item
   up_item : (old new : FrameSeen A) (source : Source) (k c : ℕ) → CountsUp old new source k c
-      → (x : Told) × (new.seat.log ≡ x ∷ old.seat.log)
+      → (x : LogItem) × (new.seat.log ≡ x ∷ old.seat.log)
   up_item old new source k c counts = elim (cases_lt c FIRST_MORTAL) [
-    | inl fixed ↦ (Did (LocalUp source k) (counts.immortal fixed).found moves.Nothing, (counts.immortal fixed).told)
+    | inl fixed ↦ (Stepped (LocalUp source k) (counts.immortal fixed).found moves.Nothing, (counts.immortal fixed).told)
     | inr mortal ↦ elim (counts_here old.heap.cells old.heap.local_limit old.seat.log c) [
       | inl here ↦ (
-        Did (LocalUp source k) (counts_seen old.heap.cells old.seat.log c + 1) moves.Nothing,
+        Stepped (LocalUp source k) (counts_seen old.heap.cells old.seat.log c + 1) moves.Nothing,
         counts.own mortal here,
       )
       | inr elsewhere ↦ (
-        Did (SharedUp source k) (counts.shared mortal elsewhere).found moves.Nothing,
+        Stepped (SharedUp source k) (counts.shared mortal elsewhere).found moves.Nothing,
         (counts.shared mortal elsewhere).told,
       )
     ]
@@ -147,12 +150,12 @@ module _ {A : Type 0} where
   shares_turn old new k call given own did =
       let n : ℕ = old.heap.cells in
       let up = up_item did.locked did.shared (sources.Entry did.index) given.place did.entry did.gives.counted in
-      let lock : Told = Did (Lock k) 0 (moves.Found did.cell did.found) in
-      let last : Told = Did (Unlock changes.Keep) 0 (moves.Put did.cell did.found) in
+      let lock : LogItem = Stepped (Lock k) 0 (moves.Found did.cell did.found) in
+      let last : LogItem = Stepped (Unlock changes.Keep) 0 (moves.Put did.cell did.found) in
       let shared_log : did.shared.seat.log ≡ up.0 ∷ lock ∷ old.seat.log = up.1
-      ∙ ap (λ (log : List Told). up.0 ∷ log) did.locks in
+      ∙ ap (λ (log : List LogItem). up.0 ∷ log) did.locks in
       let events : new.seat.log ≡ last ∷ up.0 ∷ lock ∷ old.seat.log = did.unlocks
-      ∙ ap (λ (log : List Told). last ∷ log) shared_log in
+      ∙ ap (λ (log : List LogItem). last ∷ log) shared_log in
       let own_here : OwnLog n (last ∷ up.0 ∷ lock ∷ old.seat.log) =
       off_frame old new (last ∷ up.0 ∷ lock ∷ old.seat.log) OwnLog did.keeps.heap events own in
       let finds : FindsOwn n old.seat.log did.cell did.found = own_here.0.0.1 in

@@ -2,7 +2,7 @@
 -- instruction.
 use Rattle.std.specs.Prelude.{◌≡◌, ℕ, ℤ, false, List, Option, Some, None, Result, Ok, Err, MatchResult, MatchOption}
 use Rattle.brc_words.specs.declared.fault.Fault.{Fault}
-use Rattle.brc_count.specs.declared.handed.Handed.{Handed}
+use Rattle.brc_count.specs.declared.handed.HandedBack.{HandedBack}
 use Rattle.brc_count.specs.Frames.{FrameSeen, HandleSeen}
 use Rattle.brc_script.specs.declared.instruction.Instruction.{Instruction}
 use Rattle.brc_meaning.specs.declared.reference.Reference.{Reference}
@@ -14,7 +14,7 @@ use Rattle.brc_meaning.specs.States.{held, asked, calling}
 use Rattle.brc_meaning.specs.Steps.{after, integer_sum}
 use Rattle.brc_count.specs.law.living.Living.{OwnLog}
 use Rattle.law_isolation.specs.Means.{Means, MeansBesides}
-use Rattle.law_isolation.specs.Goes.{is_want, Goes}
+use Rattle.law_isolation.specs.Goes.{is_want, LedAsMeant}
 use Rattle.law_isolation.specs.Calls.{with_objects}
 
 module _ {A : Type 0} where
@@ -39,18 +39,18 @@ module _ {A : Type 0} where
       pub means : MeansBesides base new registers (with_objects made s) given reference
 
     -- a refusal, other than for want, is the plain one, and the value's handle has it still
-    abbrev pub HandsBack : {V : Type 0} → HandleSeen → Reference → Handed V → Type 0
+    abbrev pub HandsBack : {V : Type 0} → HandleSeen → Reference → HandedBack V → Type 0
     HandsBack value reference handed =
         is_want handed.fault ≡ false → (asking call container s ≡ Err handed.fault) × MeansBesides base new registers s
         value reference
 
-    abbrev pub TakesAsked : {V : Type 0} → HandleSeen → Reference → Result (Unit {0}) (Handed V) → Type 0
+    abbrev pub TakesAsked : {V : Type 0} → HandleSeen → Reference → Result (Unit {0}) (HandedBack V) → Type 0
     TakesAsked value reference result = MatchResult result (λ _. AsksNone) (HandsBack value reference)
 
-    abbrev pub SwapsAsked : {V : Type 0} → HandleSeen → Reference → Result HandleSeen (Handed V) → Type 0
+    abbrev pub SwapsAsked : {V : Type 0} → HandleSeen → Reference → Result HandleSeen (HandedBack V) → Type 0
     SwapsAsked value reference result = MatchResult result AsksOne (HandsBack value reference)
 
-    abbrev pub PutsAsked : {V : Type 0} → HandleSeen → Reference → Result (Option HandleSeen) (Handed V) → Type 0
+    abbrev pub PutsAsked : {V : Type 0} → HandleSeen → Reference → Result (Option HandleSeen) (HandedBack V) → Type 0
     PutsAsked value reference result =
         MatchResult result (λ answer. MatchOption answer AsksNone AsksOne) (HandsBack value reference)
 
@@ -73,4 +73,4 @@ module _ {A : Type 0} where
       → Result (Unit {0}) Fault → Type 0
   Follows old new before now instruction answer =
       (base : ℕ) (s : State A) → OwnLog new.heap.cells new.seat.log → Means base old before s
-      → Goes base new now s (after instruction s) answer
+      → LedAsMeant base new now s (after instruction s) answer

@@ -17,9 +17,9 @@ is_want _ = false
 module _ {A : Type 0} where
   -- The instruction led where its plain meaning leads; or it was refused as that is, and nothing changed, unless
   -- something was wanting.
-  abbrev pub Goes : ℕ → FrameSeen A → List (Option HandleSeen) → State A → Result (State A) Fault
+  abbrev pub LedAsMeant : ℕ → FrameSeen A → List (Option HandleSeen) → State A → Result (State A) Fault
       → Result (Unit {0}) Fault → Type 0
-  Goes base frame registers s meant answer = MatchResult answer
+  LedAsMeant base frame registers s meant answer = MatchResult answer
       (λ _. (next : State A) × (meant ≡ Ok next) × Means base frame registers next)
       (λ fault. is_want fault ≡ false → (meant ≡ Err fault) × Means base frame registers s)
 

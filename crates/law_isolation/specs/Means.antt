@@ -5,7 +5,7 @@ use Rattle.std.specs.Prelude.{Some, None, is_some, slice_get, slice_index_or}
 use Rattle.brc_words.specs.declared.key.Key.{Key}
 use Rattle.brc_count.specs.law.rule.declared.contents.Contents.{Contents}
 use Rattle.brc_count.specs.law.rule.declared.contents.Contents.TheVariants as contents
-use Rattle.brc_count.specs.law.rule.declared.told.Told.{Told}
+use Rattle.brc_count.specs.law.rule.declared.told.LogItem.{LogItem}
 use Rattle.brc_count.specs.table.Shown.{plain_key}
 use Rattle.brc_count.specs.Frames.{FrameSeen, HandleSeen, place_seen, ledger_seen}
 use Rattle.brc_handles.specs.Handles.{slot}
@@ -49,7 +49,7 @@ module _ {A : Type 0} where
   -- ---- objects
 
   -- The object lies in its cell, which is private to the log's thread and isn't dead; and what it refers to lives too.
-  pub record LivesAt (n : ℕ) (log : List Told) (cells : ℕ → ℕ) (part : ℕ → Bool) (made : List (Object A))
+  pub record LivesAt (n : ℕ) (log : List LogItem) (cells : ℕ → ℕ) (part : ℕ → Bool) (made : List (Object A))
       (place : ℕ) : Type 0 where
     pub object : Object A
     pub stands : slice_get made place ≡ Some object
@@ -58,25 +58,26 @@ module _ {A : Type 0} where
     pub leads : Each (IsMeant part) object
 
   -- so of each object of the part, and no two have one cell
-  pub record Lives (n : ℕ) (log : List Told) (cells : ℕ → ℕ) (part : ℕ → Bool) (made : List (Object A)) : Type 0 where
+  pub record Lives (n : ℕ) (log : List LogItem) (cells : ℕ → ℕ) (part : ℕ → Bool)
+      (made : List (Object A)) : Type 0 where
     pub there : (place : ℕ) → part place ≡ true → LivesAt n log cells part made place
     pub apart : (p q : ℕ) → part p ≡ true → part q ≡ true → cells p ≡ cells q → p ≡ q
 
 -- what is left of the part once some objects have ended: those whose cells are still private, and aren't dead
-abbrev pub left : ℕ → List Told → (ℕ → ℕ) → (ℕ → Bool) → ℕ → Bool
+abbrev pub left : ℕ → List LogItem → (ℕ → ℕ) → (ℕ → Bool) → ℕ → Bool
 left n log cells part place =
     part place && (is_some (payloads_of n log (cells place)) && not (is_dead n log (cells place)))
 
 -- ---- references
 
 -- the place of the frame has what the reference means, which lives
-pub record HasAt (n : ℕ) (log : List Told) (cells : ℕ → ℕ) (part : ℕ → Bool) (k : ℕ)
+pub record HasAt (n : ℕ) (log : List LogItem) (cells : ℕ → ℕ) (part : ℕ → Bool) (k : ℕ)
     (reference : Reference) : Type 0 where
   pub cell : place_seen n log k ≡ Some (cell_meant cells reference)
   pub meant : IsMeant part reference
 
 -- a register has a handle to what the plain one refers to; or both are empty
-abbrev pub HeldAs : ℕ → List Told → (ℕ → ℕ) → (ℕ → Bool) → Option HandleSeen → Option Reference → Type 0
+abbrev pub HeldAs : ℕ → List LogItem → (ℕ → ℕ) → (ℕ → Bool) → Option HandleSeen → Option Reference → Type 0
 HeldAs n log cells part None None = Unit {0}
 HeldAs n log cells part (Some handle) (Some reference) = HasAt n log cells part handle.place reference
 HeldAs n log cells part _ _ = ⊥
@@ -90,7 +91,7 @@ SIXTEEN = 16
 module _ {A : Type 0} where
   -- The frame and the registers show the state, with these cells for objects, of which those of the part live. `base`
   -- is how many objects the thread had made when the section began.
-  pub record Shows (base : ℕ) (cells : ℕ → ℕ) (part : ℕ → Bool) (frame : FrameSeen A)
+  pub record ShowsState (base : ℕ) (cells : ℕ → ℕ) (part : ℕ → Bool) (frame : FrameSeen A)
       (registers : List (Option HandleSeen)) (s : State A) : Type 0 where
     pub lives : Lives frame.heap.cells frame.seat.log cells part s.objects
     pub held : (r : ℕ) → HeldAs frame.heap.cells frame.seat.log cells part (slot registers r)
@@ -103,12 +104,12 @@ module _ {A : Type 0} where
   pub record Means (base : ℕ) (frame : FrameSeen A) (registers : List (Option HandleSeen)) (s : State A) : Type 0 where
     pub cells : ℕ → ℕ
     pub part : ℕ → Bool
-    pub shows : Shows base cells part frame registers s
+    pub shows : ShowsState base cells part frame registers s
 
   -- so, and beside the registers one handle more has what the reference means
   pub record MeansBesides (base : ℕ) (frame : FrameSeen A) (registers : List (Option HandleSeen)) (s : State A)
       (loose : HandleSeen) (reference : Reference) : Type 0 where
     pub cells : ℕ → ℕ
     pub part : ℕ → Bool
-    pub shows : Shows base cells part frame registers s
+    pub shows : ShowsState base cells part frame registers s
     pub has : HasAt frame.heap.cells frame.seat.log cells part loose.place reference

@@ -7,7 +7,7 @@ ghost use Rattle.brc_words.specs.declared.fault.Fault.TheVariants as faults;
 ghost use Rattle.brc_words.specs.declared.key.Key.{Key as key};
 ghost use Rattle.brc_words.specs.declared.kind.Kind.{Kind as kind};
 ghost use Rattle.brc_words.specs.declared.kind.Kind.TheVariants as kinds;
-ghost use Rattle.brc_count.specs.declared.handed.Handed.{Handed as handed};
+ghost use Rattle.brc_count.specs.declared.handed.HandedBack.{HandedBack as handed};
 ghost use Rattle.brc_count.specs.Frames.{FrameSeen as frame, HandleSeen as handle};
 ghost use Rattle.brc_handles.specs.Handles.{slot, IsApart};
 ghost use Rattle.brc_containers.specs.Called.{Late};

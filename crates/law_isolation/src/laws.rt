@@ -4,7 +4,7 @@
 ghost use Rattle.std.specs.Prelude.{◌≡◌, ◌<◌, ℕ, ℤ, List, Option, Some, None, length, slice_set, slice_index_or};
 ghost use Rattle.brc_count.specs.law.world.declared.event.Source.TheVariants as sources;
 ghost use Rattle.brc_count.specs.law.rule.declared.contents.Contents.TheVariants as contents;
-ghost use Rattle.brc_count.specs.Frames.{FrameSeen as frame, HandleSeen as handle, Given, ReleasedOf, Turns};
+ghost use Rattle.brc_count.specs.Frames.{FrameSeen as frame, HandleSeen as handle, GivenHandle, ReleasedOf, Turns};
 ghost use Rattle.brc_count.specs.Frames.{KeepsHandles, IsAsBefore, place_seen, ledger_seen};
 ghost use Rattle.brc_count.specs.Making.{Made};
 ghost use Rattle.brc_count.specs.Polling.{Polled};
@@ -73,7 +73,7 @@ pub fn handles_have_what_they_are_given<A>()
     ensures retained { (base : ℕ) (old new : frame A) (registers : List (Option handle)) (s : state A)
         (from c : ℕ) (h given : handle) → Means base old registers s → slot registers from ≡ Some h
         → place_seen old.heap.cells old.seat.log h.place ≡ Some c → new.heap ≡ old.heap
-        → Given old new (sources.Frame h.place) c given
+        → GivenHandle old new (sources.Frame h.place) c given
         → (r : reference) × (slice_index_or s.registers from None ≡ Some r)
         × MeansBesides base new registers s given r }
     ensures made { (base : ℕ) (old new : frame A) (registers : List (Option handle)) (s : state A)

@@ -30,9 +30,9 @@ use Rattle.brc_words.specs.declared.state.State.{State}
 use Rattle.brc_words.specs.declared.state.State.TheVariants as states
 use Rattle.law_world.specs.Sound.{IsSound, held, gripped, offering, offered, rests, WorklistFits, asks_least}
 use Rattle.law_world.specs.Sound.{is_threads}
-use Rattle.law_lasting.specs.Staying.{IsAnothers, SameOwn, Owns}
+use Rattle.law_lasting.specs.Staying.{IsAnothers, SameOwn, IsOwning}
 use Rattle.law_known.specs.Items.{Local, word_in, told_at, Item, ItemRun, AreItems, world_of_items, own, part_of}
-use Rattle.law_known.specs.Items.{IsPart, IsTold, told}
+use Rattle.law_known.specs.Items.{IsPart, IsNumberFound, told}
 use Rattle.law_known.specs.Counts.{own_count, counted_by, counted_apart, counts_by, counts_of}
 use Rattle.law_world.proofs.Asking.{May, OnCell, on_cell, Mine, mine}
 use Rattle.law_world.proofs.Changes.{read_there, read_here}
@@ -168,7 +168,7 @@ others_count h e t c reached ok others mortal =
                 same_count t _ _ (cell_at h c) (cell_at (after h e) c) stage (ap (λ (x : Cell). x.owner) same)
                 (ap (λ (x : Cell). x.local) same)
             | inr off ↦
-                let owns : Owns (after h e) t c (cell_at h c).local =
+                let owns : IsOwning (after h e) t c (cell_at h c).local =
                 owns_lasts t c (cell_at h c).local h e reached ok others
                 (record {
                   active = ap is_active own_cell.active;
@@ -206,7 +206,7 @@ mine_now t g x owner active = ap (λ o. is_owned_by t o && is_active g) owner �
 
 -- what the step makes of the cell's count
 own_cell : (h : Heap) (t : ℕ) (s : Step) (number c : ℕ) → IsSound h → May h t s → target_at h t s ≡ Some c
-    → IsTold h t s number → FIRST_MORTAL ≤ c
+    → IsNumberFound h t s number → FIRST_MORTAL ≤ c
     → own_count t (row_at h t).stage (cell_after t s c (cell_at h c)) ≡ counted_by s number
     (own_count t (row_at h t).stage (cell_at h c))
 own_cell h t (Claim d) number c sound may named told mortal =
@@ -325,7 +325,7 @@ apart_count h t d (Reopen k) sound may mortal =
 apart_count h t d _ sound may mortal = refl
 
 step_count : (h : Heap) (t : ℕ) (s : Step) (o : Option ℕ) (number d : ℕ) (counts : ℕ → ℕ) → IsSound h → May h t s
-    → target_at h t s ≡ o → IsTold h t s number → FIRST_MORTAL ≤ d
+    → target_at h t s ≡ o → IsNumberFound h t s number → FIRST_MORTAL ≤ d
     → own_count t (row_at h t).stage (cell_at h d) ≡ counts d
     → own_count t (row_at (after_target h t s o) t).stage (cell_at (after_target h t s o) d)
     ≡ counts_by s number o counts d

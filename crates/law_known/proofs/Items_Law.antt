@@ -20,7 +20,7 @@ use Rattle.law_world.specs.Holding.{lives}
 use Rattle.law_world.specs.Sound.{IsSound, WorklistFits}
 use Rattle.law_lasting.specs.Staying.{IsAnothers, SameOwn}
 use Rattle.law_known.specs.Items.{Did, ItemRun, world_of_items, AreItems, own, found, Part, new_part, part_after}
-use Rattle.law_known.specs.Items.{part_of, meant, IsPart, IsTold}
+use Rattle.law_known.specs.Items.{part_of, meant, IsPart, IsNumberFound}
 use Rattle.law_world.proofs.Asking.{May}
 use Rattle.law_world.proofs.Naming.{one-true}
 use Rattle.law_world.proofs.Counting.{marked_unheld}
@@ -130,7 +130,7 @@ now_is h t part is =
     ∙ ap (λ ws. record part { worklist = ws }) is.work_is
 
 own_part : (h : Heap) (t : ℕ) (s : Step) (number : ℕ) (entries : List ℕ) (part : Part) → IsSound h → QueuesFit h
-    → May h t s → IsTold h t s number → entries ≡ found h t s → IsPart h t part
+    → May h t s → IsNumberFound h t s number → entries ≡ found h t s → IsPart h t part
     → IsPart (after_target h t s (target_at h t s)) t (part_after (length h.cells) part (Did s number entries))
 own_part h t s number entries part sound fit may told_is found_is is =
     let w : Heap = after_target h t s (target_at h t s) in

@@ -10,7 +10,8 @@ use Rattle.law_world.specs.Heap.{Heap, cell_at}
 use Rattle.law_world.specs.Steps.{enabled, is_shut}
 use Rattle.law_world.specs.Runs.{IsRun, world_after}
 use Rattle.law_known.specs.Items.{Item, Did, Saw, Lost, ItemRun, with_event, events_of, world_of_items, MayCome}
-use Rattle.law_known.specs.Items.{AreItems, told, found, Part, part_after, IsTold, spelled, ToldBy, Queue, closing_bit}
+use Rattle.law_known.specs.Items.{AreItems, told, found, Part, part_after, IsNumberFound, spelled, ToldBy, Queue}
+use Rattle.law_known.specs.Items.{closing_bit}
 
 -- ---- what a step is told, where it meets a closed word
 
@@ -19,7 +20,7 @@ pub closed_word : (h : Heap) (d : ℕ) → is_shut h d ≡ true
 closed_word h d shut = omega (arith, ap closing_bit shut)
 
 -- the number that a step is told is one that it may be told
-pub told_is_told : (h : Heap) (t : ℕ) (s : Step) → IsTold h t s (told h t s)
+pub told_is_told : (h : Heap) (t : ℕ) (s : Step) → IsNumberFound h t s (told h t s)
 told_is_told h t (Enqueue d) = by_shut (is_shut h d) refl
   where
     by_shut : (b : Bool) → is_shut h d ≡ b → ToldBy b (told h t (Enqueue d)) (told h t (Enqueue d))
@@ -28,7 +29,8 @@ told_is_told h t (Enqueue d) = by_shut (is_shut h d) refl
 told_is_told h t _ = refl
 
 -- a thread's part goes on alike with each of the numbers that its step may be told
-pub told_alike : (h : Heap) (t cells : ℕ) (s : Step) (number : ℕ) (entries : List ℕ) (part : Part) → IsTold h t s number
+pub told_alike : (h : Heap) (t cells : ℕ) (s : Step) (number : ℕ) (entries : List ℕ) (part : Part)
+    → IsNumberFound h t s number
     → part_after cells part (Did s (told h t s) entries) ≡ part_after cells part (Did s number entries)
 told_alike h t cells (Enqueue d) number entries part is = by_shut (is_shut h d) refl is
   where

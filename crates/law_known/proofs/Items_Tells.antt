@@ -15,7 +15,7 @@ use Rattle.law_world.specs.Steps.{gathered_in, registered_again}
 use Rattle.law_world.specs.Runs.{world_after, IsReached}
 use Rattle.law_lasting.specs.Staying.{is_about, IsAnothers}
 use Rattle.law_known.specs.Items.{Word, Item, Did, Saw, Lost, ItemRun, with_event, events_of, world_of_items, MayCome}
-use Rattle.law_known.specs.Items.{AreItems, is_start, is_used, begins_with, own, IsTold, Shows, found}
+use Rattle.law_known.specs.Items.{AreItems, is_start, is_used, begins_with, own, IsNumberFound, WordShows, found}
 use Rattle.std.specs.Cmp.Derive.{both_true}
 use Rattle.std.proofs.lemmas.List.{length-set}
 use Rattle.law_world.proofs.Asking.{May, may_parts}
@@ -38,12 +38,12 @@ pub record Follows (t cells : ℕ) (P : Heap → List Item → Type 0) : Type 0 
       → P (after h e) log
   pub owns : (h : Heap) (s : Step) (number : ℕ) (entries : List ℕ) (log : List Item) → IsReached h
       → length h.cells ≡ cells → QueuesFit h → May h t s
-      → IsTold h t s number → entries ≡ found h t s → P h log
+      → IsNumberFound h t s number → entries ≡ found h t s → P h log
       → P (after_target h t s (target_at h t s)) (Did s number entries ∷ log)
   pub gathers : (h : Heap) (u : ℕ) (log : List Item) → P h log → P (gathered_in h u) log
-  pub saw : (h : Heap) (word : Word) (number : ℕ) (log : List Item) → IsReached h → Shows h word number → P h log
+  pub saw : (h : Heap) (word : Word) (number : ℕ) (log : List Item) → IsReached h → WordShows h word number → P h log
       → P h (Saw word number ∷ log)
-  pub lost : (h : Heap) (word : Word) (number : ℕ) (log : List Item) → IsReached h → Shows h word number → P h log
+  pub lost : (h : Heap) (word : Word) (number : ℕ) (log : List Item) → IsReached h → WordShows h word number → P h log
       → P h (Lost word number ∷ log)
 
 -- the thread's items after one more of some thread's; its number may have been used before
@@ -165,7 +165,7 @@ module _ (t cells : ℕ) (P : Heap → List Item → Type 0) (follows : Follows 
         | inl same ↦ subst (P w) (sym (mine_too used t u item log apart.0 (eq-eqb u t same)))
             (subst (λ v. P (after_target h v s (target_at h v s)) (item ∷ log)) (sym same)
             (follows.owns h s number entries log reached size fit (subst (λ v. May h v s) same may)
-            (subst (λ v. IsTold h v s number) same comes.1) (comes.2 ∙ ap (λ v. found h v s) same) was))
+            (subst (λ v. IsNumberFound h v s number) same comes.1) (comes.2 ∙ ap (λ v. found h v s) same) was))
         | inr other ↦ subst (P w) (sym (not_mine used t u item log apart.0 (ne_eqb u t other)))
             (subst (λ v. P v log) is
             (follows.others h (record { thread = u; step = s }) log reached comes.0

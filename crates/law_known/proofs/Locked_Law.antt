@@ -19,7 +19,7 @@ use Rattle.law_world.specs.Sound.{IsSound}
 use Rattle.law_lasting.specs.Staying.{IsAnothers, SameOwn}
 use Rattle.law_known.specs.Items.{Did, ItemRun, AreItems, events_of, world_of_items, own, found, found_at, part_of}
 use Rattle.law_known.specs.Items.{IsPart}
-use Rattle.law_known.specs.Locked.{locked_on, locked_of, place_locked, HasLocked}
+use Rattle.law_known.specs.Locked.{locked_on, locked_of, place_locked, KnowsWhatIsLocked}
 use Rattle.law_world.proofs.Asking.{May, Vacant, vacant}
 use Rattle.law_world.proofs.Changes.{read_here}
 use Rattle.law_world.proofs.Framing.{place_at-filled_else}
@@ -203,7 +203,7 @@ pub locked_is_told : (cells limit : ℕ) (items : ItemRun) (t place : ℕ) (entr
     → AreItems (start_of cells limit) items
     → is_registered (world_of_items (start_of cells limit) items) t ≡ true
     → locked_of (own t items) ≡ Some (place, entries)
-    → HasLocked cells (world_of_items (start_of cells limit) items) t (own t items) place entries
+    → KnowsWhatIsLocked cells (world_of_items (start_of cells limit) items) t (own t items) place entries
 locked_is_told cells limit items t place entries options are there lock =
     let h : Heap = world_of_items (start_of cells limit) items in
     let reached : IsReached h = run_reached cells limit (events_of items) options

@@ -10,7 +10,7 @@ use Rattle.law_known.specs.Start.{start_of}
 use Rattle.law_world.specs.Heap.{Heap, cell_at, is_registered, AreOptions}
 use Rattle.law_world.specs.Steps.{target_at}
 use Rattle.law_world.specs.Runs.{IsReached}
-use Rattle.law_known.specs.Items.{Item, Word, Of, Owner, ItemRun, AreItems, world_of_items, own, Shows}
+use Rattle.law_known.specs.Items.{Item, Word, Of, Owner, ItemRun, AreItems, world_of_items, own, WordShows}
 use Rattle.law_known.specs.Owners_Seen.{is_owner_word, has_seen_owner}
 use Rattle.law_world.proofs.Reached.{reached_sound}
 use Rattle.law_lasting.proofs.Ranges_Law.{same_rows, registered_stays, reached_owners}
@@ -25,7 +25,7 @@ thread_spelled (owners.Claimed s) q is low few = absurd (omega (arith, is, few))
 thread_spelled owners.Free q is low few = absurd (omega (arith, is, few))
 
 -- a word of a cell in which nobody lives may have it too: it was registered
-found_registered : (h : Heap) (word : Word) (number q : ℕ) → IsReached h → Shows h word number
+found_registered : (h : Heap) (word : Word) (number q : ℕ) → IsReached h → WordShows h word number
     → (is_owner_word word && (number == q)) ≡ true → 0 < q → is_registered h q ≡ true
 found_registered h (Of Owner c) number q reached shows found low =
     both_true (lt-ltb 0 q low) (lt-ltb q (length h.rows)

@@ -19,7 +19,7 @@ use Rattle.law_world.specs.Runs.{IsReached}
 use Rattle.law_world.specs.Sound.{IsSound, held}
 use Rattle.law_lasting.specs.Staying.{rank}
 use Rattle.law_known.specs.Items.{Item, Did, Word, Of, Shared, ItemRun, AreItems, world_of_items, own, Part, part_of}
-use Rattle.law_known.specs.Items.{meant, IsPart, IsTold, Shows, shared_word, told_at}
+use Rattle.law_known.specs.Items.{meant, IsPart, IsNumberFound, WordShows, shared_word, told_at}
 use Rattle.law_known.specs.Risen.{drop_in, is_risen_word, is_shared_of, tells_risen, is_risen}
 use Rattle.law_world.proofs.Asking.{May}
 use Rattle.law_world.proofs.Dropping.{source_held, dropped_held}
@@ -87,7 +87,7 @@ Risen t cells h log = IsPart h t (part_of cells log) × ((drop : Dropped) (c : �
     → FIRST_MORTAL ≤ c → 1 ≤ rank (cell_at h c).state)
 
 -- a look at a shared word
-seen_risen : (h : Heap) (word : Word) (number c : ℕ) → Shows h word number
+seen_risen : (h : Heap) (word : Word) (number c : ℕ) → WordShows h word number
     → (is_shared_of c word && is_risen_word number) ≡ true → 1 ≤ rank (cell_at h c).state
 seen_risen h (Of Shared d) number c shows tells =
     let parts = and_parts (d == c) (is_risen_word number) tells in
@@ -99,7 +99,7 @@ seen_risen h _ number c shows tells = absurd (true≢false (sym tells))
 
 -- an own step that is told the shared word
 told_risen : (h : Heap) (t : ℕ) (s : Step) (number : ℕ) (entries : List ℕ) (part : Part) (c : ℕ) → IsReached h
-    → May h t s → IsTold h t s number → IsPart h t part → FIRST_MORTAL ≤ c
+    → May h t s → IsNumberFound h t s number → IsPart h t part → FIRST_MORTAL ≤ c
     → tells_risen part c (Did s number entries) ≡ true → (1 ≤ held h c) × (1 ≤ rank (cell_at h c).state)
 told_risen h t (SharedUp source k) number entries part c reached may told is mortal risen =
     let s : Step = SharedUp source k in

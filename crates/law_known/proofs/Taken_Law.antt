@@ -22,7 +22,8 @@ use Rattle.law_world.specs.Runs.{IsReached}
 use Rattle.law_world.specs.Sound.{IsSound, WorklistFits, held}
 use Rattle.law_lasting.specs.Staying.{IsAnothers, SameOwn}
 use Rattle.law_known.specs.Items.{Item, Did, ItemRun, MayCome, AreItems, events_of, world_of_items, own, part_of, meant}
-use Rattle.law_known.specs.Items.{IsPart, IsTold, found_at, finds, told, told_at, told_of, cell_told, has_without}
+use Rattle.law_known.specs.Items.{IsPart, IsNumberFound, found_at, finds, told, told_at, told_of, cell_told}
+use Rattle.law_known.specs.Items.{has_without}
 use Rattle.law_known.specs.Items.{has_after}
 use Rattle.law_known.specs.Taken.{Blocks, listed_at, cut, off, cut_by, taken_on, taken_by, taken_of}
 use Rattle.law_world.proofs.Asking.{May, may_parts, on_cell}
@@ -132,7 +133,7 @@ cut_says (Some (dropped.Work d)) blocks marks entries says q =
 
 -- what a step is told of its cell serves as the cell does
 told_alike : (h : Heap) (t : ℕ) (s : Step) (c number : ℕ) → IsSound h → QueuesFit h → May h t s
-    → target_at h t s ≡ Some c → IsTold h t s number
+    → target_at h t s ≡ Some c → IsNumberFound h t s number
     → (gone s (cell_told s number) ≡ gone s (cell_at h c))
     × (takes_block s (cell_told s number) ≡ takes_block s (cell_at h c))
 told_alike h t (Enqueue d) c number sound fit may named is = (refl, refl)
@@ -239,7 +240,7 @@ found_entries (Lock k) x entries old frees takes are = absurd (true≢false (sym
 found_entries s x entries old frees takes are = are ∙ ap (λ b. if b then old else []) takes
 
 own_taken : (h : Heap) (t : ℕ) (s : Step) (c number : ℕ) (entries : List ℕ) (blocks : Blocks) → IsReached h
-    → QueuesFit h → May h t s → target_at h t s ≡ Some c → IsTold h t s number
+    → QueuesFit h → May h t s → target_at h t s ≡ Some c → IsNumberFound h t s number
     → entries ≡ (if finds s (cell_at h c) then entries_at h c else []) → SaysMarks blocks (is_marked (worklist_at h t))
     (entries_at h)
     → SaysMarks (taken_by s number entries (Some c) blocks) (is_marked (worklist_at (stepped h t s c) t))
@@ -274,7 +275,7 @@ own_taken h t s c number entries blocks reached fit may named told are says q =
         ]
 
 target_taken : (h : Heap) (t : ℕ) (s : Step) (o : Option ℕ) (number : ℕ) (entries : List ℕ) (blocks : Blocks)
-    → IsReached h → QueuesFit h → May h t s → target_at h t s ≡ o → IsTold h t s number
+    → IsReached h → QueuesFit h → May h t s → target_at h t s ≡ o → IsNumberFound h t s number
     → entries ≡ found_at h s o → SaysMarks blocks (is_marked (worklist_at h t)) (entries_at h)
     → SaysMarks (taken_by s number entries o blocks) (is_marked (worklist_at (after_target h t s o) t))
     (entries_at (after_target h t s o))

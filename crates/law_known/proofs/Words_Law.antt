@@ -28,7 +28,7 @@ use Rattle.law_world.specs.Steps.{target_at, target_ok}
 use Rattle.law_lasting.specs.Ranges.{OwnerFits}
 use Rattle.law_known.specs.Free_Words.{is_free_cell, free_bits, ShowsOwner}
 use Rattle.law_known.specs.Items.{Field, Owner, Local, Shared, Mutex, Word, Of, Queue, NotifyWord, FreeWord, word_in}
-use Rattle.law_known.specs.Items.{field_of, same_field, works_on, IsWord, Shows, ShowsQueue}
+use Rattle.law_known.specs.Items.{field_of, same_field, works_on, IsWord, WordShows, ShowsQueue}
 use Rattle.law_world.proofs.Asking.{May, OnCell, on_cell, UntieWay, at_end, shut_out, handed_over, from_queue}
 use Rattle.law_world.proofs.Asking.{untie_way}
 use Rattle.law_world.proofs.Changes.{read_here, read_there}
@@ -370,7 +370,7 @@ notify_word h t _ None u other = refl
 -- a step changes the number of one word, and every other word shows what it showed
 pub others_shown : (h : Heap) (t : ℕ) (s : Step) (w : Word) (number : ℕ) → IsReached h → May h t s
     → IsWord (length h.cells) w → w ≢ works_on h t s (target_at h t s)
-    → Shows h w number → Shows (after_target h t s (target_at h t s)) w number
+    → WordShows h w number → WordShows (after_target h t s (target_at h t s)) w number
 others_shown h t s (Of Owner d) number reached may is other shows =
     subst (λ n. ShowsOwner n (cell_at (after_target h t s (target_at h t s)) d).owner number)
     (sym (same_rows h t s (target_at h t s)))

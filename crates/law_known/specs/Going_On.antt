@@ -42,7 +42,7 @@ known_of cells items = record {
 }
 
 -- with one more item, that is what the thread knows
-pub record GoesOn (cells : ℕ) (items : List Item) (item : Item) (now : Known) : Type 0 where
+pub record KnowsNext (cells : ℕ) (items : List Item) (item : Item) (now : Known) : Type 0 where
   pub part_is : part_of cells (item ∷ items) ≡ now.part
   pub counts_are : (c : ℕ) → counts_of cells (item ∷ items) c ≡ now.counts c
   pub blocks_are : taken_of cells (item ∷ items) ≡ now.blocks

@@ -127,19 +127,19 @@ ToldBy true word number = 9223372036854775808 ≤ number
 ToldBy false word number = number ≡ word
 
 -- the number is one that a thread's step may be told
-abbrev pub IsTold : Heap → ℕ → Step → ℕ → Type 0
-IsTold h t s number = ToldBy (meets_closed h s) (told h t s) number
+abbrev pub IsNumberFound : Heap → ℕ → Step → ℕ → Type 0
+IsNumberFound h t s number = ToldBy (meets_closed h s) (told h t s) number
 
 -- the number is one that may stand in the word; the words of a thread that isn't registered are 0, and open
 abbrev pub ShowsQueue : Bool → Bool → ℕ → ℕ → Type 0
 ShowsQueue false closed bits number = number ≡ 0
 ShowsQueue true closed bits number = ToldBy closed bits number
 
-abbrev pub Shows : Heap → Word → ℕ → Type 0
-Shows h (Queue t k) number = ShowsQueue (is_registered h t) (is_closed (row_at h t).stage k)
+abbrev pub WordShows : Heap → Word → ℕ → Type 0
+WordShows h (Queue t k) number = ShowsQueue (is_registered h t) (is_closed (row_at h t).stage k)
     (word_at (queue_at h t) k) number
-Shows h (Of Owner c) number = ShowsOwner (length h.rows) (cell_at h c).owner number
-Shows h word number = number ≡ spelled h word
+WordShows h (Of Owner c) number = ShowsOwner (length h.rows) (cell_at h c).owner number
+WordShows h word number = number ≡ spelled h word
 
 -- the one word that a thread's step works on
 abbrev pub works_on : Heap → ℕ → Step → Option ℕ → Word
@@ -200,10 +200,10 @@ world_of_items start items = world_after start (events_of items)
 -- the item may come next: a step that is enabled, with what it is told and finds; a note with a number that may be
 -- there
 abbrev pub MayCome : Heap → ℕ → Item → Type 0
-MayCome h t (Did s number entries) = (enabled h (record { thread = t; step = s }) ≡ true) × IsTold h t s number
+MayCome h t (Did s number entries) = (enabled h (record { thread = t; step = s }) ≡ true) × IsNumberFound h t s number
     × (entries ≡ found h t s)
-MayCome h t (Saw word number) = Shows h word number
-MayCome h t (Lost word number) = Shows h word number
+MayCome h t (Saw word number) = WordShows h word number
+MayCome h t (Lost word number) = WordShows h word number
 
 -- each item may come where it stands
 abbrev pub AreItems : Heap → ItemRun → Type 0

@@ -23,7 +23,8 @@ place_locked (Some lock) = Some lock.0
 
 -- The locked place has a cell: the one that the world has locked, with the entries found; in the thread's own part
 -- these stand too, and its block is on no worklist.
-pub record HasLocked (cells : ℕ) (h : Heap) (t : ℕ) (log : List Item) (place : ℕ) (entries : List ℕ) : Type 0 where
+pub record KnowsWhatIsLocked (cells : ℕ) (h : Heap) (t : ℕ) (log : List Item) (place : ℕ)
+    (entries : List ℕ) : Type 0 where
   pub cell : ℕ
   pub names : place_at (part_of cells log).frame place ≡ Some cell
   pub locked : locked_at h t ≡ Some cell

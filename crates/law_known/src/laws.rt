@@ -23,8 +23,8 @@ ghost use Rattle.law_known.specs.Owned.{IsAlive};
 ghost use Rattle.law_world.specs.Steps.{is_mine, is_active, needs_no_cell, takes_block, thread_may, after_target};
 ghost use Rattle.law_world.specs.Steps.{target_at, owned_are_marked};
 ghost use Rattle.law_world.specs.Runs.{IsRun, IsReached};
-ghost use Rattle.law_known.specs.Going_On.{GoesOn, known_of, knows_after, knows_apart, given_up, touched_place};
-ghost use Rattle.law_known.specs.Locked.{locked_of, place_locked, HasLocked};
+ghost use Rattle.law_known.specs.Going_On.{KnowsNext, known_of, knows_after, knows_apart, given_up, touched_place};
+ghost use Rattle.law_known.specs.Locked.{locked_of, place_locked, KnowsWhatIsLocked};
 ghost use Rattle.law_known.specs.Owners_Seen.{has_seen_owner};
 ghost use Rattle.law_known.specs.Root.{rows_of, gathered_of};
 ghost use Rattle.law_known.specs.Counts.{own_count, counts_of};
@@ -35,7 +35,8 @@ ghost use Rattle.law_world.specs.declared.row.Stage.{Stage as stage};
 ghost use Rattle.brc_words.specs.declared.limits.TheConstants.{FIRST_MORTAL, MOST_THREADS};
 ghost use Rattle.law_lasting.specs.Staying.{rank};
 ghost use Rattle.law_known.specs.Free_Words.{is_free_cell};
-ghost use Rattle.law_known.specs.Items.{Word as word, IsWord, Shows, works_on, Of, Owner, Shared, FreeWord, Item, Did};
+ghost use Rattle.law_known.specs.Items.{Word as word, IsWord, WordShows, works_on, Of, Owner, Shared, FreeWord, Item};
+ghost use Rattle.law_known.specs.Items.{Did};
 ghost use Rattle.law_known.specs.Items.{Saw, Lost, ItemRun, MayCome, AreItems, IsPart, events_of, world_of_items};
 ghost use Rattle.law_known.specs.Items.{part_of, meant, cell_told, own};
 
@@ -167,7 +168,7 @@ pub fn own_items_tell_the_lock()
         → AreOptions cells limit → AreItems (start_of cells limit) items
         → is_registered (world_of_items (start_of cells limit) items) t ≡ true
         → locked_of (own t items) ≡ Some (place, entries)
-        → HasLocked cells (world_of_items (start_of cells limit) items) t (own t items) place
+        → KnowsWhatIsLocked cells (world_of_items (start_of cells limit) items) t (own t items) place
         entries }
 {}
 
@@ -177,11 +178,11 @@ pub fn own_items_tell_the_lock()
 pub fn own_steps_go_on()
     ensures meant { (cells : ℕ) (items : List Item) (s : step) (c number : ℕ) (entries : List ℕ)
         → meant (part_of cells items) s ≡ Some c
-        → GoesOn cells items (Did s number entries)
+        → KnowsNext cells items (Did s number entries)
         (knows_after s c number entries (known_of cells items)) }
     ensures apart { (cells : ℕ) (items : List Item) (s : step) (number : ℕ) (entries : List ℕ)
         → needs_no_cell s ≡ true
-        → GoesOn cells items (Did s number entries) (knows_apart cells s number (known_of cells items)) }
+        → KnowsNext cells items (Did s number entries) (knows_apart cells s number (known_of cells items)) }
     ensures places { (cells : ℕ) (items : List Item) (s : step) (c number : ℕ) (entries : List ℕ)
         (j : ℕ) → meant (part_of cells items) s ≡ Some c → touched_place s ≢ Some j
         → place_at (part_of cells (Did s number entries ∷ items)).frame j
@@ -192,9 +193,9 @@ pub fn own_steps_go_on()
         → drop_in (part_of cells (Did s number entries ∷ items)) (drops.Work q)
         ≡ drop_in (part_of cells items) (drops.Work q) }
     ensures saw { (cells : ℕ) (items : List Item) (w : word) (number : ℕ)
-        → GoesOn cells items (Saw w number) (known_of cells items) }
+        → KnowsNext cells items (Saw w number) (known_of cells items) }
     ensures lost { (cells : ℕ) (items : List Item) (w : word) (number : ℕ)
-        → GoesOn cells items (Lost w number) (known_of cells items) }
+        → KnowsNext cells items (Lost w number) (known_of cells items) }
 {}
 
 /// What was seen risen of a place, or of a last entry, is still seen with one more item exactly where these have the
@@ -282,16 +283,16 @@ pub fn own_looks_tell_the_owners()
 pub fn a_step_changes_one_word()
     ensures { (h : Heap) (t : ℕ) (s : step) (w : word) (number : ℕ) → IsReached h
         → thread_may h t s ≡ true → IsWord (length h.cells) w
-        → w ≢ works_on h t s (target_at h t s) → Shows h w number
-        → Shows (after_target h t s (target_at h t s)) w number }
+        → w ≢ works_on h t s (target_at h t s) → WordShows h w number
+        → WordShows (after_target h t s (target_at h t s)) w number }
 {}
 
 /// A free word tells of each of its 64 bits whether that cell is free: a cell of the heap in which no object lives and
 /// which nobody has claimed. While an object lives, its owner word tells its owner.
 pub fn free_words_tell_the_free_cells()
-    ensures free { (h : Heap) (k i number : ℕ) → i < 64 → Shows h (FreeWord k) number
+    ensures free { (h : Heap) (k i number : ℕ) → i < 64 → WordShows h (FreeWord k) number
         → bit_at number i ≡ one (is_free_cell h (k * 64 + i)) }
-    ensures small { (h : Heap) (k number : ℕ) → Shows h (FreeWord k) number → number < 2 ^ 64 }
+    ensures small { (h : Heap) (k number : ℕ) → WordShows h (FreeWord k) number → number < 2 ^ 64 }
     ensures owner { (h : Heap) (c number : ℕ) → lives (cell_at h c).owner ≡ true
-        → Shows h (Of Owner c) number → number ≡ word_of (cell_at h c).owner }
+        → WordShows h (Of Owner c) number → number ≡ word_of (cell_at h c).owner }
 {}

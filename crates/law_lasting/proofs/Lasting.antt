@@ -27,7 +27,8 @@ use Rattle.law_world.specs.Steps.{locked_cell, is_at, is_default, target_ok, loc
 use Rattle.law_world.specs.Runs.{IsReached}
 use Rattle.law_world.specs.Holding.{carries, lives}
 use Rattle.law_world.specs.Sound.{IsSound, HandFits, WorklistFits, Locks, grips, held}
-use Rattle.law_lasting.specs.Staying.{is_about, IsAnothers, Lasts, SameOwn, Has, rank, Bears, Buries, Locked, Keeps}
+use Rattle.law_lasting.specs.Staying.{is_about, IsAnothers, Lasts, SameOwn, Has, rank, IsBearing, Buries, IsLocking}
+use Rattle.law_lasting.specs.Staying.{LivesOn}
 use Rattle.law_lasting.specs.Staying.{Foreign, OwnedOrNot, Nobodys}
 use Rattle.law_world.proofs.Naming.{free_owner, Ungripped, Unheld, dead_unheld, sole_grip, one-true, busy_hand}
 use Rattle.law_world.proofs.Naming.{ungripped, thread_owner}
@@ -162,7 +163,7 @@ bearing p which h t c sound busy = elim which [
   ]
 ]
 
-pub births_last : (t c : ℕ) (p : Phase) (x : Cell) → Lasts t (λ h. Bears h t c p x)
+pub births_last : (t c : ℕ) (p : Phase) (x : Cell) → Lasts t (λ h. IsBearing h t c p x)
 births_last t c p x h e reached ok others bears =
     let sound : IsSound h = reached_sound h reached in
     let own : SameOwn t h (after h e) = others_own h e t sound ok others in
@@ -445,7 +446,7 @@ locked_stays h e t c sound ok other named =
         absurd (other (sym (locked_mutex h e.thread c sound his.named).1 ∙ at.1))
     locking_apart _ his = refl
 
-pub locks_last : (t c : ℕ) (kind : Kind) (entries : List ℕ) → Lasts t (λ h. Locked h t c kind entries)
+pub locks_last : (t c : ℕ) (kind : Kind) (entries : List ℕ) → Lasts t (λ h. IsLocking h t c kind entries)
 locks_last t c kind entries h e reached ok others locked =
     let sound : IsSound h = reached_sound h reached in
     let own : SameOwn t h (after h e) = others_own h e t sound ok others in
@@ -510,7 +511,7 @@ has_lasts h e t c sound ok others has =
       ]
     ]
 
-pub keeping_lasts : (t c : ℕ) (kind : Kind) (bearer least : ℕ) → Lasts t (λ h. Keeps h t c kind bearer least)
+pub keeping_lasts : (t c : ℕ) (kind : Kind) (bearer least : ℕ) → Lasts t (λ h. LivesOn h t c kind bearer least)
 keeping_lasts t c kind bearer least h e reached ok others keeps =
     let sound : IsSound h = reached_sound h reached in
     let stays : EventKeeps (cell_at h c) (cell_at (after h e) c) = event_keeps h e c sound ok keeps.live

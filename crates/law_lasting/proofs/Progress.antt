@@ -40,8 +40,8 @@ use Rattle.law_world.specs.Steps.{opens_next, is_left, locked_cell, edition_ok, 
 use Rattle.law_world.specs.Steps.{is_shut_hand}
 use Rattle.law_world.specs.Runs.{IsReached}
 use Rattle.law_world.specs.Sound.{IsSound, ShutFits, held, gripped, rests}
-use Rattle.law_lasting.specs.Staying.{Tells, PoppedTells}
-use Rattle.law_lasting.specs.Progress.{Stands, IsAtRest, next_step, release_step, popped_step}
+use Rattle.law_lasting.specs.Staying.{PhaseTells, PoppedTells}
+use Rattle.law_lasting.specs.Progress.{IsPresent, IsAtRest, next_step, release_step, popped_step}
 use Rattle.law_world.proofs.Naming.{busy_carrier, no_mark}
 use Rattle.law_world.proofs.Merging.{active_now, held_owner, popped_held, carried_held, idle_apart, owner_alone}
 use Rattle.law_world.proofs.Counting.{sum_none, local_positive, held_unmarked}
@@ -77,7 +77,7 @@ stage_fits stages.Left s apart opened ok = elim ok [ inl active ↦ absurd (true
 
 -- what a thread's step on a cell asks, one test a field
 record Asks (h : Heap) (t : ℕ) (s : Step) (c : ℕ) : Type 0 where
-  stands : Stands h t
+  stands : IsPresent h t
   unlocked : (row_at h t).locked ≡ None
   not_closing : (n : ℕ) → (row_at h t).stage ≢ stages.Closing n
   not_opening : (n : ℕ) → (row_at h t).stage ≢ stages.Opening n
@@ -135,7 +135,7 @@ hand_taken h t c p reached busy = by_phase p busy (hand_tells h t c p reached bu
     live : FIRST_MORTAL ≤ c → 1 ≤ held h c → (cell_at h c).owner ≢ owners.Free
     live mortal some = live_owner _ (held_owner h c (reached_sound h reached) mortal some)
 
-    by_phase : (q : Phase) → (row_at h t).hand ≡ hands.Busy q c → Tells t q (cell_at h c)
+    by_phase : (q : Phase) → (row_at h t).hand ≡ hands.Busy q c → PhaseTells t q (cell_at h c)
         → (cell_at h c).owner ≢ owners.Free
     by_phase phases.Claimed at tells free = let bad : owners.Claimed t ≡ owners.Free = sym tells ∙ free in cc
     by_phase phases.Counted at tells free = let bad : owners.Claimed t ≡ owners.Free = sym tells.0 ∙ free in cc
@@ -154,7 +154,7 @@ hand_taken h t c p reached busy = by_phase p busy (hand_tells h t c p reached bu
     by_phase phases.Popping at tells free = let bad : owners.Nobody ≡ owners.Free = sym tells.0 ∙ free in cc
 
 -- what is common to all phases
-goes_on : (h : Heap) (t c : ℕ) (p : Phase) (s : Step) → IsReached h → Stands h t → (row_at h t).hand ≡ hands.Busy p c
+goes_on : (h : Heap) (t c : ℕ) (p : Phase) (s : Step) → IsReached h → IsPresent h t → (row_at h t).hand ≡ hands.Busy p c
     → (is_active_phase p ≡ true) ⊎ (may_after_leaving s ≡ true) → needs_lock s ≡ false
     → edition_ok h.edition (row_at h t) s ≡ true
     → hand_ok (hands.Busy p c) s ≡ true → own_ok_at h t s ≡ true → others_ok h t s ≡ true → target_at h t s ≡ Some c
@@ -212,7 +212,7 @@ shut_nobodys editions.One h t c is fits = absurd (cc)
 shut_nobodys editions.Two h t c is fits = ap is_nobody fits
 
 -- the next step of a hand is enabled; a ready object may be born in any vacant place
-pub hands_go_on : (h : Heap) (t c : ℕ) (p : Phase) → IsReached h → Stands h t → (row_at h t).hand ≡ hands.Busy p c
+pub hands_go_on : (h : Heap) (t c : ℕ) (p : Phase) → IsReached h → IsPresent h t → (row_at h t).hand ≡ hands.Busy p c
     → p ≢ phases.Ready
     → enabled h (record { thread = t; step = next_step p c (cell_at h c) }) ≡ true
 hands_go_on h t c phases.Claimed reached stands busy other = goes_on h t c phases.Claimed (InitLocal c) reached stands
@@ -233,7 +233,7 @@ hands_go_on h t c phases.Untied reached stands busy other = goes_on h t c phases
 hands_go_on h t c phases.Asked reached stands busy other = goes_on h t c phases.Asked (Enqueue c) reached stands busy
     (inr refl) refl (in_both h.edition (row_at h t) (Enqueue c) refl refl) (here c) refl refl refl refl
 hands_go_on h t c phases.Shut reached stands busy other =
-    let tells : Tells t phases.Shut (cell_at h c) = (hand_tells h t c phases.Shut reached busy).1 in
+    let tells : PhaseTells t phases.Shut (cell_at h c) = (hand_tells h t c phases.Shut reached busy).1 in
     elim tells [
       | inl nobodys ↦ subst (λ b. enabled h (record { thread = t; step = if b then LastDown lasts.Hand else Untie c })
           ≡ true) (sym (ap is_nobody nobodys.0))
@@ -263,7 +263,7 @@ hands_go_on h t c phases.Taking reached stands busy other =
     add_hand true e = refl
     add_hand false e = absurd (true≢false (sym e))
 hands_go_on h t c phases.Held reached stands busy other =
-    let tells : Tells t phases.Held (cell_at h c) = (hand_tells h t c phases.Held reached busy).1 in
+    let tells : PhaseTells t phases.Held (cell_at h c) = (hand_tells h t c phases.Held reached busy).1 in
     goes_on h t c phases.Held (LastDown lasts.Hand) reached stands busy (inr refl) refl
     (in_both h.edition (row_at h t) (LastDown lasts.Hand) refl refl) refl refl refl (ap cell_in_hand busy)
     (and_both _ _ (ap (λ s. not (is_default s)) tells.1) (ap (λ g. ends_ok g (cell_at h c)) busy))
@@ -290,7 +290,7 @@ hands_go_on h t c phases.Yielding reached stands busy other =
     (adds_in h.edition (row_at h t) c (λ _. active_now h t c phases.Yielding (reached_sound h reached) busy refl))
     (here c) refl refl refl refl
 
-pub births_go_on : (h : Heap) (t c k : ℕ) (kind : Kind) → IsReached h → Stands h t
+pub births_go_on : (h : Heap) (t c k : ℕ) (kind : Kind) → IsReached h → IsPresent h t
     → (row_at h t).hand ≡ hands.Busy phases.Ready c → is_mortal kind ≡ true → is_vacant (frame_at h t) k ≡ true
     → enabled h (record { thread = t; step = Birth c kind k }) ≡ true
 births_go_on h t c k kind reached stands busy mortal vacant =
@@ -412,7 +412,7 @@ all_blank words none = none_counted (λ w. not (w == 0)) words 0 (λ k. ap (λ w
 
 -- what a thread's step on no cell asks
 record AsksNone (h : Heap) (t : ℕ) (s : Step) : Type 0 where
-  stands : Stands h t
+  stands : IsPresent h t
   stage : stage_ok (row_at h t).stage s ≡ true
   lock : lock_ok (row_at h t).locked s ≡ true
   hand : hand_ok (row_at h t).hand s ≡ true
@@ -432,7 +432,7 @@ may_step h t s asks =
     (and_both _ _ (and_both _ _ (and_both _ _ (and_both _ _ asks.stands.registered (ap not asks.stands.here))
     asks.stage) asks.lock) asks.hand) asks.own) asks.others) asks.edition) asks.target
 
-pub locks_go : (h : Heap) (t k : ℕ) → IsReached h → Stands h t → (row_at h t).locked ≡ Some k
+pub locks_go : (h : Heap) (t k : ℕ) → IsReached h → IsPresent h t → (row_at h t).locked ≡ Some k
     → enabled h (record { thread = t; step = Unlock changes.Keep }) ≡ true
 locks_go h t k reached stands locked =
     let sound : IsSound h = reached_sound h reached in
@@ -470,7 +470,7 @@ locks_go h t k reached stands locked =
     ])
 
 -- the next word of a closing thread may be closed
-pub closings_go : (h : Heap) (t n : ℕ) → IsReached h → Stands h t → (row_at h t).stage ≡ stages.Closing n
+pub closings_go : (h : Heap) (t n : ℕ) → IsReached h → IsPresent h t → (row_at h t).stage ≡ stages.Closing n
     → enabled h (record { thread = t; step = Close n }) ≡ true
 closings_go h t n reached stands closing =
     let fits = (reached_sound h reached).threads t in
@@ -540,7 +540,7 @@ offers_go h t c reached two rest active owner unmarked = is_enabled h t (Offer c
 })
 
 -- a number that is used again opens its words one by one
-pub openings_go : (h : Heap) (t n : ℕ) → IsReached h → h.edition ≡ editions.Two → Stands h t
+pub openings_go : (h : Heap) (t n : ℕ) → IsReached h → h.edition ≡ editions.Two → IsPresent h t
     → (row_at h t).stage ≡ stages.Opening n → enabled h (record { thread = t; step = Reopen n }) ≡ true
 openings_go h t n reached two stands opening =
     let fits = (reached_sound h reached).threads t in

@@ -30,7 +30,8 @@ use Rattle.law_world.specs.Runs.{IsReached}
 use Rattle.law_world.specs.Holding.{carries, lives}
 use Rattle.law_world.specs.Sound.{IsSound, HandFits, WorklistFits, Untied, grips, grips_by_owner, gripped, held, asks}
 use Rattle.law_world.specs.Sound.{Offered, Yielding, ShutFits}
-use Rattle.law_lasting.specs.Staying.{Lasts, SameOwn, Owns, Merges, Yields, Adopts, PoppedOwn, Tells, PoppedTells}
+use Rattle.law_lasting.specs.Staying.{Lasts, SameOwn, IsOwning, StaysMerging, Yields, Adopts, PoppedOwn, PhaseTells}
+use Rattle.law_lasting.specs.Staying.{PoppedTells}
 use Rattle.law_world.proofs.Naming.{second, merged_state, nobody_owner, Ungripped, sole_grip, one-le, one-true, sum_one}
 use Rattle.law_world.proofs.Naming.{sum_two, no_bit, busy_hand, busy_carrier, free_owner, third}
 use Rattle.law_world.proofs.Asking.{May, OnCell, on_cell, Mine, mine, at_end, shut_out, from_queue, untie_way}
@@ -141,7 +142,7 @@ who_unties h c sound mortal owner unmerged some =
 
 -- an object whose bearer has closed its word, and which nobody owns, is merged
 shut_tells : (h : Heap) (t c : ℕ) → IsSound h → (row_at h t).hand ≡ hands.Busy phases.Shut c
-    → Tells t phases.Shut (cell_at h c)
+    → PhaseTells t phases.Shut (cell_at h c)
 unfolding Unties
 shut_tells h t c sound busy =
     let said : HandFits h t phases.Shut c = sound.hands t c phases.Shut busy in
@@ -192,7 +193,7 @@ zero_tells h t c p sound busy gripping mortal owner = (
 )
 
 sound_tells : (h : Heap) (t c : ℕ) (p : Phase) → IsSound h → (row_at h t).hand ≡ hands.Busy p c
-    → Tells t p (cell_at h c)
+    → PhaseTells t p (cell_at h c)
 sound_tells h t c phases.Claimed sound busy = (sound.hands t c phases.Claimed busy).fits.claimed
 sound_tells h t c phases.Counted sound busy = let fits = (sound.hands t c phases.Counted busy).fits in
     (fits.0.claimed, fits.1)
@@ -238,7 +239,7 @@ sound_tells h t c phases.Popping sound busy =
 
 -- what the phase of a hand says of its cell
 pub hand_tells : (h : Heap) (t c : ℕ) (p : Phase) → IsReached h → (row_at h t).hand ≡ hands.Busy p c
-    → (FIRST_MORTAL ≤ c) × Tells t p (cell_at h c)
+    → (FIRST_MORTAL ≤ c) × PhaseTells t p (cell_at h c)
 hand_tells h t c p reached busy = let sound : IsSound h = reached_sound h reached in
     ((sound.hands t c p busy).mortal, sound_tells h t c p sound busy)
 
@@ -446,7 +447,7 @@ idle_kept h s u c sound mortal owner idle some untie = record {
   unmarked = held_unmarked h u c sound some;
 }
 
-pub owns_lasts : (t c local : ℕ) → Lasts t (λ h. Owns h t c local)
+pub owns_lasts : (t c local : ℕ) → Lasts t (λ h. IsOwning h t c local)
 owns_lasts t c local h e reached ok others owns =
     let sound : IsSound h = reached_sound h reached in
     let own : SameOwn t h (after h e) = others_own h e t sound ok others in
@@ -541,7 +542,7 @@ merging_kept h t u c p sound mortal owner other busy gripping =
 gripping_merge : (p : Phase) → (p ≡ phases.Taking) ⊎ (p ≡ phases.Popping) → is_gripping p ≡ true
 gripping_merge p which = elim which [ inl taking ↦ ap is_gripping taking | inr popping ↦ ap is_gripping popping ]
 
-pub merging_lasts : (t c local : ℕ) (p : Phase) → Lasts t (λ h. Merges h t c local p)
+pub merging_lasts : (t c local : ℕ) (p : Phase) → Lasts t (λ h. StaysMerging h t c local p)
 merging_lasts t c local p h e reached ok others merges =
     let sound : IsSound h = reached_sound h reached in
     let own : SameOwn t h (after h e) = others_own h e t sound ok others in

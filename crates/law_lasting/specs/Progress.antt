@@ -16,13 +16,13 @@ use Rattle.law_world.specs.Heap.{Heap, row_at, is_registered, is_gathered, is_im
 use Rattle.law_world.specs.Steps.{is_mine, is_default, is_merged, is_nobody}
 
 -- a registered thread that isn't gathered
-pub record Stands (h : Heap) (t : ℕ) : Type 0 where
+pub record IsPresent (h : Heap) (t : ℕ) : Type 0 where
   pub registered : is_registered h t ≡ true
   pub here : is_gathered h t ≡ false
 
 -- with nothing in its hand, no lock, neither closing nor opening
 pub record IsAtRest (h : Heap) (t : ℕ) : Type 0 where
-  pub stands : Stands h t
+  pub stands : IsPresent h t
   pub hand : (row_at h t).hand ≡ hands.Free
   pub unlocked : (row_at h t).locked ≡ None
   pub not_closing : (n : ℕ) → (row_at h t).stage ≢ stages.Closing n

@@ -69,7 +69,7 @@ rank states.Merged = 2
 -- ---- the facts that last
 
 -- a new object's words are its maker's until it is born
-pub record Bears (h : Heap) (t c : ℕ) (p : Phase) (x : Cell) : Type 0 where
+pub record IsBearing (h : Heap) (t c : ℕ) (p : Phase) (x : Cell) : Type 0 where
   pub hand : (row_at h t).hand ≡ hands.Busy p c
   pub phase : (p ≡ phases.Claimed) ⊎ ((p ≡ phases.Counted) ⊎ (p ≡ phases.Ready))
   pub words : cell_at h c ≡ x
@@ -81,7 +81,7 @@ pub record Buries (h : Heap) (t c : ℕ) (x : Cell) (entries : List ℕ) : Type 
   pub has : entries_at h c ≡ entries
 
 -- a locked object keeps its entries, its kind and its lock
-pub record Locked (h : Heap) (t c : ℕ) (kind : Kind) (entries : List ℕ) : Type 0 where
+pub record IsLocking (h : Heap) (t c : ℕ) (kind : Kind) (entries : List ℕ) : Type 0 where
   pub thread : (row_at h t).locked ≢ None
   pub cell : locked_at h t ≡ Some c
   pub mutex : (cell_at h c).mutex ≡ t
@@ -89,7 +89,7 @@ pub record Locked (h : Heap) (t c : ℕ) (kind : Kind) (entries : List ℕ) : Ty
   pub has : entries_at h c ≡ entries
 
 -- what a thread has lives on, as what it is and with whom bore it; its state never falls
-pub record Keeps (h : Heap) (t c : ℕ) (kind : Kind) (bearer least : ℕ) : Type 0 where
+pub record LivesOn (h : Heap) (t c : ℕ) (kind : Kind) (bearer least : ℕ) : Type 0 where
   pub held : Has h t c
   pub mortal : FIRST_MORTAL ≤ c
   pub live : lives (cell_at h c).owner ≡ true
@@ -115,7 +115,7 @@ pub record Nobodys (h : Heap) (t c : ℕ) : Type 0 where
   pub owner : (cell_at h c).owner ≡ owners.Nobody
 
 -- an active thread's own object, off its worklist: nobody else writes its owner word or its local word
-pub record Owns (h : Heap) (t c local : ℕ) : Type 0 where
+pub record IsOwning (h : Heap) (t c local : ℕ) : Type 0 where
   pub active : is_active (row_at h t).stage ≡ true
   pub mortal : FIRST_MORTAL ≤ c
   pub owner : (cell_at h c).owner ≡ owners.Thread t
@@ -124,7 +124,7 @@ pub record Owns (h : Heap) (t c local : ℕ) : Type 0 where
 
 -- an object that is being adopted, or whose popped entry is being dealt with: nobody else writes its local word, and it
 -- stays asked for
-pub record Merges (h : Heap) (t c local : ℕ) (p : Phase) : Type 0 where
+pub record StaysMerging (h : Heap) (t c local : ℕ) (p : Phase) : Type 0 where
   pub hand : (row_at h t).hand ≡ hands.Busy p c
   pub phase : (p ≡ phases.Taking) ⊎ (p ≡ phases.Popping)
   pub owner : (cell_at h c).owner ≡ owners.Nobody
@@ -155,21 +155,22 @@ pub record PoppedOwn (h : Heap) (t c local : ℕ) : Type 0 where
 -- ---- what a thread knows without a look
 
 -- of the cell in its hand, by the phase
-abbrev pub Tells : ℕ → Phase → Cell → Type 0
-Tells t phases.Claimed x = x.owner ≡ owners.Claimed t
-Tells t phases.Counted x = (x.owner ≡ owners.Claimed t) × (x.local ≡ 1)
-Tells t phases.Ready x = (x.owner ≡ owners.Claimed t) × (x.local ≡ 1) × (x.count ≡ pos 0) × (x.state ≡ states.Default)
-Tells t phases.Zero x = (x.owner ≡ owners.Thread t) × (x.local ≡ 0) × (is_merged x.state ≡ false)
-Tells t phases.Over x = (x.owner ≡ owners.Thread t) × (x.local ≡ 0) × (is_merged x.state ≡ false)
-Tells t phases.Untied x = (x.owner ≡ owners.Nobody) × (x.local ≡ 0) × (is_merged x.state ≡ false)
-Tells t phases.Asked x = is_default x.state ≡ false
-Tells t phases.Shut x = ((x.owner ≡ owners.Nobody) × (is_default x.state ≡ false))
+abbrev pub PhaseTells : ℕ → Phase → Cell → Type 0
+PhaseTells t phases.Claimed x = x.owner ≡ owners.Claimed t
+PhaseTells t phases.Counted x = (x.owner ≡ owners.Claimed t) × (x.local ≡ 1)
+PhaseTells t phases.Ready x = (x.owner ≡ owners.Claimed t) × (x.local ≡ 1) × (x.count ≡ pos 0)
+    × (x.state ≡ states.Default)
+PhaseTells t phases.Zero x = (x.owner ≡ owners.Thread t) × (x.local ≡ 0) × (is_merged x.state ≡ false)
+PhaseTells t phases.Over x = (x.owner ≡ owners.Thread t) × (x.local ≡ 0) × (is_merged x.state ≡ false)
+PhaseTells t phases.Untied x = (x.owner ≡ owners.Nobody) × (x.local ≡ 0) × (is_merged x.state ≡ false)
+PhaseTells t phases.Asked x = is_default x.state ≡ false
+PhaseTells t phases.Shut x = ((x.owner ≡ owners.Nobody) × (is_default x.state ≡ false))
     ⊎ ((s : ℕ) × (x.owner ≡ owners.Thread s) × (x.state ≡ states.Queued))
-Tells t phases.Taking x = (x.owner ≡ owners.Nobody) × (x.state ≡ states.Queued)
-Tells t phases.Held x = (x.owner ≡ owners.Nobody) × (x.state ≡ states.Merged)
-Tells t phases.Popping x = (x.owner ≡ owners.Nobody) × (x.state ≡ states.Queued)
-Tells t phases.Offered x = (x.owner ≡ owners.Thread t) × (1 ≤ x.local) × (x.state ≡ states.Queued)
-Tells t phases.Yielding x = (x.owner ≡ owners.Nobody) × (x.state ≡ states.Queued)
+PhaseTells t phases.Taking x = (x.owner ≡ owners.Nobody) × (x.state ≡ states.Queued)
+PhaseTells t phases.Held x = (x.owner ≡ owners.Nobody) × (x.state ≡ states.Merged)
+PhaseTells t phases.Popping x = (x.owner ≡ owners.Nobody) × (x.state ≡ states.Queued)
+PhaseTells t phases.Offered x = (x.owner ≡ owners.Thread t) × (1 ≤ x.local) × (x.state ≡ states.Queued)
+PhaseTells t phases.Yielding x = (x.owner ≡ owners.Nobody) × (x.state ≡ states.Queued)
 
 -- of a popped entry, between two calls: merged, or its own and asked for; so the shared word alone decides
 abbrev pub PoppedTells : ℕ → Cell → Type 0

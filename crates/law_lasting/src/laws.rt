@@ -21,7 +21,7 @@ ghost use Rattle.law_world.specs.Lists.{bit_of, is_marked, is_bare, is_unmarked,
 ghost use Rattle.law_world.specs.Heap.{Heap, opening, cell_at, entries_at, row_at, frame_at, popped_at, worklist_at};
 ghost use Rattle.law_world.specs.Heap.{queue_at, is_registered, is_gathered};
 ghost use Rattle.brc_words.specs.Kinds.{is_mortal};
-ghost use Rattle.law_lasting.specs.Progress.{Stands, IsAtRest, next_step, release_step, popped_step};
+ghost use Rattle.law_lasting.specs.Progress.{IsPresent, IsAtRest, next_step, release_step, popped_step};
 ghost use Rattle.law_world.specs.Steps.{locked_at, dropped_cell, is_vacant, enabled, after, target_at, takes_block};
 ghost use Rattle.law_world.specs.Steps.{may_leave};
 ghost use Rattle.law_world.specs.Runs.{IsReached, world_after};
@@ -29,8 +29,9 @@ ghost use Rattle.law_world.specs.Sound.{held};
 ghost use Rattle.law_lasting.specs.Ranges.{OwnerFits};
 ghost use Rattle.law_world.specs.declared.row.Stage.{Stage as stage};
 ghost use Rattle.brc_words.specs.declared.limits.TheConstants.{FIRST_MORTAL};
-ghost use Rattle.law_lasting.specs.Staying.{IsAnothers, Lasts, SameOwn, Bears, Buries, Locked, Keeps, Foreign};
-ghost use Rattle.law_lasting.specs.Staying.{OwnedOrNot, Nobodys, Owns, Merges, Yields, Adopts, PoppedOwn, Tells};
+ghost use Rattle.law_lasting.specs.Staying.{IsAnothers, Lasts, SameOwn, IsBearing, Buries, IsLocking, LivesOn, Foreign};
+ghost use Rattle.law_lasting.specs.Staying.{OwnedOrNot, Nobodys, IsOwning, StaysMerging, Yields, Adopts, PoppedOwn};
+ghost use Rattle.law_lasting.specs.Staying.{PhaseTells};
 ghost use Rattle.law_lasting.specs.Staying.{PoppedTells, HoldsNothing};
 
 /// While others step, a thread's own part stays as it is, and a bit of its merge queue stays set.
@@ -43,13 +44,13 @@ pub fn own_parts_last()
 /// While others step: the words of a cell that is being made, and of a dead block; a locked object's entries, kind and
 /// lock; that what a thread has lives on, as what it is and with its bearer, and its state never falls.
 pub fn held_words_last()
-    ensures born { (t c : ℕ) (p : phase) (x : cell) → Lasts t (λ h. Bears h t c p x) }
+    ensures born { (t c : ℕ) (p : phase) (x : cell) → Lasts t (λ h. IsBearing h t c p x) }
     ensures buried { (t c : ℕ) (x : cell) (entries : List ℕ)
         → Lasts t (λ h. Buries h t c x entries) }
     ensures locked { (t c : ℕ) (k : kind) (entries : List ℕ)
-        → Lasts t (λ h. Locked h t c k entries) }
+        → Lasts t (λ h. IsLocking h t c k entries) }
     ensures kept { (t c : ℕ) (k : kind) (bearer least : ℕ)
-        → Lasts t (λ h. Keeps h t c k bearer least) }
+        → Lasts t (λ h. LivesOn h t c k bearer least) }
 {}
 
 /// While others step: an owner word goes from a thread to nobody alone, and never to the thread that looked; who owns,
@@ -58,8 +59,8 @@ pub fn owners_last()
     ensures foreign { (t c : ℕ) → Lasts t (λ h. Foreign h t c) }
     ensures owned { (t c s : ℕ) → Lasts t (λ h. OwnedOrNot h t c s) }
     ensures nobodys { (t c : ℕ) → Lasts t (λ h. Nobodys h t c) }
-    ensures own { (t c local : ℕ) → Lasts t (λ h. Owns h t c local) }
-    ensures merging { (t c local : ℕ) (p : phase) → Lasts t (λ h. Merges h t c local p) }
+    ensures own { (t c local : ℕ) → Lasts t (λ h. IsOwning h t c local) }
+    ensures merging { (t c local : ℕ) (p : phase) → Lasts t (λ h. StaysMerging h t c local p) }
     ensures yielding { (t c local : ℕ) → Lasts t (λ h. Yields h t c local) }
     ensures adopting { (t c s local : ℕ) → Lasts t (λ h. Adopts h t c s local) }
     ensures popped { (t c local : ℕ) → Lasts t (λ h. PoppedOwn h t c local) }
@@ -69,7 +70,7 @@ pub fn owners_last()
 /// own and asked for.
 pub fn hands_tell()
     ensures hand { (h : Heap) (t c : ℕ) (p : phase) → IsReached h
-        → (row_at h t).hand ≡ hands.Busy p c → (FIRST_MORTAL ≤ c) × Tells t p (cell_at h c) }
+        → (row_at h t).hand ≡ hands.Busy p c → (FIRST_MORTAL ≤ c) × PhaseTells t p (cell_at h c) }
     ensures popped { (h : Heap) (t c : ℕ) → IsReached h → (row_at h t).hand ≡ hands.Free
         → bit_of (popped_at h t) c ≡ 1 → PoppedTells t (cell_at h c) }
 {}
@@ -128,10 +129,10 @@ pub fn numbers_name_what_is_there()
 /// block without entries; with nothing left it can begin to leave, go on leaving, and then be gathered. In the second
 /// edition it can hand over before whatever it owns, and a number that is used again opens its words one by one.
 pub fn no_thread_is_stuck()
-    ensures hands { (h : Heap) (t c : ℕ) (p : phase) → IsReached h → Stands h t
+    ensures hands { (h : Heap) (t c : ℕ) (p : phase) → IsReached h → IsPresent h t
         → (row_at h t).hand ≡ hands.Busy p c → p ≢ phases.Ready
         → enabled h (record { thread = t; step = next_step p c (cell_at h c) }) ≡ true }
-    ensures births { (h : Heap) (t c k : ℕ) (of : kind) → IsReached h → Stands h t
+    ensures births { (h : Heap) (t c k : ℕ) (of : kind) → IsReached h → IsPresent h t
         → (row_at h t).hand ≡ hands.Busy phases.Ready c → is_mortal of ≡ true
         → is_vacant (frame_at h t) k ≡ true
         → enabled h (record { thread = t; step = steps.Birth c of k }) ≡ true }
@@ -147,7 +148,7 @@ pub fn no_thread_is_stuck()
     ensures blocks { (h : Heap) (t c : ℕ) → IsReached h → IsAtRest h t
         → is_marked (worklist_at h t) c ≡ true → entries_at h c ≡ []
         → enabled h (record { thread = t; step = steps.Free c }) ≡ true }
-    ensures locks { (h : Heap) (t k : ℕ) → IsReached h → Stands h t → (row_at h t).locked ≡ Some k
+    ensures locks { (h : Heap) (t k : ℕ) → IsReached h → IsPresent h t → (row_at h t).locked ≡ Some k
         → enabled h (record { thread = t; step = steps.Unlock changes.Keep }) ≡ true }
     ensures begins { (h : Heap) (t : ℕ) → IsReached h → IsAtRest h t
         → (row_at h t).stage ≡ stages.Active → is_bare (frame_at h t) ≡ true
@@ -157,14 +158,14 @@ pub fn no_thread_is_stuck()
         → (row_at h t).stage ≡ stages.Active → (cell_at h c).owner ≡ owners.Thread t
         → is_marked (worklist_at h t) c ≡ false
         → enabled h (record { thread = t; step = steps.Offer c }) ≡ true }
-    ensures closes { (h : Heap) (t n : ℕ) → IsReached h → Stands h t
+    ensures closes { (h : Heap) (t n : ℕ) → IsReached h → IsPresent h t
         → (row_at h t).stage ≡ stages.Closing n
         → enabled h (record { thread = t; step = steps.Close n }) ≡ true }
     ensures gathered { (h : Heap) (t : ℕ) → IsReached h → IsAtRest h t
         → (row_at h t).stage ≡ stages.Left → is_unmarked (worklist_at h t) ≡ true
         → is_blank (popped_at h t) ≡ true
         → enabled h (record { thread = 0; step = steps.Gather t }) ≡ true }
-    ensures opens { (h : Heap) (t n : ℕ) → IsReached h → h.edition ≡ editions.Two → Stands h t
+    ensures opens { (h : Heap) (t n : ℕ) → IsReached h → h.edition ≡ editions.Two → IsPresent h t
         → (row_at h t).stage ≡ stages.Opening n
         → enabled h (record { thread = t; step = steps.Reopen n }) ≡ true }
 {}

@@ -28,8 +28,8 @@ use Rattle.law_known.proofs.Items_Law.{parts_are_told}
 use Rattle.law_rule.specs.declared.contents.Contents.{Contents}
 use Rattle.law_rule.specs.declared.told.Moved.{Moved}
 use Rattle.law_rule.specs.declared.told.Moved.TheVariants as moves
-use Rattle.law_rule.specs.declared.told.Told.{Told}
-use Rattle.law_rule.specs.declared.told.Told.TheVariants.{Did, Saw, Lost}
+use Rattle.law_rule.specs.declared.told.LogItem.{LogItem}
+use Rattle.law_rule.specs.declared.told.LogItem.TheVariants.{Stepped, Loaded, Lost}
 use Rattle.law_rule.specs.declared.view.View.{View}
 use Rattle.law_rule.specs.Homes.{AtRest, ContentsFit}
 use Rattle.law_rule.specs.Logs.{item_of, Run, items_of, begins, own_of, world, entries_in, IsLegal}
@@ -149,7 +149,7 @@ module _ (n limit : ℕ) (options : AreOptions n limit) where
 
   by_root : (h : Heap) (t : ℕ) (s : Step) (number : ℕ) (moved : Moved) → IsSound h → 0 < t
       → enabled h (record { thread = 0; step = s }) ≡ true → root_may h s ≡ true
-      → is_start t (item_of (Did s number moved)) ≡ false
+      → is_start t (item_of (Stepped s number moved)) ≡ false
       → IsUp (after h (record { thread = 0; step = s })) t → IsUp h t
   by_root h t (Register v) number moved sound some_thread ok may older up =
       by_others h (record { thread = 0; step = Register v }) t sound ok (λ e. omega (arith, e, some_thread))
@@ -169,7 +169,7 @@ module _ (n limit : ℕ) (options : AreOptions n limit) where
   ]
 
   by_step : (h : Heap) (t u : ℕ) (s : Step) (number : ℕ) (moved : Moved) → IsSound h → 0 < t
-      → enabled h (record { thread = u; step = s }) ≡ true → is_start t (item_of (Did s number moved)) ≡ false
+      → enabled h (record { thread = u; step = s }) ≡ true → is_start t (item_of (Stepped s number moved)) ≡ false
       → IsUp (after h (record { thread = u; step = s })) t → IsUp h t
   by_step h t u s number moved sound some_thread ok older up = elim (cases_Bool (u == 0)) [
     | inl root ↦
@@ -192,14 +192,14 @@ module _ (n limit : ℕ) (options : AreOptions n limit) where
   ]
 
   -- whoever is up after an item that doesn't register it was so before
-  was_active : (run : Run) (t u : ℕ) (x : Told) → IsLegal n limit run → 0 < t
+  was_active : (run : Run) (t u : ℕ) (x : LogItem) → IsLegal n limit run → 0 < t
       → MayCome (world n limit run) u (item_of x) → is_start t (item_of x) ≡ false → IsUpIn ((u, x) ∷ run) t
       → IsUpIn run t
   unfolding IsUpIn
-  was_active run t u (Did s number moved) legal some_thread comes older active =
+  was_active run t u (Stepped s number moved) legal some_thread comes older active =
       by_step (world n limit run) t u s number moved (legal_sound n limit options run legal)
       some_thread comes.0 older active
-  was_active run t u (Saw word number) legal some_thread comes older active = active
+  was_active run t u (Loaded word number) legal some_thread comes older active = active
   was_active run t u (Lost word number) legal some_thread comes older active = active
 
   -- ---- items
@@ -230,13 +230,13 @@ module _ (n limit : ℕ) (options : AreOptions n limit) where
     | inr thread ↦ may_parts h t s (subst (λ b. (if b then root_may h s else thread_may h t s) ≡ true) thread ok)
   ]
 
-  fits : (run : Run) (t : ℕ) (x : Told) → IsLegal n limit run → 0 < t → IsUpIn run t
+  fits : (run : Run) (t : ℕ) (x : LogItem) → IsLegal n limit run → 0 < t → IsUpIn run t
       → MayCome (world n limit run) t (item_of x) → LockingFits n (own_of t run) x → ItemFits n (own_of t run) x
-  fits run t (Did (Lock k) number (moves.Found c found)) legal some_thread active comes locking = locking
-  fits run t (Did (Free c) number moved) legal some_thread active comes locking =
+  fits run t (Stepped (Lock k) number (moves.Found c found)) legal some_thread active comes locking = locking
+  fits run t (Stepped (Free c) number moved) legal some_thread active comes locking =
       free_fits run t c number moved legal some_thread active
       (thread_step (world n limit run) t (Free c) some_thread comes.0)
-  fits run t (Did (Birth c kind k) number moved) legal some_thread active comes locking =
+  fits run t (Stepped (Birth c kind k) number moved) legal some_thread active comes locking =
       birth_fits run t c kind k legal some_thread active
       (thread_step (world n limit run) t (Birth c kind k) some_thread comes.0)
   fits run t x legal some_thread active comes locking = tt
@@ -244,15 +244,15 @@ module _ (n limit : ℕ) (options : AreOptions n limit) where
   -- ---- logs
 
   -- what a log begins with
-  begun : (t : ℕ) (x : Told) (used : Bool) → is_start t (item_of x) ≡ true → Living n (begins used x)
+  begun : (t : ℕ) (x : LogItem) (used : Bool) → is_start t (item_of x) ≡ true → Living n (begins used x)
       → OwnLog n (begins used x)
   begun t x false starts living = tt
-  begun t (Did (Register v) number moved) true starts living = (tt, tt, living)
-  begun t (Did _ number moved) true starts living = absurd (true≢false (sym starts))
-  begun t (Saw word number) true starts living = absurd (true≢false (sym starts))
+  begun t (Stepped (Register v) number moved) true starts living = (tt, tt, living)
+  begun t (Stepped _ number moved) true starts living = absurd (true≢false (sym starts))
+  begun t (Loaded word number) true starts living = absurd (true≢false (sym starts))
   begun t (Lost word number) true starts living = absurd (true≢false (sym starts))
 
-  own_log_by : (t : ℕ) (x : Told) (starts mine used : Bool) (log : List Told) → is_start t (item_of x) ≡ starts
+  own_log_by : (t : ℕ) (x : LogItem) (starts mine used : Bool) (log : List LogItem) → is_start t (item_of x) ≡ starts
       → (starts ≡ true → Living n (begins used x)) → (starts ≡ false → OwnLog n log)
       → (starts ≡ false → mine ≡ true → ItemFits n log x × Living n (x ∷ log))
       → OwnLog n (if starts then begins used x else (if mine then x ∷ log else log))
@@ -293,7 +293,7 @@ module _ (n limit : ℕ) (options : AreOptions n limit) where
   own_log run t legal some_thread active = up_log run t legal some_thread (inl active)
 
 -- whoever knows its part of a run, and is active, has an own log
-pub known_own_log : (n limit : ℕ) (h : Heap) (t : ℕ) (log : List Told) → Known n limit h t log → 0 < t
+pub known_own_log : (n limit : ℕ) (h : Heap) (t : ℕ) (log : List LogItem) → Known n limit h t log → 0 < t
     → is_active (part_seen n log).row.stage ≡ true → OwnLog n log
 known_own_log n limit h t log known some_thread stage =
     subst (OwnLog n) known.is_own

@@ -17,8 +17,8 @@ use Rattle.law_known.specs.Items.{Part, meant, part_by, cell_told}
 use Rattle.law_rule.specs.declared.contents.Contents.{Contents}
 use Rattle.law_rule.specs.declared.told.Moved.{Moved}
 use Rattle.law_rule.specs.declared.told.Moved.TheVariants as moves
-use Rattle.law_rule.specs.declared.told.Told.{Told}
-use Rattle.law_rule.specs.declared.told.Told.TheVariants.{Did, Saw, Lost}
+use Rattle.law_rule.specs.declared.told.LogItem.{LogItem}
+use Rattle.law_rule.specs.declared.told.LogItem.TheVariants.{Stepped, Loaded, Lost}
 use Rattle.law_rule.specs.Logs.{entries_found}
 use Rattle.law_rule.specs.Seen.{part_seen}
 use Rattle.law_payloads.specs.Payloads.{private_seen, last_put, payloads_of, locked_seen}
@@ -65,12 +65,12 @@ part_places n part s number entries (Some d) k c quiet at = frame_keeps s d (cel
     k c quiet at
 
 -- a place has what it had, or nothing
-pub quiet_places : (n : ℕ) (x : Told) (log : List Told) (k c : ℕ) → is_quiet x ≡ true
+pub quiet_places : (n : ℕ) (x : LogItem) (log : List LogItem) (k c : ℕ) → is_quiet x ≡ true
     → place_at (part_seen n (x ∷ log)).frame k ≡ Some c → place_at (part_seen n log).frame k ≡ Some c
-quiet_places n (Did s number moved) log k c quiet at =
+quiet_places n (Stepped s number moved) log k c quiet at =
     part_places n (part_seen n log) s number (entries_found moved) (meant (part_seen n log) s) k c
     (both (only_lets_go s) (puts_nothing moved) quiet).0 at
-quiet_places n (Saw word number) log k c quiet at = at
+quiet_places n (Loaded word number) log k c quiet at = at
 quiet_places n (Lost word number) log k c quiet at = at
 
 -- ---- births
@@ -85,11 +85,11 @@ part_allocs n part s number entries None quiet = refl
 part_allocs n part s number entries (Some d) quiet = allocs_keep s part.row.allocs quiet
 
 -- nothing is born
-pub quiet_allocs : (n : ℕ) (x : Told) (log : List Told) → is_quiet x ≡ true
+pub quiet_allocs : (n : ℕ) (x : LogItem) (log : List LogItem) → is_quiet x ≡ true
     → (part_seen n (x ∷ log)).row.allocs ≡ (part_seen n log).row.allocs
-quiet_allocs n (Did s number moved) log quiet = part_allocs n (part_seen n log) s number (entries_found moved)
+quiet_allocs n (Stepped s number moved) log quiet = part_allocs n (part_seen n log) s number (entries_found moved)
     (meant (part_seen n log) s) (both (only_lets_go s) (puts_nothing moved) quiet).0
-quiet_allocs n (Saw word number) log quiet = refl
+quiet_allocs n (Loaded word number) log quiet = refl
 quiet_allocs n (Lost word number) log quiet = refl
 
 -- ---- the dead
@@ -111,14 +111,14 @@ marks_keep true d marks c off = unmarked marks d true c off (λ same. refl)
 marks_keep false d marks c off = off
 
 work_keeps : (s : Step) (d : ℕ) (x : Cell) (marks : List Bool) (c number : ℕ) (moved : Moved)
-    → frees (Did s number moved) c ≡ false → ((e : ℕ) → s ≡ Free e → e ≡ d)
+    → frees (Stepped s number moved) c ≡ false → ((e : ℕ) → s ≡ Free e → e ≡ d)
     → is_marked (worklist_after s d x marks) c ≡ false → is_marked marks c ≡ false
 work_keeps (Free e) d x marks c number moved kept names off =
     unmarked marks d false c off (λ same. absurd (true≢false (sym same ∙ ap (λ i. i == c) (sym (names e refl)) ∙ kept)))
 work_keeps s d x marks c number moved kept names off = marks_keep (takes_block s x) d marks c off
 
 part_work : (n : ℕ) (part : Part) (s : Step) (number : ℕ) (moved : Moved) (entries : List ℕ) (o : Option ℕ) (c : ℕ)
-    → frees (Did s number moved) c ≡ false → ((e : ℕ) → s ≡ Free e → Some e ≡ o)
+    → frees (Stepped s number moved) c ≡ false → ((e : ℕ) → s ≡ Free e → Some e ≡ o)
     → is_marked (part_by n part s number entries o).worklist c ≡ false → is_marked part.worklist c ≡ false
 part_work n part s number moved entries None c kept names off = off
 part_work n part s number moved entries (Some d) c kept names off =
@@ -126,12 +126,12 @@ part_work n part s number moved entries (Some d) c kept names off =
     names e is in cc) off
 
 -- what isn't dead after an item that doesn't give it back wasn't dead before
-pub was_alive : (n : ℕ) (x : Told) (log : List Told) (c : ℕ) → frees x c ≡ false → is_dead n (x ∷ log) c ≡ false
+pub was_alive : (n : ℕ) (x : LogItem) (log : List LogItem) (c : ℕ) → frees x c ≡ false → is_dead n (x ∷ log) c ≡ false
     → is_dead n log c ≡ false
-was_alive n (Did s number moved) log c kept off =
+was_alive n (Stepped s number moved) log c kept off =
     part_work n (part_seen n log) s number moved (entries_found moved) (meant (part_seen n log) s) c kept
     (λ e is. sym (ap (meant (part_seen n log)) is)) off
-was_alive n (Saw word number) log c kept off = off
+was_alive n (Loaded word number) log c kept off = off
 was_alive n (Lost word number) log c kept off = off
 
 -- ---- payloads
@@ -141,37 +141,38 @@ freed : (b m : Bool) (put : Contents) → (if (if b then false else m) then Some
 freed true m put = refl
 freed false m put = refl
 
-set_keeps : (n : ℕ) (log : List Told) (s : Step) (number : ℕ) (moved : Moved) (c : ℕ) → only_lets_go s ≡ true
-    → private_seen n (Did s number moved ∷ log) c
-    ≡ (if frees (Did s number moved) c then false else private_seen n log c)
+set_keeps : (n : ℕ) (log : List LogItem) (s : Step) (number : ℕ) (moved : Moved) (c : ℕ) → only_lets_go s ≡ true
+    → private_seen n (Stepped s number moved ∷ log) c
+    ≡ (if frees (Stepped s number moved) c then false else private_seen n log c)
 set_keeps n log (Birth d kind k) number moved c quiet = absurd (true≢false (sym quiet))
 set_keeps n log (Unlock change) number moved c quiet = absurd (true≢false (sym quiet))
 set_keeps n log (Offer d) number moved c quiet = absurd (true≢false (sym quiet))
 set_keeps n log s number moved c quiet = refl
 
-put_keeps : (n : ℕ) (log : List Told) (s : Step) (number : ℕ) (moved : Moved) (c : ℕ) → puts_nothing moved ≡ true
-    → last_put (Did s number moved ∷ log) c ≡ last_put log c
+put_keeps : (n : ℕ) (log : List LogItem) (s : Step) (number : ℕ) (moved : Moved) (c : ℕ) → puts_nothing moved ≡ true
+    → last_put (Stepped s number moved ∷ log) c ≡ last_put log c
 put_keeps n log s number (moves.Put d contents) c quiet = absurd (true≢false (sym quiet))
 put_keeps n log s number (moves.Found d contents) c quiet = refl
 put_keeps n log s number moves.Nothing c quiet = refl
 
 -- a payload is as it was, or its cell is given back
-pub quiet_payloads : (n : ℕ) (x : Told) (log : List Told) (c : ℕ) → is_quiet x ≡ true
+pub quiet_payloads : (n : ℕ) (x : LogItem) (log : List LogItem) (c : ℕ) → is_quiet x ≡ true
     → payloads_of n (x ∷ log) c ≡ (if frees x c then None else payloads_of n log c)
-quiet_payloads n (Did s number moved) log c quiet =
+quiet_payloads n (Stepped s number moved) log c quiet =
     let is : (only_lets_go s ≡ true) × (puts_nothing moved ≡ true) = both (only_lets_go s) (puts_nothing moved) quiet in
-    ap (λ b. if b then Some (last_put (Did s number moved ∷ log) c) else None) (set_keeps n log s number moved c is.0)
-    ∙ ap (λ put. if (if frees (Did s number moved) c then false else private_seen n log c) then Some put else None)
+    ap (λ b. if b then Some (last_put (Stepped s number moved ∷ log) c) else None)
+    (set_keeps n log s number moved c is.0)
+    ∙ ap (λ put. if (if frees (Stepped s number moved) c then false else private_seen n log c) then Some put else None)
     (put_keeps n log s number moved c is.1)
-    ∙ freed (frees (Did s number moved) c) (private_seen n log c) (last_put log c)
-quiet_payloads n (Saw word number) log c quiet = refl
+    ∙ freed (frees (Stepped s number moved) c) (private_seen n log c) (last_put log c)
+quiet_payloads n (Loaded word number) log c quiet = refl
 quiet_payloads n (Lost word number) log c quiet = refl
 
 -- ---- what is locked
 
 -- after a locking of a place's cell that is what is locked
-pub lock_names : (n : ℕ) (log : List Told) (k number c : ℕ) (moved : Moved)
-    → place_at (part_seen n log).frame k ≡ Some c → locked_seen n (Did (Lock k) number moved ∷ log) ≡ Some c
+pub lock_names : (n : ℕ) (log : List LogItem) (k number c : ℕ) (moved : Moved)
+    → place_at (part_seen n log).frame k ≡ Some c → locked_seen n (Stepped (Lock k) number moved ∷ log) ≡ Some c
 lock_names n log k number c moved at =
     ap (λ o. locked_cell (part_by n (part_seen n log) (Lock k) number (entries_found moved) o).frame
     (part_by n (part_seen n log) (Lock k) number (entries_found moved) o).row.locked) at ∙ at
@@ -179,6 +180,6 @@ lock_names n log k number c moved at =
 -- ---- lists of such items
 
 -- one list of them after another
-pub quietly_joined : (a b c : List Told) → Quietly a b → Quietly b c → Quietly a c
+pub quietly_joined : (a b c : List LogItem) → Quietly a b → Quietly b c → Quietly a c
 quietly_joined a b c first NoItem = first
 quietly_joined a b c first (OneMore x log more quiet) = OneMore x log (quietly_joined a b log first more) quiet

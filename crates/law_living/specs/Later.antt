@@ -1,8 +1,8 @@
 -- A log with more items after it.
 use Rattle.std.specs.Prelude.{◌≡◌, List, ◌++◌}
-use Rattle.law_rule.specs.declared.told.Told.{Told}
+use Rattle.law_rule.specs.declared.told.LogItem.{LogItem}
 
 -- the second log is the first with some items after it
-pub record IsLater (old new : List Told) : Type 0 where
-  pub items : List Told
+pub record IsLater (old new : List LogItem) : Type 0 where
+  pub items : List LogItem
   pub is : new ≡ items ++ old

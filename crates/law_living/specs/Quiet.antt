@@ -4,8 +4,8 @@ use Rattle.law_world.specs.declared.event.Step.{Step}
 use Rattle.law_world.specs.declared.event.Step.TheVariants.{Birth, Free, Unlock, LocalUp, SharedUp, Offer}
 use Rattle.law_rule.specs.declared.told.Moved.{Moved}
 use Rattle.law_rule.specs.declared.told.Moved.TheVariants as moves
-use Rattle.law_rule.specs.declared.told.Told.{Told}
-use Rattle.law_rule.specs.declared.told.Told.TheVariants.{Did}
+use Rattle.law_rule.specs.declared.told.LogItem.{LogItem}
+use Rattle.law_rule.specs.declared.told.LogItem.TheVariants.{Stepped}
 
 -- the step neither bears, nor unlocks, nor fills a place, nor hands over
 abbrev pub only_lets_go : Step → Bool
@@ -21,16 +21,16 @@ puts_nothing (moves.Put c contents) = false
 puts_nothing _ = true
 
 -- such a step, which puts nothing home, or a note
-abbrev pub is_quiet : Told → Bool
-is_quiet (Did s number moved) = only_lets_go s && puts_nothing moved
+abbrev pub is_quiet : LogItem → Bool
+is_quiet (Stepped s number moved) = only_lets_go s && puts_nothing moved
 is_quiet x = true
 
 -- it gives the cell back
-abbrev pub frees : Told → ℕ → Bool
-frees (Did (Free d) number moved) c = d == c
+abbrev pub frees : LogItem → ℕ → Bool
+frees (Stepped (Free d) number moved) c = d == c
 frees x c = false
 
 -- the second log is the first with such items after it
-pub data Quietly (old : List Told) : List Told → Type 0 where
+pub data Quietly (old : List LogItem) : List LogItem → Type 0 where
   NoItem : Quietly old old
-  OneMore : (x : Told) (log : List Told) → Quietly old log → is_quiet x ≡ true → Quietly old (x ∷ log)
+  OneMore : (x : LogItem) (log : List LogItem) → Quietly old log → is_quiet x ≡ true → Quietly old (x ∷ log)

@@ -10,8 +10,8 @@ ghost use Rattle.law_world.specs.Heap.{row_at, AreOptions};
 ghost use Rattle.law_world.specs.Steps.{is_active};
 ghost use Rattle.law_rule.specs.declared.contents.Contents.{Contents as contents};
 ghost use Rattle.law_rule.specs.declared.told.Moved.{Moved as moved};
-ghost use Rattle.law_rule.specs.declared.told.Told.{Told as told};
-ghost use Rattle.law_rule.specs.declared.told.Told.TheVariants as tells;
+ghost use Rattle.law_rule.specs.declared.told.LogItem.{LogItem as told};
+ghost use Rattle.law_rule.specs.declared.told.LogItem.TheVariants as tells;
 ghost use Rattle.law_rule.specs.declared.view.View.{View as view};
 ghost use Rattle.law_rule.specs.Logs.{Run, world, own_of, IsLegal};
 ghost use Rattle.law_rule.specs.Rule.{Kept};
@@ -52,5 +52,5 @@ pub fn quiet_items_only_let_go()
 pub fn lockings_lock_their_place()
     ensures { (n : ℕ) (log : List told) (k number c : ℕ) (moved : moved)
         → place_at (part_seen n log).frame k ≡ Some c
-        → locked_seen n (tells.Did (steps.Lock k) number moved ∷ log) ≡ Some c }
+        → locked_seen n (tells.Stepped (steps.Lock k) number moved ∷ log) ≡ Some c }
 {}

@@ -12,7 +12,7 @@ use Rattle.brc_meaning.specs.declared.state.State.{State}
 use Rattle.brc_meaning.specs.Outcomes.{◌>>=◌}
 use Rattle.brc_meaning.specs.States.{held, holding, asked, changed, calling, start, called}
 use Rattle.brc_meaning.specs.Steps.{after}
-use Rattle.brc_meaning.specs.Sections.{Stop, line_after, lines_after, written_out, told, meaning}
+use Rattle.brc_meaning.specs.Sections.{SectionStop, line_after, lines_after, written_out, told, meaning}
 use Rattle.brc_meaning.specs.Wholes.{ended}
 use Rattle.brc_meaning.proofs.Keeping.{kept_after}
 use Rattle.brc_meaning.proofs.WrittenOut.{section_written_out, lines_append}
@@ -91,7 +91,7 @@ module _ {A : Type 0} where
   adds_line line s = by_line (after line.instruction s) s line.number (adds_after line.instruction s)
 
   -- what comes after only adds
-  adds_later : (r : Result (State A) (Stop A)) (next : State A → Result (State A) (Stop A))
+  adds_later : (r : Result (State A) (SectionStop A)) (next : State A → Result (State A) (SectionStop A))
       → ((s : State A) → AddsTo s (ended (next s))) → AddsTo (ended r) (ended (r >>= next))
   adds_later (Ok s) next adds = adds s
   adds_later (Err stop) next adds = adds_nothing stop.state
@@ -111,7 +111,7 @@ module _ {A : Type 0} where
   -- ---- meanings
 
   -- what is told is where the lines ended
-  told_front : (s : State A) (r : Result (State A) (Stop A)) → AddsTo s (ended r) → IsFrontOf s (told r)
+  told_front : (s : State A) (r : Result (State A) (SectionStop A)) → AddsTo s (ended r) → IsFrontOf s (told r)
   told_front s (Ok next) adds = record { lines = adds.printed; made = adds.objects }
   told_front s (Err stop) adds = record { lines = adds.printed; made = adds.objects }
 
@@ -126,10 +126,10 @@ module _ {A : Type 0} where
       subst (IsFrontOf (ended (lines_after lines start))) (sym (meant_by section lines later are))
       (told_front (ended (lines_after lines start)) (lines_after (lines ++ later) start) (front_adds lines later start))
 
-  pub stop_meant : (section : Section A) (lines later : List (NumberedLine A)) (stop : Stop A)
+  pub stop_meant : (section : Section A) (lines later : List (NumberedLine A)) (stop : SectionStop A)
       → written_out section.pieces ≡ lines ++ later → lines_after lines start ≡ Err stop
       → meaning section ≡ told (Err stop)
   stop_meant section lines later stop are stopped =
       meant_by section lines later are
       ∙ ap told (sym (lines_append lines later start)
-      ∙ ap (λ (r : Result (State A) (Stop A)). r >>= λ next. lines_after later next) stopped)
+      ∙ ap (λ (r : Result (State A) (SectionStop A)). r >>= λ next. lines_after later next) stopped)

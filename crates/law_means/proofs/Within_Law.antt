@@ -19,7 +19,7 @@ use Rattle.brc_meaning.specs.Outcomes.{◌>>=◌}
 use Rattle.brc_meaning.specs.States.{held, holding, meant, asked, changed, calling, start, with_register, with_object}
 use Rattle.brc_meaning.specs.States.{called}
 use Rattle.brc_meaning.specs.Steps.{after}
-use Rattle.brc_meaning.specs.Sections.{Stop, line_after, lines_after}
+use Rattle.brc_meaning.specs.Sections.{SectionStop, line_after, lines_after}
 use Rattle.brc_meaning.specs.Wholes.{Each, ended}
 use Rattle.brc_meaning.proofs.Oks.{ok_then, ok_found}
 use Rattle.brc_meaning.proofs.WholeCalls.{IsKept, each_weaker}
@@ -222,8 +222,8 @@ module _ {A : Type 0} where
   within_line part (Ok next) s line within there = there
   within_line part (Err fault) s line within there = within_same part s within
 
-  within_later : (part : ℕ → Bool) (s : State A) (r : Result (State A) (Stop A)) (next : State A
-      → Result (State A) (Stop A)) → length s.objects ≤ length (ended r).objects
+  within_later : (part : ℕ → Bool) (s : State A) (r : Result (State A) (SectionStop A)) (next : State A
+      → Result (State A) (SectionStop A)) → length s.objects ≤ length (ended r).objects
       → IsWithin (joined (length s.objects) part) (ended r)
       → ((z : State A) → length s.objects ≤ length z.objects → IsWithin (joined (length s.objects) part) z
       → IsWithin (joined (length s.objects) part) (ended (next z)))

@@ -11,7 +11,7 @@ ghost use Rattle.brc_meaning.specs.declared.state.State.{State as state};
 ghost use Rattle.brc_meaning.specs.States.{start};
 ghost use Rattle.brc_meaning.specs.Steps.{after};
 ghost use Rattle.brc_meaning.specs.Wholes.{ended};
-ghost use Rattle.brc_meaning.specs.Sections.{Stop, lines_after, written_out, told, meaning};
+ghost use Rattle.brc_meaning.specs.Sections.{SectionStop, lines_after, written_out, told, meaning};
 ghost use Rattle.law_means.specs.Within.{IsWithin, joined};
 ghost use Rattle.law_means.specs.Fronts.{AddsTo, IsFrontOf};
 
@@ -40,7 +40,7 @@ pub fn meanings_have_fronts<A: Allocator>()
     ensures front { (section : TheSection A) (lines later : List (NumberedLine A))
         → written_out section.pieces ≡ lines ++ later
         → IsFrontOf (ended (lines_after lines start)) (meaning section) }
-    ensures stop { (section : TheSection A) (lines later : List (NumberedLine A)) (stop : Stop A)
+    ensures stop { (section : TheSection A) (lines later : List (NumberedLine A)) (stop : SectionStop A)
         → written_out section.pieces ≡ lines ++ later → lines_after lines start ≡ Err stop
         → meaning section ≡ told (Err stop) }
 {}

@@ -9,8 +9,8 @@ use Rattle.law_world.specs.declared.event.Step.TheVariants.{Birth, Free, Unlock,
 use Rattle.law_rule.specs.declared.contents.Contents.{Contents}
 use Rattle.law_rule.specs.declared.told.Moved.{Moved}
 use Rattle.law_rule.specs.declared.told.Moved.TheVariants as moves
-use Rattle.law_rule.specs.declared.told.Told.{Told}
-use Rattle.law_rule.specs.declared.told.Told.TheVariants.{Did}
+use Rattle.law_rule.specs.declared.told.LogItem.{LogItem}
+use Rattle.law_rule.specs.declared.told.LogItem.TheVariants.{Stepped}
 use Rattle.law_rule.specs.Seen.{part_seen}
 use Rattle.law_private.specs.Private.{is_shared, is_plain}
 use Rattle.law_private.proofs.Going_On.{same_set}
@@ -25,8 +25,8 @@ born_there : (b m : Bool) (new old : Contents) → payload_if (if b then true el
 born_there true m new old = refl
 born_there false m new old = refl
 
-pub born : (n : ℕ) (log : List Told) (d : ℕ) (kind : Kind) (k number : ℕ) (contents : Contents) (c : ℕ)
-    → payloads_of n (Did (Birth d kind k) number (moves.Put d contents) ∷ log) c
+pub born : (n : ℕ) (log : List LogItem) (d : ℕ) (kind : Kind) (k number : ℕ) (contents : Contents) (c : ℕ)
+    → payloads_of n (Stepped (Birth d kind k) number (moves.Put d contents) ∷ log) c
     ≡ (if d == c then Some contents else payloads_of n log c)
 born n log d kind k number contents c = born_there (d == c) (private_seen n log c) contents (last_put log c)
 
@@ -35,20 +35,22 @@ freed_there : (b m : Bool) (old : Contents)
 freed_there true m old = refl
 freed_there false m old = refl
 
-pub freed : (n : ℕ) (log : List Told) (d number c : ℕ) → payloads_of n (Did (Free d) number moves.Nothing ∷ log) c
+pub freed : (n : ℕ) (log : List LogItem) (d number c : ℕ)
+    → payloads_of n (Stepped (Free d) number moves.Nothing ∷ log) c
     ≡ (if d == c then None else payloads_of n log c)
 freed n log d number c = freed_there (d == c) (private_seen n log c) (last_put log c)
 
-pub offered : (n : ℕ) (log : List Told) (d number c : ℕ) → payloads_of n (Did (Offer d) number moves.Nothing ∷ log) c
+pub offered : (n : ℕ) (log : List LogItem) (d number c : ℕ)
+    → payloads_of n (Stepped (Offer d) number moves.Nothing ∷ log) c
     ≡ (if private_seen n log d then None else payloads_of n log c)
 offered n log d number c = freed_there (private_seen n log d) (private_seen n log c) (last_put log c)
 
-pub shared : (n : ℕ) (log : List Told) (change : Change) (number : ℕ) (moved : Moved) (c : ℕ)
+pub shared : (n : ℕ) (log : List LogItem) (change : Change) (number : ℕ) (moved : Moved) (c : ℕ)
     → is_shared (private_seen n log) (part_seen n log).frame (locked_seen n log) change ≡ true
-    → payloads_of n (Did (Unlock change) number moved ∷ log) c ≡ None
+    → payloads_of n (Stepped (Unlock change) number moved ∷ log) c ≡ None
 shared n log change number moved c is =
     ap (λ b. payload_if (if b then false else private_seen n log c)
-    (last_put (Did (Unlock change) number moved ∷ log) c)) is
+    (last_put (Stepped (Unlock change) number moved ∷ log) c)) is
 
 unshared_there : (b m : Bool) (new old : Contents) → (b ≡ true → m ≡ true)
     → payload_if m (if b then new else old) ≡ (if b then Some new else payload_if m old)
@@ -62,30 +64,30 @@ outside_there true true new old out = absurd (true≢false (out refl))
 outside_there true false new old out = refl
 outside_there false m new old out = refl
 
-pub changed : (n : ℕ) (log : List Told) (change : Change) (number d : ℕ) (contents : Contents) (c : ℕ)
+pub changed : (n : ℕ) (log : List LogItem) (change : Change) (number d : ℕ) (contents : Contents) (c : ℕ)
     → is_shared (private_seen n log) (part_seen n log).frame (locked_seen n log) change ≡ false
-    → private_seen n log d ≡ true → payloads_of n (Did (Unlock change) number (moves.Put d contents) ∷ log) c
+    → private_seen n log d ≡ true → payloads_of n (Stepped (Unlock change) number (moves.Put d contents) ∷ log) c
     ≡ (if d == c then Some contents else payloads_of n log c)
 changed n log change number d contents c kept own =
     ap (λ b. payload_if (if b then false else private_seen n log c) (if d == c then contents else last_put log c)) kept
     ∙ unshared_there (d == c) (private_seen n log c) contents (last_put log c)
     (λ same. ap (private_seen n log) (sym (eqb-true d c same)) ∙ own)
 
-pub outside : (n : ℕ) (log : List Told) (change : Change) (number d : ℕ) (contents : Contents) (c : ℕ)
+pub outside : (n : ℕ) (log : List LogItem) (change : Change) (number d : ℕ) (contents : Contents) (c : ℕ)
     → is_shared (private_seen n log) (part_seen n log).frame (locked_seen n log) change ≡ false
-    → private_seen n log d ≡ false → payloads_of n (Did (Unlock change) number (moves.Put d contents) ∷ log) c
+    → private_seen n log d ≡ false → payloads_of n (Stepped (Unlock change) number (moves.Put d contents) ∷ log) c
     ≡ payloads_of n log c
 outside n log change number d contents c kept out =
     ap (λ b. payload_if (if b then false else private_seen n log c) (if d == c then contents else last_put log c)) kept
     ∙ outside_there (d == c) (private_seen n log c) contents (last_put log c)
     (λ same. ap (private_seen n log) (sym (eqb-true d c same)) ∙ out)
 
-pub plain : (n : ℕ) (log : List Told) (s : Step) (number c : ℕ) → is_plain s ≡ true
-    → payloads_of n (Did s number moves.Nothing ∷ log) c ≡ payloads_of n log c
+pub plain : (n : ℕ) (log : List LogItem) (s : Step) (number c : ℕ) → is_plain s ≡ true
+    → payloads_of n (Stepped s number moves.Nothing ∷ log) c ≡ payloads_of n log c
 plain n log s number c is = ap (λ b. payload_if b (last_put log c))
     (same_set (part_seen n log).frame (locked_seen n log) s (private_seen n log) c is)
 
-pub found : (n : ℕ) (log : List Told) (s : Step) (number d : ℕ) (contents : Contents) (c : ℕ) → is_plain s ≡ true
-    → payloads_of n (Did s number (moves.Found d contents) ∷ log) c ≡ payloads_of n log c
+pub found : (n : ℕ) (log : List LogItem) (s : Step) (number d : ℕ) (contents : Contents) (c : ℕ) → is_plain s ≡ true
+    → payloads_of n (Stepped s number (moves.Found d contents) ∷ log) c ≡ payloads_of n log c
 found n log s number d contents c is = ap (λ b. payload_if b (last_put log c))
     (same_set (part_seen n log).frame (locked_seen n log) s (private_seen n log) c is)

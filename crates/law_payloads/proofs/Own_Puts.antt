@@ -24,8 +24,8 @@ use Rattle.law_known.proofs.Items_Runs.{events_run}
 use Rattle.law_rule.specs.declared.contents.Contents.{Contents}
 use Rattle.law_rule.specs.declared.told.Moved.{Moved}
 use Rattle.law_rule.specs.declared.told.Moved.TheVariants as moves
-use Rattle.law_rule.specs.declared.told.Told.{Told}
-use Rattle.law_rule.specs.declared.told.Told.TheVariants.{Did, Saw, Lost}
+use Rattle.law_rule.specs.declared.told.LogItem.{LogItem}
+use Rattle.law_rule.specs.declared.told.LogItem.TheVariants.{Stepped, Loaded, Lost}
 use Rattle.law_rule.specs.Logs.{item_of, Run, items_of, own_of, world, put_by, contents_at, puts, MovesWith, IsMoved}
 use Rattle.law_rule.specs.Logs.{IsLegal, begins, entries_found, log_items}
 use Rattle.law_rule.proofs.Own_Logs.{own_items, own_more, own_same}
@@ -108,7 +108,7 @@ module _ (n limit : ℕ) (options : AreOptions n limit) where
   pub legal_sound : (run : Run) → IsLegal n limit run → IsSound (world n limit run)
   legal_sound run legal = reached_sound (world n limit run) (legal_reached run legal)
 
-  pub legal_before : (x : ℕ × Told) (run : Run) → IsLegal n limit (x ∷ run) → IsLegal n limit run
+  pub legal_before : (x : ℕ × LogItem) (run : Run) → IsLegal n limit (x ∷ run) → IsLegal n limit run
   legal_before x run legal = record { items = legal.items.0; moved = legal.moved.0 }
 
   -- an active thread's private cells are its own
@@ -133,7 +133,7 @@ module _ (n limit : ℕ) (options : AreOptions n limit) where
       → private_seen n (own_of t run) c ≡ true → contents_at run c ≡ last_put (own_of t run) c
 
   -- an item that is no own one, and puts nothing home in private cells
-  calm : (run : Run) (t u : ℕ) (x : Told) (c : ℕ) → own_of t ((u, x) ∷ run) ≡ own_of t run
+  calm : (run : Run) (t u : ℕ) (x : LogItem) (c : ℕ) → own_of t ((u, x) ∷ run) ≡ own_of t run
       → (private_seen n (own_of t run) c ≡ true → contents_at ((u, x) ∷ run) c ≡ contents_at run c)
       → (private_seen n (own_of t run) c ≡ true → contents_at run c ≡ last_put (own_of t run) c)
       → private_seen n (own_of t ((u, x) ∷ run)) c ≡ true
@@ -146,12 +146,12 @@ module _ (n limit : ℕ) (options : AreOptions n limit) where
   own_step : (run : Run) (t : ℕ) (s : Step) (number : ℕ) (moved : Moved) → IsLegal n limit run
       → May (world n limit run) t s → MovesWith (world n limit run) run t s moved → OwnPuts run t
       → is_active (row_at (moved_on (world n limit run) t s) t).stage ≡ true → (c : ℕ)
-      → private_seen n (own_of t ((t, Did s number moved) ∷ run)) c ≡ true
-      → contents_at ((t, Did s number moved) ∷ run) c ≡ last_put (own_of t ((t, Did s number moved) ∷ run)) c
+      → private_seen n (own_of t ((t, Stepped s number moved) ∷ run)) c ≡ true
+      → contents_at ((t, Stepped s number moved) ∷ run) c ≡ last_put (own_of t ((t, Stepped s number moved) ∷ run)) c
   unfolding OwnPuts
   own_step run t s number moved legal may goes before active c is =
       let h : Heap = world n limit run in
-      let x : Told = Did s number moved in
+      let x : LogItem = Stepped s number moved in
       let own : own_of t ((t, x) ∷ run) ≡ x ∷ own_of t run = own_more t x run (no_start h t s number moved may t) in
       elim (active_or_opens h t s (target_at h t s) may active) [
         | inr opens ↦ absurd (true≢false (sym is ∙ ap (λ log. private_seen n log c) own
@@ -171,21 +171,21 @@ module _ (n limit : ℕ) (options : AreOptions n limit) where
   others_step : (run : Run) (t u : ℕ) (s : Step) (number : ℕ) (moved : Moved) → IsLegal n limit run → 0 < t → u ≢ t
       → thread_may (world n limit run) u s ≡ true → MovesWith (world n limit run) run u s moved → OwnPuts run t
       → is_active (row_at (world n limit run) t).stage ≡ true → (c : ℕ)
-      → private_seen n (own_of t ((u, Did s number moved) ∷ run)) c ≡ true
-      → contents_at ((u, Did s number moved) ∷ run) c ≡ last_put (own_of t ((u, Did s number moved) ∷ run)) c
+      → private_seen n (own_of t ((u, Stepped s number moved) ∷ run)) c ≡ true
+      → contents_at ((u, Stepped s number moved) ∷ run) c ≡ last_put (own_of t ((u, Stepped s number moved) ∷ run)) c
   unfolding OwnPuts
   others_step run t u s number moved legal some_thread other may goes before active c is =
       let h : Heap = world n limit run in
-      let older : is_start t (item_of (Did s number moved)) ≡ false = no_start h u s number moved
+      let older : is_start t (item_of (Stepped s number moved)) ≡ false = no_start h u s number moved
       (may_parts h u s may) t in
-      calm run t u (Did s number moved) c (own_same u t (Did s number moved) run older other)
+      calm run t u (Stepped s number moved) c (own_same u t (Stepped s number moved) run older other)
       (λ mine. not_put run u s number moved h c goes (λ puts_it. others_leave h t u (private_seen n (own_of t run)) s c
       (legal_sound run legal) (isolated run t legal some_thread active) other may (puts_meant h u s c puts_it) mine))
       (before active c) is
 
   -- a log that begins has none
   none_begun : (v number : ℕ) (moved : Moved) (c : ℕ) (used : Bool)
-      → private_seen n (begins used (Did (Register v) number moved)) c ≡ false
+      → private_seen n (begins used (Stepped (Register v) number moved)) c ≡ false
   none_begun v number moved c true = refl
   none_begun v number moved c false = refl
 
@@ -194,19 +194,19 @@ module _ (n limit : ℕ) (options : AreOptions n limit) where
       → enabled (world n limit run) (record { thread = 0; step = s }) ≡ true → root_may (world n limit run) s ≡ true
       → MovesWith (world n limit run) run 0 s moved → OwnPuts run t
       → is_active (row_at (after (world n limit run) (record { thread = 0; step = s })) t).stage ≡ true → (c : ℕ)
-      → private_seen n (own_of t ((0, Did s number moved) ∷ run)) c ≡ true
-      → contents_at ((0, Did s number moved) ∷ run) c ≡ last_put (own_of t ((0, Did s number moved) ∷ run)) c
+      → private_seen n (own_of t ((0, Stepped s number moved) ∷ run)) c ≡ true
+      → contents_at ((0, Stepped s number moved) ∷ run) c ≡ last_put (own_of t ((0, Stepped s number moved) ∷ run)) c
   unfolding OwnPuts
   root_step run t (Gather v) number moved legal some_thread ok may goes before active c is =
-      calm run t 0 (Did (Gather v) number moved) c
-      (own_same 0 t (Did (Gather v) number moved) run refl (λ e. omega (arith, e, some_thread)))
+      calm run t 0 (Stepped (Gather v) number moved) c
+      (own_same 0 t (Stepped (Gather v) number moved) run refl (λ e. omega (arith, e, some_thread)))
       (λ mine. not_put run 0 (Gather v) number moved (world n limit run) c goes
       (λ bad. (let none : None ≡ Some c = bad in cc)))
       (before active c) is
   root_step run t (Register v) number moved legal some_thread ok may goes before active c is =
       elim (cases_Bool (v == t)) [
         | inl mine ↦
-            let x : Told = Did (Register v) number moved in
+            let x : LogItem = Stepped (Register v) number moved in
             let used : Bool = is_used t (items_of run) in
             let own : own_of t ((0, x) ∷ run) ≡ begins used x =
             ap (λ b. if b then begins used x else (if 0 == t then x ∷ own_of t run else own_of t run)) mine in
@@ -218,17 +218,17 @@ module _ (n limit : ℕ) (options : AreOptions n limit) where
             let was : is_active (row_at h t).stage ≡ true = ap (λ (r : Row). is_active r.stage)
             (sym (others_own h e t (legal_sound run legal) ok (record { other = other; apart = apart })).row)
             ∙ active in
-            calm run t 0 (Did (Register v) number moved) c
-            (own_same 0 t (Did (Register v) number moved) run apart other)
+            calm run t 0 (Stepped (Register v) number moved) c
+            (own_same 0 t (Stepped (Register v) number moved) run apart other)
             (λ mine. not_put run 0 (Register v) number moved h c goes (λ bad. (let none : None ≡ Some c = bad in cc)))
             (before was c) is
       ]
   root_step run t s number moved legal some_thread ok may goes before active c is = absurd (true≢false (sym may))
 
   -- a note puts nothing home
-  note : (run : Run) (t u : ℕ) (x : Told) → is_start t (item_of x) ≡ false
-      → ((log : List Told) (c : ℕ) → private_seen n (x ∷ log) c ≡ private_seen n log c)
-      → ((log : List Told) (c : ℕ) → last_put (x ∷ log) c ≡ last_put log c)
+  note : (run : Run) (t u : ℕ) (x : LogItem) → is_start t (item_of x) ≡ false
+      → ((log : List LogItem) (c : ℕ) → private_seen n (x ∷ log) c ≡ private_seen n log c)
+      → ((log : List LogItem) (c : ℕ) → last_put (x ∷ log) c ≡ last_put log c)
       → ((c : ℕ) → contents_at ((u, x) ∷ run) c ≡ contents_at run c)
       → ((c : ℕ) → private_seen n (own_of t run) c ≡ true → contents_at run c ≡ last_put (own_of t run) c)
       → (c : ℕ) → private_seen n (own_of t ((u, x) ∷ run)) c ≡ true
@@ -246,12 +246,12 @@ module _ (n limit : ℕ) (options : AreOptions n limit) where
       → enabled (world n limit run) (record { thread = u; step = s }) ≡ true
       → MovesWith (world n limit run) run u s moved → OwnPuts run t
       → is_active (row_at (after (world n limit run) (record { thread = u; step = s })) t).stage ≡ true → (c : ℕ)
-      → private_seen n (own_of t ((u, Did s number moved) ∷ run)) c ≡ true
-      → contents_at ((u, Did s number moved) ∷ run) c ≡ last_put (own_of t ((u, Did s number moved) ∷ run)) c
+      → private_seen n (own_of t ((u, Stepped s number moved) ∷ run)) c ≡ true
+      → contents_at ((u, Stepped s number moved) ∷ run) c ≡ last_put (own_of t ((u, Stepped s number moved) ∷ run)) c
   unfolding OwnPuts
   did_step run t u s number moved legal some_thread ok goes before active c is =
       let h : Heap = world n limit run in
-      let x : Told = Did s number moved in
+      let x : LogItem = Stepped s number moved in
       elim (cases_Bool (u == 0)) [
         | inl root ↦
             let zero_is : u ≡ 0 = eqb-true u 0 root in
@@ -289,13 +289,14 @@ module _ (n limit : ℕ) (options : AreOptions n limit) where
       no_about h u (Gather v) t may = absurd (true≢false (sym may.hand))
       no_about h u _ t may = refl
 
-  item_step : (run : Run) (t u : ℕ) (x : Told) → IsLegal n limit run → 0 < t → MayCome (world n limit run) u (item_of x)
+  item_step : (run : Run) (t u : ℕ) (x : LogItem) → IsLegal n limit run → 0 < t
+      → MayCome (world n limit run) u (item_of x)
       → IsMoved (world n limit run) run u x → OwnPuts run t → OwnPuts ((u, x) ∷ run) t
   unfolding OwnPuts
-  item_step run t u (Did s number moved) legal some_thread comes goes before active c is =
+  item_step run t u (Stepped s number moved) legal some_thread comes goes before active c is =
       did_step run t u s number moved legal some_thread comes.0 goes before active c is
-  item_step run t u (Saw word number) legal some_thread comes goes before active c is =
-      note run t u (Saw word number) refl (λ log c. refl) (λ log c. refl) (λ c. refl) (before active) c is
+  item_step run t u (Loaded word number) legal some_thread comes goes before active c is =
+      note run t u (Loaded word number) refl (λ log c. refl) (λ log c. refl) (λ c. refl) (before active) c is
   item_step run t u (Lost word number) legal some_thread comes goes before active c is =
       note run t u (Lost word number) refl (λ log c. refl) (λ log c. refl) (λ c. refl) (before active) c is
 

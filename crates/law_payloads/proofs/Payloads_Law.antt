@@ -15,8 +15,8 @@ use Rattle.law_world.proofs.Asking.{may_parts}
 use Rattle.law_known.specs.Items.{MayCome, is_start, is_used, IsPart}
 use Rattle.law_rule.specs.declared.contents.Contents.{Contents}
 use Rattle.law_rule.specs.declared.told.Moved.TheVariants as moves
-use Rattle.law_rule.specs.declared.told.Told.{Told}
-use Rattle.law_rule.specs.declared.told.Told.TheVariants.{Did, Saw, Lost}
+use Rattle.law_rule.specs.declared.told.LogItem.{LogItem}
+use Rattle.law_rule.specs.declared.told.LogItem.TheVariants.{Stepped, Loaded, Lost}
 use Rattle.law_rule.specs.declared.view.View.{View}
 use Rattle.law_rule.specs.Logs.{item_of, Run, items_of, begins, own_of, world, contents_at, IsMoved, IsLegal}
 use Rattle.law_rule.specs.Rule.{Kept}
@@ -59,9 +59,9 @@ module _ (n limit : ℕ) (options : AreOptions n limit) where
         (sym (subst (λ b. (if b then root_may h (Lock k) else thread_may h t (Lock k)) ≡ true) root ok)))
   ]
 
-  fits : (run : Run) (t : ℕ) (x : Told) → IsLegal n limit run → MayCome (world n limit run) t (item_of x)
+  fits : (run : Run) (t : ℕ) (x : LogItem) → IsLegal n limit run → MayCome (world n limit run) t (item_of x)
       → IsMoved (world n limit run) run t x → LockingFits n (own_of t run) x
-  fits run t (Did (Lock k) number (moves.Found c found)) legal comes goes =
+  fits run t (Stepped (Lock k) number (moves.Found c found)) legal comes goes =
       let may = may_parts (world n limit run) t (Lock k) (by_thread (world n limit run) t k comes.0) in
       record {
         private = λ payload is. goes.there ∙ payload_is_there run t c payload legal may.some_thread
@@ -71,14 +71,14 @@ module _ (n limit : ℕ) (options : AreOptions n limit) where
   fits run t x legal comes goes = tt
 
   -- the root's item locks nothing
-  begun : (t : ℕ) (x : Told) (used : Bool) → is_start t (item_of x) ≡ true → OwnLocks n (begins used x)
+  begun : (t : ℕ) (x : LogItem) (used : Bool) → is_start t (item_of x) ≡ true → OwnLocks n (begins used x)
   begun t x false starts = tt
-  begun t (Did (Register v) number moved) true starts = (tt, tt)
-  begun t (Did _ number moved) true starts = absurd (true≢false (sym starts))
-  begun t (Saw word number) true starts = absurd (true≢false (sym starts))
+  begun t (Stepped (Register v) number moved) true starts = (tt, tt)
+  begun t (Stepped _ number moved) true starts = absurd (true≢false (sym starts))
+  begun t (Loaded word number) true starts = absurd (true≢false (sym starts))
   begun t (Lost word number) true starts = absurd (true≢false (sym starts))
 
-  more : (t u : ℕ) (x : Told) (run : Run) (starts mine used : Bool) → is_start t (item_of x) ≡ starts
+  more : (t u : ℕ) (x : LogItem) (run : Run) (starts mine used : Bool) → is_start t (item_of x) ≡ starts
       → OwnLocks n (own_of t run) → (mine ≡ true → LockingFits n (own_of t run) x)
       → OwnLocks n (if starts then begins used x else (if mine then x ∷ own_of t run else own_of t run))
   more t u x run true mine used first before new = begun t x used first

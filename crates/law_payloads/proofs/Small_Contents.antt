@@ -18,8 +18,8 @@ use Rattle.law_lasting.proofs.Lasting.{bearing}
 use Rattle.law_known.specs.Items.{MayCome}
 use Rattle.law_rule.specs.declared.told.Moved.{Moved}
 use Rattle.law_rule.specs.declared.told.Moved.TheVariants as moves
-use Rattle.law_rule.specs.declared.told.Told.{Told}
-use Rattle.law_rule.specs.declared.told.Told.TheVariants.{Did, Saw, Lost}
+use Rattle.law_rule.specs.declared.told.LogItem.{LogItem}
+use Rattle.law_rule.specs.declared.told.LogItem.TheVariants.{Stepped, Loaded, Lost}
 use Rattle.law_rule.specs.Logs.{item_of, Run, world, put_in, put_by, contents_at, opening_contents, puts, keeps}
 use Rattle.law_rule.specs.Logs.{MovesWith, IsMoved, IsLegal}
 use Rattle.law_private.proofs.Small_Immortals.{keeps_small}
@@ -68,10 +68,11 @@ did_keeps h run u s (moves.Put d contents) c sound ok goes low = elim (cases_eq 
       ∙ goes.kept (small_keeps h u s c sound (by_thread h u s c ok there) there low) ∙ ap (contents_at run) same
 ]
 
-item_keeps : (h : Heap) (run : Run) (u : ℕ) (x : Told) (c : ℕ) → IsSound h → MayCome h u (item_of x) → IsMoved h run u x
+item_keeps : (h : Heap) (run : Run) (u : ℕ) (x : LogItem) (c : ℕ) → IsSound h → MayCome h u (item_of x)
+    → IsMoved h run u x
     → c < GLOBALS → put_in x c (contents_at run c) ≡ contents_at run c
-item_keeps h run u (Did s number moved) c sound comes goes low = did_keeps h run u s moved c sound comes.0 goes low
-item_keeps h run u (Saw word number) c sound comes goes low = refl
+item_keeps h run u (Stepped s number moved) c sound comes goes low = did_keeps h run u s moved c sound comes.0 goes low
+item_keeps h run u (Loaded word number) c sound comes goes low = refl
 item_keeps h run u (Lost word number) c sound comes goes low = refl
 
 module _ (n limit : ℕ) (options : AreOptions n limit) where

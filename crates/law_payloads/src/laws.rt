@@ -15,8 +15,8 @@ ghost use Rattle.law_known.specs.declared.word.Word.{Word as word};
 ghost use Rattle.law_rule.specs.declared.contents.Contents.{Contents as contents};
 ghost use Rattle.law_rule.specs.declared.told.Moved.{Moved as moved};
 ghost use Rattle.law_rule.specs.declared.told.Moved.TheVariants as moves;
-ghost use Rattle.law_rule.specs.declared.told.Told.{Told as told};
-ghost use Rattle.law_rule.specs.declared.told.Told.TheVariants as tells;
+ghost use Rattle.law_rule.specs.declared.told.LogItem.{LogItem as told};
+ghost use Rattle.law_rule.specs.declared.told.LogItem.TheVariants as tells;
 ghost use Rattle.law_rule.specs.declared.view.View.{View as view};
 ghost use Rattle.law_rule.specs.Logs.{Run, world, own_of, contents_at, opening_contents, IsLegal};
 ghost use Rattle.law_rule.specs.Rule.{Kept};
@@ -76,40 +76,40 @@ pub fn payloads_lead_to_own_cells<B>()
 pub fn payloads_go_on()
     ensures none { (n c : ℕ) → payloads_of n [] c ≡ None }
     ensures born { (n : ℕ) (log : List told) (d : ℕ) (kind : kind) (k number : ℕ) (put : contents)
-        (c : ℕ) → payloads_of n (tells.Did (steps.Birth d kind k) number (moves.Put d put) ∷ log) c
+        (c : ℕ) → payloads_of n (tells.Stepped (steps.Birth d kind k) number (moves.Put d put) ∷ log) c
         ≡ (if d == c then Some put else payloads_of n log c) }
     ensures freed { (n : ℕ) (log : List told) (d number c : ℕ)
-        → payloads_of n (tells.Did (steps.Free d) number moves.Nothing ∷ log) c
+        → payloads_of n (tells.Stepped (steps.Free d) number moves.Nothing ∷ log) c
         ≡ (if d == c then None else payloads_of n log c) }
     ensures offered { (n : ℕ) (log : List told) (d number c : ℕ)
-        → payloads_of n (tells.Did (steps.Offer d) number moves.Nothing ∷ log) c
+        → payloads_of n (tells.Stepped (steps.Offer d) number moves.Nothing ∷ log) c
         ≡ (if private_seen n log d then None else payloads_of n log c) }
 
     // Unlocking: what it shares, of a private cell, and of another.
     ensures shared { (n : ℕ) (log : List told) (change : change) (number : ℕ) (moved : moved) (c : ℕ)
         → is_shared (private_seen n log) (part_seen n log).frame (locked_seen n log) change ≡ true
-        → payloads_of n (tells.Did (steps.Unlock change) number moved ∷ log) c ≡ None }
+        → payloads_of n (tells.Stepped (steps.Unlock change) number moved ∷ log) c ≡ None }
     ensures changed { (n : ℕ) (log : List told) (change : change) (number d : ℕ) (put : contents)
         (c : ℕ)
         → is_shared (private_seen n log) (part_seen n log).frame (locked_seen n log) change ≡ false
         → private_seen n log d ≡ true
-        → payloads_of n (tells.Did (steps.Unlock change) number (moves.Put d put) ∷ log) c
+        → payloads_of n (tells.Stepped (steps.Unlock change) number (moves.Put d put) ∷ log) c
         ≡ (if d == c then Some put else payloads_of n log c) }
     ensures outside { (n : ℕ) (log : List told) (change : change) (number d : ℕ) (put : contents)
         (c : ℕ)
         → is_shared (private_seen n log) (part_seen n log).frame (locked_seen n log) change ≡ false
         → private_seen n log d ≡ false
-        → payloads_of n (tells.Did (steps.Unlock change) number (moves.Put d put) ∷ log) c
+        → payloads_of n (tells.Stepped (steps.Unlock change) number (moves.Put d put) ∷ log) c
         ≡ payloads_of n log c }
 
     // All other items.
     ensures plain { (n : ℕ) (log : List told) (s : step) (number c : ℕ) → is_plain s ≡ true
-        → payloads_of n (tells.Did s number moves.Nothing ∷ log) c ≡ payloads_of n log c }
+        → payloads_of n (tells.Stepped s number moves.Nothing ∷ log) c ≡ payloads_of n log c }
     ensures found { (n : ℕ) (log : List told) (s : step) (number d : ℕ) (there : contents) (c : ℕ)
         → is_plain s ≡ true
-        → payloads_of n (tells.Did s number (moves.Found d there) ∷ log) c ≡ payloads_of n log c }
+        → payloads_of n (tells.Stepped s number (moves.Found d there) ∷ log) c ≡ payloads_of n log c }
     ensures saw { (n : ℕ) (log : List told) (w : word) (number c : ℕ)
-        → payloads_of n (tells.Saw w number ∷ log) c ≡ payloads_of n log c }
+        → payloads_of n (tells.Loaded w number ∷ log) c ≡ payloads_of n log c }
     ensures lost { (n : ℕ) (log : List told) (w : word) (number c : ℕ)
         → payloads_of n (tells.Lost w number ∷ log) c ≡ payloads_of n log c }
 {}

@@ -27,7 +27,7 @@ use Rattle.law_world.proofs.Naming.{third, busy_hand, free_hand, default_state}
 use Rattle.law_world.proofs.Asking.{May, may_parts, OnCell, on_cell, at_end, shut_out, handed_over, from_queue}
 use Rattle.law_world.proofs.Asking.{untie_way}
 use Rattle.law_world.proofs.Counting.{sum_none}
-use Rattle.law_private.specs.Private.{Isolated, OwnCell, Leaves}
+use Rattle.law_private.specs.Private.{Isolated, OwnCell, LeavesInHand}
 
 -- ---- whoever grips a private cell is its thread
 
@@ -101,7 +101,7 @@ left_so : (q p : Phase) (d c : ℕ) → hands.Busy q d ≡ hands.Busy p c → is
 left_so q p d c at active = ((cc), (subst (λ z. is_active_phase z ≡ true) (let same : q ≡ p = cc in same) active))
 
 by_test : (b : Bool) (new hand : Hand) (d c : ℕ) (p q : Phase) → (if b then new else hand) ≡ hands.Busy p c
-    → (b ≡ true → new ≡ hands.Busy q d) → is_active_phase q ≡ true → Leaves hand d c p
+    → (b ≡ true → new ≡ hands.Busy q d) → is_active_phase q ≡ true → LeavesInHand hand d c p
 by_test true new hand d c p q at is active = let e : hands.Busy q d ≡ hands.Busy p c = sym (is refl)
     ∙ at in inr ((cc), (subst (λ z. is_active_phase z ≡ true) (let same : q ≡ p = cc in same) active))
 by_test false new hand d c p q at is active = inl at
@@ -109,7 +109,7 @@ by_test false new hand d c p q at is active = inl at
 pub late : (h : Heap) (t : ℕ) (mine : ℕ → Bool) (s : Step) (d : ℕ) → IsSound h → Isolated h t mine
     → is_active (row_at h t).stage ≡ true → thread_may h t s ≡ true → target_at h t s ≡ Some d → mine d ≡ true
     → (p : Phase) (c : ℕ) (shut : Bool) → hand_after s d (cell_at h d) shut (row_at h t).hand ≡ hands.Busy p c
-    → Leaves (row_at h t).hand d c p
+    → LeavesInHand (row_at h t).hand d c p
 late h t mine (Ask drop) d sound apart active may named is p c shut at =
     elim (cases_Bool (is_default (cell_at h d).state)) [
       | inl default ↦

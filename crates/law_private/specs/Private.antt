@@ -80,8 +80,8 @@ pub record Isolated (h : Heap) (t : ℕ) (set : ℕ → Bool) : Type 0 where
   pub entries : (d i c : ℕ) → set c ≡ true → slice_get (entries_at h d) i ≡ Some c → set d ≡ true
 
 -- what a step that means cell d leaves in a hand: what was there, or d at its birth or burial
-abbrev pub Leaves : Hand → ℕ → ℕ → Phase → Type 0
-Leaves hand d c p = (hand ≡ hands.Busy p c) ⊎ ((d ≡ c) × (is_active_phase p ≡ true))
+abbrev pub LeavesInHand : Hand → ℕ → ℕ → Phase → Type 0
+LeavesInHand hand d c p = (hand ≡ hands.Busy p c) ⊎ ((d ≡ c) × (is_active_phase p ≡ true))
 
 -- steps that neither bear nor free nor unlock nor hand over
 abbrev pub is_plain : Step → Bool

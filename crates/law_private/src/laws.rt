@@ -21,7 +21,8 @@ ghost use Rattle.law_world.specs.Steps.{registered_again, gathered_in, is_active
 ghost use Rattle.law_world.specs.Steps.{hand_after};
 ghost use Rattle.law_known.specs.declared.word.Word.{Word as word};
 ghost use Rattle.law_known.specs.Items.{Item, Did, Saw, Lost, ItemRun, AreItems, world_of_items, own, part_of};
-ghost use Rattle.law_private.specs.Private.{Isolated, Leaves, is_plain, is_shared, private_by, private_of, locked_told};
+ghost use Rattle.law_private.specs.Private.{Isolated, LeavesInHand, is_plain, is_shared, private_by, private_of};
+ghost use Rattle.law_private.specs.Private.{locked_told};
 ghost use Rattle.law_private.specs.Own_Entries.{keeps_own, OwnEntries};
 
 /// After every list of items the cells that an active thread's own items call private are its own: whoever holds or
@@ -117,7 +118,7 @@ pub fn private_cells_are_never_asked_for()
         → Isolated h t set → is_active (row_at h t).stage ≡ true → thread_may h t s ≡ true
         → target_at h t s ≡ Some d → set d ≡ true → (p : phase) (c : ℕ) (shut : Bool)
         → hand_after s d (cell_at h d) shut (row_at h t).hand ≡ hands.Busy p c
-        → Leaves (row_at h t).hand d c p }
+        → LeavesInHand (row_at h t).hand d c p }
 {}
 
 /// A step of another thread on any cell keeps a thread's private cells apart.

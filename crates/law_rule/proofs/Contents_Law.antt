@@ -35,8 +35,8 @@ use Rattle.brc_words.specs.declared.kind.Kind.TheVariants as kinds
 use Rattle.law_rule.specs.declared.contents.Contents.TheVariants.{Nothing, Truth, Int, Dict}
 use Rattle.law_rule.specs.declared.told.Moved.{Moved}
 use Rattle.law_rule.specs.declared.told.Moved.TheVariants as moves
-use Rattle.law_rule.specs.declared.told.Told.{Told}
-use Rattle.law_rule.specs.declared.told.Told.TheVariants.{Did, Saw, Lost}
+use Rattle.law_rule.specs.declared.told.LogItem.{LogItem}
+use Rattle.law_rule.specs.declared.told.LogItem.TheVariants.{Stepped, Loaded, Lost}
 use Rattle.law_rule.specs.Homes.{AtRest, ContentsFit}
 use Rattle.law_rule.specs.Logs.{kind_in, entries_in, item_of, Run, items_of, world, contents_at, puts, MovesWith}
 use Rattle.law_rule.specs.Logs.{IsMoved, IsLegal}
@@ -253,10 +253,11 @@ module _ (n limit : ℕ) where
   -- a step that puts another block home, or none
   unchanged : (run : Run) (t : ℕ) (s : Step) (number : ℕ) (moved : Moved) (c : ℕ) → AreOptions n limit
       → IsLegal n limit run → enabled (world n limit run) (record { thread = t; step = s }) ≡ true
-      → (puts (world n limit run) t s ≡ Some c → ⊥) → contents_at ((t, Did s number moved) ∷ run) c ≡ contents_at run c
+      → (puts (world n limit run) t s ≡ Some c → ⊥)
+      → contents_at ((t, Stepped s number moved) ∷ run) c ≡ contents_at run c
       → (AtRest (world n limit run) c → ContentsFit (world n limit run) run c)
-      → AtRest (world n limit ((t, Did s number moved) ∷ run)) c
-      → ContentsFit (world n limit ((t, Did s number moved) ∷ run)) ((t, Did s number moved) ∷ run) c
+      → AtRest (world n limit ((t, Stepped s number moved) ∷ run)) c
+      → ContentsFit (world n limit ((t, Stepped s number moved) ∷ run)) ((t, Stepped s number moved) ∷ run) c
   unchanged run t s number moved c options legal ok other same before rest =
       let h : Heap = world n limit run in
       let sound : IsSound h = reached_sound h (run_reached n limit (events_of (items_of run)) options
@@ -277,8 +278,8 @@ module _ (n limit : ℕ) where
       → IsLegal n limit run → enabled (world n limit run) (record { thread = t; step = s }) ≡ true
       → MovesWith (world n limit run) run t s moved
       → (AtRest (world n limit run) c → ContentsFit (world n limit run) run c)
-      → AtRest (world n limit ((t, Did s number moved) ∷ run)) c
-      → ContentsFit (world n limit ((t, Did s number moved) ∷ run)) ((t, Did s number moved) ∷ run) c
+      → AtRest (world n limit ((t, Stepped s number moved) ∷ run)) c
+      → ContentsFit (world n limit ((t, Stepped s number moved) ∷ run)) ((t, Stepped s number moved) ∷ run) c
   step_fits run t s number moves.Nothing c options legal ok goes before rest =
       unchanged run t s number moves.Nothing c options legal ok (λ is. none_some c (sym goes.0 ∙ is)) refl before rest
   step_fits run t s number (moves.Found d contents) c options legal ok goes before rest =
@@ -292,7 +293,7 @@ module _ (n limit : ℕ) where
         let h : Heap = world n limit run in
         let is : after h (record { thread = t; step = s }) ≡ after_target h t s (target_at h t s) =
         thread_after h t s (putting_thread h t s d ok goes.cell) in
-        let put_here : contents_at ((t, Did s number (moves.Put d contents)) ∷ run) c ≡ contents =
+        let put_here : contents_at ((t, Stepped s number (moves.Put d contents)) ∷ run) c ≡ contents =
         ap (λ b. if b then contents else contents_at run c) (eq-eqb d c same) in
         record {
           kind = ap kind_in put_here ∙ goes.kind ∙ ap (λ i. (cell_at (after_target h t s (target_at h t s)) i).kind)
@@ -302,17 +303,17 @@ module _ (n limit : ℕ) where
         }
   ]
 
-  item_fits : (run : Run) (t : ℕ) (x : Told) (c : ℕ) → AreOptions n limit → IsLegal n limit run
+  item_fits : (run : Run) (t : ℕ) (x : LogItem) (c : ℕ) → AreOptions n limit → IsLegal n limit run
       → MayCome (world n limit run) t (item_of x) → IsMoved (world n limit run) run t x
       → (AtRest (world n limit run) c → ContentsFit (world n limit run) run c) → AtRest (world n limit ((t, x) ∷ run)) c
       → ContentsFit (world n limit ((t, x) ∷ run)) ((t, x) ∷ run) c
-  item_fits run t (Did s number moved) c options legal comes goes before rest =
+  item_fits run t (Stepped s number moved) c options legal comes goes before rest =
       step_fits run t s number moved c options legal comes.0 goes before rest
-  item_fits run t (Saw word number) c options legal comes goes before rest =
+  item_fits run t (Loaded word number) c options legal comes goes before rest =
       noted (before (record { live = rest.live; off = rest.off }))
     where
-      noted : ContentsFit (world n limit run) run c → ContentsFit (world n limit ((t, Saw word number) ∷ run))
-          ((t, Saw word number) ∷ run) c
+      noted : ContentsFit (world n limit run) run c → ContentsFit (world n limit ((t, Loaded word number) ∷ run))
+          ((t, Loaded word number) ∷ run) c
       noted fits = record { kind = fits.kind; entries = fits.entries }
   item_fits run t (Lost word number) c options legal comes goes before rest =
       noted (before (record { live = rest.live; off = rest.off }))

@@ -9,9 +9,9 @@ use Rattle.atomic_table.specs.Table.{State}
 use Rattle.atomic_table.proofs.Lists.{at_set, set_here, set_else}
 use Rattle.law_world.specs.Heap.{Heap, is_gathered}
 use Rattle.law_known.specs.declared.word.Word.{Word}
-use Rattle.law_known.specs.Items.{IsWord, Shows, MayCome, is_start}
+use Rattle.law_known.specs.Items.{IsWord, WordShows, MayCome, is_start}
 use Rattle.law_rule.specs.declared.contents.Contents.{Contents}
-use Rattle.law_rule.specs.declared.told.Told.{Told}
+use Rattle.law_rule.specs.declared.told.LogItem.{LogItem}
 use Rattle.law_rule.specs.declared.view.View.{View}
 use Rattle.law_rule.specs.Layout.{spot, extent}
 use Rattle.law_rule.specs.Logs.{item_of, Run, gathered_by, lives_on, lives_of, world, IsMoved}
@@ -26,12 +26,12 @@ at_inside (x ∷ xs) Rattle.std.proofs.Common.zero a at = omega arith
 at_inside (x ∷ xs) (suc i) a at = omega (arith, at_inside xs i a at)
 
 -- the item neither registers nor gathers a thread
-pub record IsCalm (h new : Heap) (x : Told) : Type 0 where
+pub record IsCalm (h new : Heap) (x : LogItem) : Type 0 where
   pub threads : SameThreads h new
   pub starts : (u : ℕ) → is_start u (item_of x) ≡ false
   pub gathers : gathered_by x ≡ None
 
-same_lives : (t : ℕ) (x : Told) (run : Run) → gathered_by x ≡ None → lives_of ((t, x) ∷ run) ≡ lives_of run
+same_lives : (t : ℕ) (x : LogItem) (run : Run) → gathered_by x ≡ None → lives_of ((t, x) ∷ run) ≡ lives_of run
 same_lives t x run none = ap (λ o. lives_on o run (lives_of run)) none
 
 module _ {B : Type 0} (shows : B → ℕ × Contents) (n limit : ℕ) where
@@ -45,11 +45,11 @@ module _ {B : Type 0} (shows : B → ℕ × Contents) (n limit : ℕ) where
   pub record Showing (words : List ℕ) (homes : Homes B) (run : Run) : Type 0 where
     pub wide : length words ≡ extent n
     pub deep : length homes ≡ n
-    pub each_word : (w : Word) → IsWord n w → Shows (world n limit run) w (get_or words (spot n w) 0)
+    pub each_word : (w : Word) → IsWord n w → WordShows (world n limit run) w (get_or words (spot n w) 0)
     pub each_home : (c : ℕ) → c < n → HomeShown shows homes (world n limit run) run c
 
   -- the view of another seat, or of this one with one more item
-  other_fits : (run : Run) (seat : ℕ → ℕ) (t j : ℕ) (u : View) (x : Told)
+  other_fits : (run : Run) (seat : ℕ → ℕ) (t j : ℕ) (u : View) (x : LogItem)
       → IsCalm (world n limit run) (world n limit ((t, x) ∷ run)) x
       → stands (world n limit run) t ≡ true → seat t ≢ j → Fits (world n limit run) run seat j u
       → Fits (world n limit ((t, x) ∷ run)) ((t, x) ∷ run) seat j u
@@ -64,7 +64,7 @@ module _ {B : Type 0} (shows : B → ℕ × Contents) (n limit : ℕ) where
     lives = λ root. fits.lives root ∙ sym (same_lives t x run calm.gathers);
   }
     where
-      gathered_else : (run : Run) (seat : ℕ → ℕ) (t w : ℕ) (x : Told)
+      gathered_else : (run : Run) (seat : ℕ → ℕ) (t w : ℕ) (x : LogItem)
           → IsCalm (world n limit run) (world n limit ((t, x) ∷ run)) x → stands (world n limit run) t ≡ true
           → 0 < w → is_gathered (world n limit ((t, x) ∷ run)) w ≡ true → t ≢ w
       gathered_else run seat t w x calm stood some_thread left e =
@@ -73,7 +73,7 @@ module _ {B : Type 0} (shows : B → ℕ × Contents) (n limit : ℕ) where
           ∙ stands_ungathered (world n limit run) w (subst (λ u. stands (world n limit run) u ≡ true) e stood)
           some_thread)
 
-  pub grows : (s : Table) (r : Rule s) (id : ℕ) (v : View) (x : Told) (words : List ℕ) (homes : Homes B)
+  pub grows : (s : Table) (r : Rule s) (id : ℕ) (v : View) (x : LogItem) (words : List ℕ) (homes : Homes B)
       → get_elem? s.views id ≡ some v → v.active ≡ true
       → IsCalm (world n limit r.run) (world n limit ((v.thread, x) ∷ r.run)) x
       → MayCome (world n limit r.run) v.thread (item_of x) → IsMoved (world n limit r.run) r.run v.thread x
@@ -105,7 +105,7 @@ module _ {B : Type 0} (shows : B → ℕ × Contents) (n limit : ℕ) where
             (same_stands old new u calm.threads) (r.each_once u some);
       }
     where
-      own_fits : (run : Run) (seat : ℕ → ℕ) (j : ℕ) (v : View) (x : Told)
+      own_fits : (run : Run) (seat : ℕ → ℕ) (j : ℕ) (v : View) (x : LogItem)
           → IsCalm (world n limit run) (world n limit ((v.thread, x) ∷ run)) x
           → Fits (world n limit run) run seat j v → Fits (world n limit ((v.thread, x) ∷ run))
           ((v.thread, x) ∷ run) seat j (with_told x v)
@@ -120,7 +120,7 @@ module _ {B : Type 0} (shows : B → ℕ × Contents) (n limit : ℕ) where
         lives = λ root. fits.lives root ∙ sym (same_lives v.thread x run calm.gathers);
       }
 
-      seated_still : (seat : ℕ → ℕ) (views : List View) (id : ℕ) (v : View) (x : Told) (u : ℕ)
+      seated_still : (seat : ℕ → ℕ) (views : List View) (id : ℕ) (v : View) (x : LogItem) (u : ℕ)
           → get_elem? views id ≡ some v → v.active ≡ true
           → Seated views u (seat u) → Seated (set views id (with_told x v)) u (seat u)
       seated_still seat views id v x u at active seated = elim (cases_eq (seat u) id) [

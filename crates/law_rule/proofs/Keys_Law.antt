@@ -19,8 +19,8 @@ use Rattle.law_rule.specs.declared.contents.PlainKey.{PlainKey}
 use Rattle.law_rule.specs.declared.contents.Contents.{Contents}
 use Rattle.law_rule.specs.declared.contents.Contents.TheVariants.{Nothing, Truth, Int, Dict}
 use Rattle.law_rule.specs.declared.told.Moved.TheVariants as moves
-use Rattle.law_rule.specs.declared.told.Told.{Told}
-use Rattle.law_rule.specs.declared.told.Told.TheVariants.{Did, Saw, Lost}
+use Rattle.law_rule.specs.declared.told.LogItem.{LogItem}
+use Rattle.law_rule.specs.declared.told.LogItem.TheVariants.{Stepped, Loaded, Lost}
 use Rattle.law_rule.specs.declared.view.View.{View}
 use Rattle.law_rule.specs.Keys.{keys_in, HasDistinctKeys, KeyPut, KeysGo, KeysAfter}
 use Rattle.law_rule.specs.Logs.{entries_in, item_of, Run, items_of, begins, own_of, contents_at, world, AreMoved, IsLegal}
@@ -98,15 +98,15 @@ opening_distinct false false false false c = none_distinct
 module _ (n limit : ℕ) where
   at_home : (run : Run) (c : ℕ) → AreMoved n limit run → HasDistinctKeys (contents_at run c)
   at_home [] c moved = opening_distinct (c == 0) (c == 1) (c == 2) (c == GLOBALS) c
-  at_home ((t, Did s number moves.Nothing) ∷ run) c moved = at_home run c moved.0
-  at_home ((t, Did s number (moves.Found d contents)) ∷ run) c moved = at_home run c moved.0
-  at_home ((t, Did s number (moves.Put d contents)) ∷ run) c moved = elim (cases_eq d c) [
+  at_home ((t, Stepped s number moves.Nothing) ∷ run) c moved = at_home run c moved.0
+  at_home ((t, Stepped s number (moves.Found d contents)) ∷ run) c moved = at_home run c moved.0
+  at_home ((t, Stepped s number (moves.Put d contents)) ∷ run) c moved = elim (cases_eq d c) [
     | inl same ↦ subst HasDistinctKeys (sym (ap (λ b. if b then contents else contents_at run c) (eq-eqb d c same)))
         (step_distinct s (contents_at run d) contents moved.1.keys (at_home run d moved.0))
     | inr other ↦ subst HasDistinctKeys (sym (ap (λ b. if b then contents else contents_at run c) (ne_eqb d c other)))
         (at_home run c moved.0)
   ]
-  at_home ((t, Saw word number) ∷ run) c moved = at_home run c moved.0
+  at_home ((t, Loaded word number) ∷ run) c moved = at_home run c moved.0
   at_home ((t, Lost word number) ∷ run) c moved = at_home run c moved.0
 
   -- what was put home last in any cell
@@ -114,14 +114,15 @@ module _ (n limit : ℕ) where
   keys_at_home run c legal = at_home run c legal.moved
 
   -- what a thread's newest locking found
-  found_on : (run : Run) (t : ℕ) (x : Told) (before : Option Contents) (p : Contents) → AreMoved n limit ((t, x) ∷ run)
+  found_on : (run : Run) (t : ℕ) (x : LogItem) (before : Option Contents) (p : Contents)
+      → AreMoved n limit ((t, x) ∷ run)
       → (before ≡ Some p → HasDistinctKeys p) → contents_on x before ≡ Some p → HasDistinctKeys p
-  found_on run t (Did (Lock k) number (moves.Found c contents)) before p moved older is =
+  found_on run t (Stepped (Lock k) number (moves.Found c contents)) before p moved older is =
       subst HasDistinctKeys (sym moved.1.there ∙ some_same contents p is) (at_home run c moved.0)
     where
       some_same : (a b : Contents) → Some a ≡ Some b → a ≡ b
       some_same a b e = cc
-  found_on run t (Did (Unlock change) number put) before p moved older is = absurd (cc)
+  found_on run t (Stepped (Unlock change) number put) before p moved older is = absurd (cc)
   found_on run t _ before p moved older is = older is
 
   found_in : (run : Run) (t : ℕ) (p : Contents) → AreMoved n limit run → contents_locked (own_of t run) ≡ Some p
@@ -131,12 +132,13 @@ module _ (n limit : ℕ) where
       by_test (is_start t (item_of x.1)) (x.0 == t) refl (found_in run t p moved.0) is
     where
       -- the root's item locks nothing
-      none_locked : (x : Told) (used : Bool) → is_start t (item_of x) ≡ true → contents_locked (begins used x) ≡ Some p
+      none_locked : (x : LogItem) (used : Bool) → is_start t (item_of x) ≡ true
+          → contents_locked (begins used x) ≡ Some p
           → ⊥
       none_locked x false starts is = absurd (cc)
-      none_locked (Did (Register u) number moved) true starts is = absurd (cc)
-      none_locked (Did _ number moved) true starts is = absurd (true≢false (sym starts))
-      none_locked (Saw word number) true starts is = absurd (true≢false (sym starts))
+      none_locked (Stepped (Register u) number moved) true starts is = absurd (cc)
+      none_locked (Stepped _ number moved) true starts is = absurd (true≢false (sym starts))
+      none_locked (Loaded word number) true starts is = absurd (true≢false (sym starts))
       none_locked (Lost word number) true starts is = absurd (true≢false (sym starts))
 
       by_test : (starts mine : Bool) → is_start t (item_of x.1) ≡ starts → (contents_locked (own_of t run) ≡ Some p → HasDistinctKeys p)
@@ -152,7 +154,8 @@ module _ (n limit : ℕ) where
 
   -- what an unlocking puts home has the keys that its change leaves
   pub keys_unlocked : (run : Run) (t : ℕ) (change : Change) (number c : ℕ) (p : Contents)
-      → IsLegal n limit ((t, Did (Unlock change) number (moves.Put c p)) ∷ run) → KeysGo change (contents_at run c) p
+      → IsLegal n limit ((t, Stepped (Unlock change) number (moves.Put c p)) ∷ run)
+      → KeysGo change (contents_at run c) p
   keys_unlocked run t change number c p legal = legal.moved.1.keys
 
 -- ---- in a table that keeps the rule

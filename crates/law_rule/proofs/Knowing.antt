@@ -36,7 +36,7 @@ use Rattle.law_known.proofs.Counts_Law.{counts_are_told}
 use Rattle.law_known.proofs.Risen_Law.{risen_is_told}
 use Rattle.law_known.proofs.Owners_Law.{owners_are_registered}
 use Rattle.law_rule.specs.declared.contents.Contents.{Contents}
-use Rattle.law_rule.specs.declared.told.Told.{Told}
+use Rattle.law_rule.specs.declared.told.LogItem.{LogItem}
 use Rattle.law_rule.specs.declared.view.View.{View}
 use Rattle.law_rule.specs.Logs.{log_items, Run, items_of, own_of, world, IsLegal}
 use Rattle.law_rule.specs.Rule.{stands, Fits, Kept}
@@ -44,7 +44,7 @@ use Rattle.law_rule.specs.Seen.{part_seen, counts_seen, risen_seen, own_may}
 use Rattle.law_rule.proofs.Own_Logs.{own_items, stands_registered, stands_ungathered}
 
 -- what the log says, in the world; and there is a run to it in which the log is all that the thread did
-pub record Known (n limit : ℕ) (h : Heap) (t : ℕ) (log : List Told) : Type 0 where
+pub record Known (n limit : ℕ) (h : Heap) (t : ℕ) (log : List LogItem) : Type 0 where
   pub run : Run
   pub legal : IsLegal n limit run
   pub is_world : world n limit run ≡ h
@@ -62,7 +62,7 @@ pub record Known (n limit : ℕ) (h : Heap) (t : ℕ) (log : List Told) : Type 0
       → 1 ≤ rank (cell_at h c).state
 
 -- the run begins in the table's edition, and stays there
-pub known_edition : (n limit : ℕ) (h : Heap) (t : ℕ) (log : List Told) → Known n limit h t log
+pub known_edition : (n limit : ℕ) (h : Heap) (t : ℕ) (log : List LogItem) → Known n limit h t log
     → h.edition ≡ runs_in
 known_edition n limit h t log known = sym (ap (λ z. z.edition) known.is_world)
     ∙ run_runs_in n limit (events_of (items_of known.run))
@@ -147,13 +147,13 @@ own_tests n h t part s is ok =
     (words_for n) r part.frame part.popped part.worklist part.has s) ≡ true) (sym is.row_is) ok)))
 
 -- the hand that the step needs
-pub hand_there : (n limit : ℕ) (h : Heap) (t : ℕ) (log : List Told) (s : Step) → Known n limit h t log
+pub hand_there : (n limit : ℕ) (h : Heap) (t : ℕ) (log : List LogItem) (s : Step) → Known n limit h t log
     → own_may n (part_seen n log) s ≡ true → hand_ok (row_at h t).hand s ≡ true
 hand_there n limit h t log s known own =
     (and_parts _ _ (and_parts _ _ (own_tests n h t (part_seen n log) s known.part own)).0).1
 
 -- the own part allows the step, and so do the edition, whom it tells and the cell that it means
-pub is_enabled : (n limit : ℕ) (h : Heap) (t : ℕ) (log : List Told) (s : Step) → 0 < t → Known n limit h t log
+pub is_enabled : (n limit : ℕ) (h : Heap) (t : ℕ) (log : List LogItem) (s : Step) → 0 < t → Known n limit h t log
     → own_may n (part_seen n log) s ≡ true
     → edition_ok runs_in (row_at h t) s ≡ true → others_ok h t s ≡ true
     → target_ok h t (row_at h t) s (target_at h t s) ≡ true → thread_may h t s ≡ true
@@ -176,7 +176,8 @@ is_enabled n limit h t log s some_thread known own edition others target =
     edition_too) target
 
 -- the cell that the log's part means is the world's
-pub meant_there : (n limit : ℕ) (h : Heap) (t : ℕ) (log : List Told) (s : Step) (o : Option ℕ) → Known n limit h t log
+pub meant_there : (n limit : ℕ) (h : Heap) (t : ℕ) (log : List LogItem) (s : Step) (o : Option ℕ)
+    → Known n limit h t log
     → meant (part_seen n log) s ≡ o → target_at h t s ≡ o
 meant_there n limit h t log s o known is = sym (part_target h t (part_seen n log) s known.part) ∙ is
 

@@ -30,8 +30,8 @@ use Rattle.law_known.proofs.Items_Runs.{events_run}
 use Rattle.law_rule.specs.declared.contents.Contents.{Contents}
 use Rattle.law_rule.specs.declared.told.Moved.{Moved}
 use Rattle.law_rule.specs.declared.told.Moved.TheVariants as moves
-use Rattle.law_rule.specs.declared.told.Told.{Told}
-use Rattle.law_rule.specs.declared.told.Told.TheVariants.{Did, Saw, Lost}
+use Rattle.law_rule.specs.declared.told.LogItem.{LogItem}
+use Rattle.law_rule.specs.declared.told.LogItem.TheVariants.{Stepped, Loaded, Lost}
 use Rattle.law_rule.specs.Logs.{item_of, Run, items_of, own_of, world, contents_at, puts, takes_of, MovesWith, IsMoved}
 use Rattle.law_rule.specs.Logs.{IsLegal, keeps}
 use Rattle.law_rule.specs.Seen.{contents_on, contents_locked}
@@ -142,7 +142,7 @@ own_lock h t s (Some c) d sound may target now = by_lock (row_at h t).locked ref
 -- what isn't put home is as it was
 pub not_put : (run : Run) (t : ℕ) (s : Step) (number : ℕ) (moved : Moved) (h : Heap) (c : ℕ) → MovesWith h run t s moved
     → (puts h t s ≡ Some c → ⊥)
-    → contents_at ((t, Did s number moved) ∷ run) c ≡ contents_at run c
+    → contents_at ((t, Stepped s number moved) ∷ run) c ≡ contents_at run c
 not_put run t s number moves.Nothing h c goes other = refl
 not_put run t s number (moves.Found d contents) h c goes other = refl
 not_put run t s number (moves.Put d contents) h c goes other = ap (λ b. if b then contents else contents_at run c)
@@ -154,7 +154,7 @@ Says run t c = contents_locked (own_of t run) ≡ Some (contents_at run c)
 
 -- a step that keeps the lock keeps what was found
 kept_found : (s : Step) (number : ℕ) (moved : Moved) (before : Option Contents) → ((k : ℕ) → s ≢ Lock k)
-    → ((change : Change) → s ≢ Unlock change) → contents_on (Did s number moved) before ≡ before
+    → ((change : Change) → s ≢ Unlock change) → contents_on (Stepped s number moved) before ≡ before
 kept_found (Lock k) number moved before no_lock no_unlock = absurd (no_lock k refl)
 kept_found (Unlock change) number moved before no_lock no_unlock = absurd (no_unlock change refl)
 kept_found _ number moved before no_lock no_unlock = refl
@@ -178,8 +178,8 @@ locks_once h t k c may named = by_lock (row_at h t).locked refl
 
 found_there : (run : Run) (h : Heap) (t k number c : ℕ) (moved : Moved) → target_at h t (Lock k) ≡ Some c
     → MovesWith h run t (Lock k) moved
-    → (before : Option Contents) → contents_on (Did (Lock k) number moved) before ≡ Some
-    (contents_at ((t, Did (Lock k) number moved) ∷ run) c)
+    → (before : Option Contents) → contents_on (Stepped (Lock k) number moved) before ≡ Some
+    (contents_at ((t, Stepped (Lock k) number moved) ∷ run) c)
 found_there run h t k number c moves.Nothing target goes before =
     absurd (none_some c (sym goes.1 ∙ ap (takes_of h (Lock k)) target))
 found_there run h t k number c (moves.Put d contents) target goes before =
@@ -210,16 +210,16 @@ module _ (n limit : ℕ) where
   own_says : (run : Run) (t : ℕ) (s : Step) (number : ℕ) (moved : Moved) (c : ℕ) → IsSound (world n limit run)
       → May (world n limit run) t s → MovesWith (world n limit run) run t s moved
       → (locked_at (world n limit run) t ≡ Some c → Says run t c) → locked_at (moved_on (world n limit run) t s) t
-      ≡ Some c → Says ((t, Did s number moved) ∷ run) t c
+      ≡ Some c → Says ((t, Stepped s number moved) ∷ run) t c
   unfolding Says
   own_says run t s number moved c sound may goes before now =
       let h : Heap = world n limit run in
-      ap contents_locked (own_more t (Did s number moved) run (no_start h t s number moved may t))
+      ap contents_locked (own_more t (Stepped s number moved) run (no_start h t s number moved may t))
       ∙ elim (own_lock h t s (target_at h t s) c sound may refl now) [
         | inr locks ↦
             subst (λ z. MovesWith h run t z moved → target_at h t z ≡ Some c
-            → contents_on (Did z number moved) (contents_locked (own_of t run)) ≡ Some
-            (contents_at ((t, Did z number moved) ∷ run) c)) (sym locks.1)
+            → contents_on (Stepped z number moved) (contents_locked (own_of t run)) ≡ Some
+            (contents_at ((t, Stepped z number moved) ∷ run) c)) (sym locks.1)
             (λ goes target. found_there run h t locks.0 number c moved target goes (contents_locked (own_of t run)))
             goes locks.2
         | inl named ↦
@@ -234,11 +234,11 @@ module _ (n limit : ℕ) where
 
   -- another's event
   others_says : (run : Run) (t u : ℕ) (s : Step) (number : ℕ) (moved : Moved) (c : ℕ) → u ≢ t
-      → is_start t (item_of (Did s number moved)) ≡ false → MovesWith (world n limit run) run u s moved
-      → (puts (world n limit run) u s ≡ Some c → ⊥) → Says run t c → Says ((u, Did s number moved) ∷ run) t c
+      → is_start t (item_of (Stepped s number moved)) ≡ false → MovesWith (world n limit run) run u s moved
+      → (puts (world n limit run) u s ≡ Some c → ⊥) → Says run t c → Says ((u, Stepped s number moved) ∷ run) t c
   unfolding Says
   others_says run t u s number moved c other older goes no_put before =
-      ap contents_locked (own_same u t (Did s number moved) run older other) ∙ before
+      ap contents_locked (own_same u t (Stepped s number moved) run older other) ∙ before
       ∙ ap Some (sym (not_put run u s number moved (world n limit run) c goes no_put))
 
   -- what lasts of the thread's frame and row
@@ -249,7 +249,7 @@ module _ (n limit : ℕ) where
   root_says : (run : Run) (t : ℕ) (s : Step) (number : ℕ) (moved : Moved) (c : ℕ) → IsSound (world n limit run)
       → root_may (world n limit run) s ≡ true → enabled (world n limit run) (record { thread = 0; step = s }) ≡ true
       → MovesWith (world n limit run) run 0 s moved → (locked_at (world n limit run) t ≡ Some c → Says run t c)
-      → locked_at (root_after (world n limit run) s) t ≡ Some c → 0 < t → Says ((0, Did s number moved) ∷ run) t c
+      → locked_at (root_after (world n limit run) s) t ≡ Some c → 0 < t → Says ((0, Stepped s number moved) ∷ run) t c
   root_says run t (Gather v) number moved c sound ok on goes before now some_thread =
       others_says run t 0 (Gather v) number moved c (λ e. omega (arith, e, some_thread)) refl goes
       (λ bad. none_some c bad) (before now)
@@ -271,7 +271,7 @@ module _ (n limit : ℕ) where
   root_says run t s number moved c sound ok on goes before now some_thread = absurd (true≢false (sym ok))
 
   -- a note leaves all as it is
-  noted_says : (run : Run) (t u : ℕ) (x : Told) (c : ℕ) → ((v : ℕ) → is_start v (item_of x) ≡ false)
+  noted_says : (run : Run) (t u : ℕ) (x : LogItem) (c : ℕ) → ((v : ℕ) → is_start v (item_of x) ≡ false)
       → ((before : Option Contents) → contents_on x before ≡ before) → contents_at ((u, x) ∷ run) c ≡ contents_at run c
       → Says run t c → Says ((u, x) ∷ run) t c
   unfolding Says
@@ -286,7 +286,7 @@ module _ (n limit : ℕ) where
       → enabled (world n limit run) (record { thread = u; step = s }) ≡ true
       → MovesWith (world n limit run) run u s moved → 0 < t → (locked_at (world n limit run) t ≡ Some c → Says run t c)
       → locked_at (after (world n limit run) (record { thread = u; step = s })) t ≡ Some c
-      → Says ((u, Did s number moved) ∷ run) t c
+      → Says ((u, Stepped s number moved) ∷ run) t c
   step_says run t u s number moved c sound ok goes some_thread before now =
       let h : Heap = world n limit run in
       let walked : Heap = moved_on h u s in
@@ -295,7 +295,7 @@ module _ (n limit : ℕ) where
             let is : after h (record { thread = u; step = s }) ≡ root_after h s =
             ap (λ b. if b then root_after h s else walked) root in
             let zero_is : u ≡ 0 = eqb-true u 0 root in
-            subst (λ v. Says ((v, Did s number moved) ∷ run) t c) (sym zero_is)
+            subst (λ v. Says ((v, Stepped s number moved) ∷ run) t c) (sym zero_is)
             (root_says run t s number moved c sound
             (subst (λ b. (if b then root_may h s else thread_may h u s) ≡ true) root ok)
             (subst (λ v. enabled h (record { thread = v; step = s }) ≡ true) zero_is ok)
@@ -307,7 +307,7 @@ module _ (n limit : ℕ) where
             let may : May h u s = may_parts h u s
             (subst (λ b. (if b then root_may h s else thread_may h u s) ≡ true) thread ok) in
             elim (cases_eq u t) [
-              | inl mine ↦ subst (λ v. Says ((v, Did s number moved) ∷ run) t c) (sym mine)
+              | inl mine ↦ subst (λ v. Says ((v, Stepped s number moved) ∷ run) t c) (sym mine)
                   (own_says run t s number moved c sound (subst (λ v. May h v s) mine may)
                   (subst (λ v. MovesWith h run v s moved) mine goes) before
                   (subst (λ v. locked_at (moved_on h v s) t ≡ Some c) mine (sym (ap (λ z. locked_at z t) is) ∙ now)))
@@ -322,13 +322,14 @@ module _ (n limit : ℕ) where
             ]
       ]
 
-  item_says : (run : Run) (t u : ℕ) (x : Told) (c : ℕ) → IsSound (world n limit run)
+  item_says : (run : Run) (t u : ℕ) (x : LogItem) (c : ℕ) → IsSound (world n limit run)
       → MayCome (world n limit run) u (item_of x) → IsMoved (world n limit run) run u x → 0 < t
       → (locked_at (world n limit run) t ≡ Some c → Says run t c) → locked_at (world n limit ((u, x) ∷ run)) t ≡ Some c
       → Says ((u, x) ∷ run) t c
-  item_says run t u (Did s number moved) c sound comes goes some_thread before now =
+  item_says run t u (Stepped s number moved) c sound comes goes some_thread before now =
       step_says run t u s number moved c sound comes.0 goes some_thread before now
-  item_says run t u (Saw word number) c sound comes goes some_thread before now = noted_says run t u (Saw word number) c
+  item_says run t u (Loaded word number) c sound comes goes some_thread before now = noted_says run t u
+      (Loaded word number) c
       (λ v. refl) (λ b. refl) refl (before now)
   item_says run t u (Lost word number) c sound comes goes some_thread before now =
       noted_says run t u (Lost word number) c (λ v. refl) (λ b. refl) refl (before now)
@@ -357,9 +358,9 @@ module _ (n limit : ℕ) where
 
 -- what a step finds, and what an unlock keeps, is what was put home last
 pub found_is_put : (n limit : ℕ) (run : Run) (t : ℕ) (s : Step) (number c : ℕ) (p : Contents)
-    → IsLegal n limit ((t, Did s number (moves.Found c p)) ∷ run) → p ≡ contents_at run c
+    → IsLegal n limit ((t, Stepped s number (moves.Found c p)) ∷ run) → p ≡ contents_at run c
 found_is_put n limit run t s number c p legal = legal.moved.1.there
 
 pub kept_is_put : (n limit : ℕ) (run : Run) (t : ℕ) (s : Step) (number c : ℕ) (p : Contents)
-    → IsLegal n limit ((t, Did s number (moves.Put c p)) ∷ run) → keeps s ≡ true → p ≡ contents_at run c
+    → IsLegal n limit ((t, Stepped s number (moves.Put c p)) ∷ run) → keeps s ≡ true → p ≡ contents_at run c
 kept_is_put n limit run t s number c p legal keep = legal.moved.1.kept keep

@@ -7,8 +7,8 @@ use Rattle.atomic_table.specs.Table.{State, Allows, keeps}
 use Rattle.law_known.specs.declared.word.Word.{Word}
 use Rattle.law_known.specs.Items.{IsWord}
 use Rattle.law_rule.specs.declared.contents.Contents.{Contents}
-use Rattle.law_rule.specs.declared.told.Told.{Told}
-use Rattle.law_rule.specs.declared.told.Told.TheVariants.{Saw, Lost}
+use Rattle.law_rule.specs.declared.told.LogItem.{LogItem}
+use Rattle.law_rule.specs.declared.told.LogItem.TheVariants.{Loaded, Lost}
 use Rattle.law_rule.specs.declared.view.View.{View}
 use Rattle.law_rule.specs.Layout.{spot}
 use Rattle.law_rule.specs.Logs.{world}
@@ -24,15 +24,15 @@ module _ {B : Type 0} (shows : B → ℕ × Contents) (n limit : ℕ) where
   Rule = Kept shows n limit
 
   -- whether the look was a load or a lost compare-exchange
-  pub data Looks (w : Word) (number : ℕ) : Told → Type 0 where
-    saw : Looks w number (Saw w number)
+  pub data Looks (w : Word) (number : ℕ) : LogItem → Type 0 where
+    saw : Looks w number (Loaded w number)
     lost : Looks w number (Lost w number)
 
-  noted : (s : Table) (r : Rule s) (id : ℕ) (v : View) (w : Word) (x : Told) → get_elem? s.views id ≡ some v
+  noted : (s : Table) (r : Rule s) (id : ℕ) (v : View) (w : Word) (x : LogItem) → get_elem? s.views id ≡ some v
       → v.active ≡ true → IsWord n w
       → Looks w (get_or s.words (spot n w) 0) x
       → Rule (record { words = s.words; homes = s.homes; views = set s.views id (with_told x v) })
-  noted s r id v w _ at active is saw = grows shows n limit s r id v (Saw w (get_or s.words (spot n w) 0)) s.words
+  noted s r id v w _ at active is saw = grows shows n limit s r id v (Loaded w (get_or s.words (spot n w) 0)) s.words
       s.homes at active
       (record { threads = record { rows = refl; gathered = refl }; starts = λ u. refl; gathers = refl })
       (r.each_word w is) tt
@@ -58,7 +58,7 @@ module _ {B : Type 0} (shows : B → ℕ × Contents) (n limit : ℕ) where
       })
 
   -- the word is written with what it had
-  pub unmoved : (s : Table) (r : Rule s) (id : ℕ) (v : View) (w : Word) (x : Told) → get_elem? s.views id ≡ some v
+  pub unmoved : (s : Table) (r : Rule s) (id : ℕ) (v : View) (w : Word) (x : LogItem) → get_elem? s.views id ≡ some v
       → v.active ≡ true → IsWord n w
       → Looks w (get_or s.words (spot n w) 0) x
       → Rule (record {
@@ -75,11 +75,11 @@ module _ {B : Type 0} (shows : B → ℕ × Contents) (n limit : ℕ) where
   -- a load of any word of the table
   pub looks : (id : ℕ) (v : View) (slots : List (ℕ × Option B)) (w : Word) → v.active ≡ true → IsWord n w
       → Allows Rule n id (v, slots) (spot n w) (λ number. number)
-      (λ number me. me ≡ (with_told (Saw w number) v, slots))
+      (λ number me. me ≡ (with_told (Loaded w number) v, slots))
   looks id v slots w active is s r deep at small = (
-    with_told (Saw w (get_or s.words (spot n w) 0)) v,
+    with_told (Loaded w (get_or s.words (spot n w) 0)) v,
     keeps,
     tt,
-    unmoved s r id v w (Saw w (get_or s.words (spot n w) 0)) at active is saw,
+    unmoved s r id v w (Loaded w (get_or s.words (spot n w) 0)) at active is saw,
     refl,
   )

@@ -30,9 +30,9 @@ use Rattle.law_lasting.proofs.Lasting.{held_live, has_held}
 use Rattle.law_lasting.proofs.Telling.{hand_tells}
 use Rattle.law_known.specs.declared.word.Field.TheVariants.{Owner as OwnerWord}
 use Rattle.law_known.specs.declared.word.Word.TheVariants.{Of}
-use Rattle.law_known.specs.Items.{Part, Shows, shared_word}
+use Rattle.law_known.specs.Items.{Part, WordShows, shared_word}
 use Rattle.law_known.proofs.Free_Law.{live_shown}
-use Rattle.law_rule.specs.declared.told.Told.{Told}
+use Rattle.law_rule.specs.declared.told.LogItem.{LogItem}
 use Rattle.law_rule.specs.Seen.{part_seen, own_may}
 use Rattle.law_rule.proofs.Knowing.{Known}
 
@@ -66,12 +66,12 @@ pub part_own : (n : ℕ) (part : Part) (s : Step) → own_may n part s ≡ true
 part_own n part s own = (and_parts _ _ own).1
 
 -- what the part of one log says is so in the world of another with the same part
-pub hand_in : (n limit : ℕ) (h : Heap) (t : ℕ) (log now : List Told) (hand : Hand) → Known n limit h t log
+pub hand_in : (n limit : ℕ) (h : Heap) (t : ℕ) (log now : List LogItem) (hand : Hand) → Known n limit h t log
     → part_seen n log ≡ part_seen n now → (part_seen n now).row.hand ≡ hand → (row_at h t).hand ≡ hand
 hand_in n limit h t log now hand known same is = ap (λ (r : Row). r.hand) known.part.row_is
     ∙ ap (λ (p : Part). p.row.hand) same ∙ is
 
-pub bit_in : (n limit : ℕ) (h : Heap) (t : ℕ) (log now : List Told) (c : ℕ) → Known n limit h t log
+pub bit_in : (n limit : ℕ) (h : Heap) (t : ℕ) (log now : List LogItem) (c : ℕ) → Known n limit h t log
     → part_seen n log ≡ part_seen n now → bit_of (part_seen n now).popped c ≡ 1 → bit_of (popped_at h t) c ≡ 1
 bit_in n limit h t log now c known same is = ap (λ (words : List ℕ). bit_of words c) known.part.popped_is
     ∙ ap (λ (p : Part). bit_of p.popped c) same ∙ is
@@ -86,7 +86,7 @@ pub has_in_hand : (h : Heap) (t c : ℕ) (p : Phase) → (row_at h t).hand ≡ h
 has_in_hand h t c p busy refers = inr (inl (ap (carries c) busy ∙ both_true refers (eq-eqb c c refl)))
 
 -- the owner word of an object that the thread has tells its owner
-pub owner_told : (h : Heap) (t c number : ℕ) → IsReached h → Has h t c → Shows h (Of OwnerWord c) number
+pub owner_told : (h : Heap) (t c number : ℕ) → IsReached h → Has h t c → WordShows h (Of OwnerWord c) number
     → number ≡ word_of (cell_at h c).owner
 owner_told h t c number reached has shown = live_shown (length h.rows) (cell_at h c).owner number
     (held_live h c (reached_sound h reached) (has_held h t c has)) shown

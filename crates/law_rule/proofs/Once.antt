@@ -21,8 +21,8 @@ use Rattle.law_known.specs.Items.{AreItems, MayCome, is_start, is_used, events_o
 use Rattle.law_known.proofs.Items_Runs.{events_run}
 use Rattle.law_known.proofs.Items_Tells.{no_start}
 use Rattle.law_rule.specs.declared.contents.Contents.{Contents}
-use Rattle.law_rule.specs.declared.told.Told.{Told}
-use Rattle.law_rule.specs.declared.told.Told.TheVariants.{Did, Saw, Lost}
+use Rattle.law_rule.specs.declared.told.LogItem.{LogItem}
+use Rattle.law_rule.specs.declared.told.LogItem.TheVariants.{Stepped, Loaded, Lost}
 use Rattle.law_rule.specs.declared.view.View.{View}
 use Rattle.law_rule.specs.Logs.{item_of, entries_found, Run, items_of, own_of, gathered_by, lives_on, lives_of, all_of}
 use Rattle.law_rule.specs.Logs.{ended_in, world, begins, own_steps}
@@ -30,11 +30,12 @@ use Rattle.law_rule.specs.Rule.{stands, StandsOnce, Kept}
 use Rattle.law_rule.proofs.Own_Logs.{own_more, own_same}
 
 -- what stands in the logs of a thread
-abbrev logged : Bool → ℕ → List Told → List (ℕ × List Told) → List Told
+abbrev logged : Bool → ℕ → List LogItem → List (ℕ × List LogItem) → List LogItem
 logged stood t log lives = (if stood then own_steps t log else []) ++ ended_in t lives
 
 -- a step or a note of a thread that stands
-pub once_calm : (h new : Heap) (run : Run) (u t : ℕ) (x : Told) → is_start t (item_of x) ≡ false → gathered_by x ≡ None
+pub once_calm : (h new : Heap) (run : Run) (u t : ℕ) (x : LogItem) → is_start t (item_of x) ≡ false
+    → gathered_by x ≡ None
     → stands h u ≡ true → stands new t ≡ stands h t
     → StandsOnce h run t → StandsOnce new ((u, x) ∷ run) t
 once_calm h new run u t x older none stood same once =
@@ -61,7 +62,7 @@ once_calm h new run u t x older none stood same once =
     ]
 
 -- a thread is registered that didn't stand: its log begins
-pub once_started : (h new : Heap) (run : Run) (t : ℕ) (x : Told) → 0 < t → is_start t (item_of x) ≡ true
+pub once_started : (h new : Heap) (run : Run) (t : ℕ) (x : LogItem) → 0 < t → is_start t (item_of x) ≡ true
     → gathered_by x ≡ None → stands h t ≡ false → StandsOnce h run t → StandsOnce new ((0, x) ∷ run) t
 once_started h new run t x positive starts none off once =
     let used : Bool = is_used t (items_of run) in
@@ -83,7 +84,8 @@ once_started h new run t x positive starts none off once =
     both false used = refl
 
 -- a thread that stood is gathered: its log is one of those that have ended
-pub once_gathered : (h new : Heap) (run : Run) (t : ℕ) (x : Told) → 0 < t → gathered_by x ≡ Some t → stands h t ≡ true
+pub once_gathered : (h new : Heap) (run : Run) (t : ℕ) (x : LogItem) → 0 < t → gathered_by x ≡ Some t
+    → stands h t ≡ true
     → stands new t ≡ false → StandsOnce h run t → StandsOnce new ((0, x) ∷ run) t
 once_gathered h new run t x positive gathers stood off once =
     ap (λ b. if b then x ∷ all_of t run else all_of t run) (ne_eqb 0 t (λ e. omega (arith, e, positive)))
@@ -94,7 +96,7 @@ once_gathered h new run t x positive gathers stood off once =
     (eq-eqb t t refl))
 
 -- the root's step that is about another thread
-pub once_else : (h new : Heap) (run : Run) (t u : ℕ) (x : Told) → 0 < t → is_start t (item_of x) ≡ false
+pub once_else : (h new : Heap) (run : Run) (t u : ℕ) (x : LogItem) → 0 < t → is_start t (item_of x) ≡ false
     → gathered_by x ≡ Some u → u ≢ t → stands new t ≡ stands h t → StandsOnce h run t → StandsOnce new ((0, x) ∷ run) t
 once_else h new run t u x positive older gathers other same once =
     ap (λ b. if b then x ∷ all_of t run else all_of t run) (ne_eqb 0 t (λ e. omega (arith, e, positive)))
@@ -130,13 +132,13 @@ never_root h u (Register v) number entries reached ok = elim (cases_Bool (u == 0
 ]
 never_root h u _ number entries reached ok = refl
 
-never_again : (n limit : ℕ) (u : ℕ) (x : Told) (run : Run) → AreOptions n limit
+never_again : (n limit : ℕ) (u : ℕ) (x : LogItem) (run : Run) → AreOptions n limit
     → AreItems (start_of n limit) (items_of run) → MayCome (world n limit run) u (item_of x)
     → is_start 0 (item_of x) ≡ false
-never_again n limit u (Did s number moved) run options are comes =
+never_again n limit u (Stepped s number moved) run options are comes =
     never_root (world n limit run) u s number (entries_found moved)
     (run_reached n limit (events_of (items_of run)) options (events_run (start_of n limit) (items_of run) are)) comes.0
-never_again n limit u (Saw word number) run options are comes = refl
+never_again n limit u (Loaded word number) run options are comes = refl
 never_again n limit u (Lost word number) run options are comes = refl
 
 -- so all items of its number are its seat's

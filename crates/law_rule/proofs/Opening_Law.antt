@@ -14,7 +14,7 @@ use Rattle.law_world.specs.Heap.{cell_at, is_gathered, is_registered, AreOptions
 use Rattle.law_world.specs.Holding.{lives}
 use Rattle.law_world.proofs.Beginning.{free_cell, immortal_cell}
 use Rattle.law_rule.specs.declared.contents.Contents.{Contents}
-use Rattle.law_rule.specs.declared.told.Told.{Told}
+use Rattle.law_rule.specs.declared.told.LogItem.{LogItem}
 use Rattle.law_rule.specs.declared.view.View.{View}
 use Rattle.law_rule.specs.Homes.{HomeShown}
 use Rattle.law_rule.specs.Rule.{stands, Fits, Kept}
@@ -34,7 +34,7 @@ root_stands n limit t stood = elim (or_cases (t == 0) _ stood) [
       absurd (omega (arith, ltb-true 0 t number.0, ltb-true t 1 number.1))
 ]
 
-none_logged : (b : Bool) → ◌≡◌ {A = List Told} [] ((if b then [] else []) ++ [])
+none_logged : (b : Bool) → ◌≡◌ {A = List LogItem} [] ((if b then [] else []) ++ [])
 none_logged true = refl
 none_logged false = refl
 

@@ -4,7 +4,7 @@ use Rattle.std.proofs.Common.{[], ◌∷◌, length, refl, ◌∙◌, ap, inl, i
 use Rattle.std.proofs.lemmas.Bool.{eq-eqb, ne_eqb, eqb-true, and_parts, or_cases, not-true}
 use Rattle.law_world.specs.Heap.{Heap, is_registered, is_gathered}
 use Rattle.law_known.specs.Items.{own, is_start, is_used, begins_with}
-use Rattle.law_rule.specs.declared.told.Told.{Told}
+use Rattle.law_rule.specs.declared.told.LogItem.{LogItem}
 use Rattle.law_rule.specs.Logs.{item_of, log_items, Run, items_of, begins, own_of}
 use Rattle.law_rule.specs.Rule.{stands}
 
@@ -28,12 +28,12 @@ own_items t (x ∷ run) = by_test (is_start t (item_of x.1)) (x.0 == t) (own_ite
     by_test false true before = ap (λ log. item_of x.1 ∷ log) before
     by_test false false before = before
 
-pub own_more : (t : ℕ) (x : Told) (run : Run) → is_start t (item_of x) ≡ false
+pub own_more : (t : ℕ) (x : LogItem) (run : Run) → is_start t (item_of x) ≡ false
     → own_of t ((t, x) ∷ run) ≡ x ∷ own_of t run
 own_more t x run older = ap (λ b. if b then begins (is_used t (items_of run)) x else (if t == t then x ∷ own_of t run else own_of t run)) older
     ∙ ap (λ b. if b then x ∷ own_of t run else own_of t run) (eq-eqb t t refl)
 
-pub own_same : (t u : ℕ) (x : Told) (run : Run) → is_start u (item_of x) ≡ false → t ≢ u
+pub own_same : (t u : ℕ) (x : LogItem) (run : Run) → is_start u (item_of x) ≡ false → t ≢ u
     → own_of u ((t, x) ∷ run) ≡ own_of u run
 own_same t u x run older other = ap (λ b. if b then begins (is_used u (items_of run)) x else (if t == u then x ∷ own_of u run else own_of u run)) older
     ∙ ap (λ b. if b then x ∷ own_of u run else own_of u run) (ne_eqb t u other)

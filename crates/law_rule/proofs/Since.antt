@@ -27,11 +27,11 @@ use Rattle.law_known.specs.declared.word.Field.{Field}
 use Rattle.law_known.specs.declared.word.Field.TheVariants.{Owner, Local, Shared, Mutex}
 use Rattle.law_known.specs.declared.word.Word.{Word}
 use Rattle.law_known.specs.declared.word.Word.TheVariants.{Of, Queue, NotifyWord, FreeWord}
-use Rattle.law_known.specs.Items.{Shows, MayCome, is_start, is_used, same_field, events_of}
+use Rattle.law_known.specs.Items.{WordShows, MayCome, is_start, is_used, same_field, events_of}
 use Rattle.law_known.proofs.Items_Runs.{events_run}
 use Rattle.law_rule.specs.declared.told.Moved.{Moved}
-use Rattle.law_rule.specs.declared.told.Told.{Told}
-use Rattle.law_rule.specs.declared.told.Told.TheVariants.{Did, Saw, Lost}
+use Rattle.law_rule.specs.declared.told.LogItem.{LogItem}
+use Rattle.law_rule.specs.declared.told.LogItem.TheVariants.{Stepped, Loaded, Lost}
 use Rattle.law_rule.specs.Logs.{item_of, Run, items_of, begins, own_of, world, IsLegal}
 use Rattle.law_rule.specs.Rule.{stands}
 use Rattle.law_rule.specs.Seen.{part_seen}
@@ -94,7 +94,7 @@ gathered_now h v t sound may some_thread stood same =
     ∙ stands_ungathered (root_after h (Gather v)) t stood some_thread)
 
 root_apart : (h : Heap) (s : Step) (number t : ℕ) (moved : Moved) → IsSound h → root_may h s ≡ true → 0 < t
-    → stands (root_after h s) t ≡ true → is_start t (item_of (Did s number moved)) ≡ false → is_about t s ≡ false
+    → stands (root_after h s) t ≡ true → is_start t (item_of (Stepped s number moved)) ≡ false → is_about t s ≡ false
 root_apart h (Register v) number t moved sound may some_thread stood older = older
 root_apart h (Gather v) number t moved sound may some_thread stood older =
     ne_eqb v t (λ same. gathered_now h v t sound may some_thread stood same)
@@ -108,7 +108,8 @@ thread_apart h u _ t may = refl
 -- an event that neither registers nor gathers the thread, which still stands
 is_apart : (h : Heap) (u : ℕ) (s : Step) (number t : ℕ) (moved : Moved) → IsSound h
     → enabled h (record { thread = u; step = s }) ≡ true → 0 < t
-    → stands (after h (record { thread = u; step = s })) t ≡ true → is_start t (item_of (Did s number moved)) ≡ false
+    → stands (after h (record { thread = u; step = s })) t ≡ true
+    → is_start t (item_of (Stepped s number moved)) ≡ false
     → is_about t s ≡ false
 is_apart h u s number t moved sound ok some_thread stood older =
     let there : Heap = after_target h u s (target_at h u s) in
@@ -147,11 +148,11 @@ field_again Shared = refl
 field_again Mutex = refl
 
 -- a look is noted, and so is a lost compare-exchange
-pub noted_now : (f : Field) (c number : ℕ) (log : List Told) → noted f c (Saw (Of f c) number ∷ log) ≡ Some number
+pub noted_now : (f : Field) (c number : ℕ) (log : List LogItem) → noted f c (Loaded (Of f c) number ∷ log) ≡ Some number
 noted_now f c number log = ap (λ b. if b then Some number else noted f c log)
     (both_true (field_again f) (eq-eqb c c refl))
 
-pub noted_lost : (f : Field) (c number : ℕ) (log : List Told) → noted f c (Lost (Of f c) number ∷ log) ≡ Some number
+pub noted_lost : (f : Field) (c number : ℕ) (log : List LogItem) → noted f c (Lost (Of f c) number ∷ log) ≡ Some number
 noted_lost f c number log = noted_now f c number log
 
 nothing_noted : (number : ℕ) → None ≡ Some number → ⊥
@@ -161,10 +162,10 @@ nothing_noted number bad = absurd (cc)
 
 -- What is so by the thread's own items is so now, where it lasts while others step: each own item has to make it so, or
 -- leave it so.
-module _ (n limit t : ℕ) (P : Heap → Type 0) (Tells : List Told → Type 0) (lasts : Lasts t P)
+module _ (n limit t : ℕ) (P : Heap → Type 0) (Tells : List LogItem → Type 0) (lasts : Lasts t P)
     (options : AreOptions n limit) (some_thread : 0 < t) (starts : Tells [] → ⊥)
-    (again : (number : ℕ) (moved : Moved) → Tells (Did (Register t) number moved ∷ []) → ⊥)
-    (owns : (run : Run) (x : Told) → IsLegal n limit ((t, x) ∷ run) → stands (world n limit ((t, x) ∷ run)) t ≡ true
+    (again : (number : ℕ) (moved : Moved) → Tells (Stepped (Register t) number moved ∷ []) → ⊥)
+    (owns : (run : Run) (x : LogItem) → IsLegal n limit ((t, x) ∷ run) → stands (world n limit ((t, x) ∷ run)) t ≡ true
     → Tells (x ∷ own_of t run)
     → (stands (world n limit run) t ≡ true → Tells (own_of t run) → P (world n limit run))
     → P (world n limit ((t, x) ∷ run))) where
@@ -173,9 +174,10 @@ module _ (n limit t : ℕ) (P : Heap → Type 0) (Tells : List Told → Type 0) 
 
   others_step : (run : Run) (u : ℕ) (s : Step) (m : ℕ) (moved : Moved) → IsLegal n limit run
       → enabled (world n limit run) (record { thread = u; step = s }) ≡ true → u ≢ t
-      → is_start t (item_of (Did s m moved)) ≡ false → stands (world n limit ((u, Did s m moved) ∷ run)) t ≡ true
+      → is_start t (item_of (Stepped s m moved)) ≡ false
+      → stands (world n limit ((u, Stepped s m moved) ∷ run)) t ≡ true
       → (stands (world n limit run) t ≡ true → P (world n limit run))
-      → P (world n limit ((u, Did s m moved) ∷ run))
+      → P (world n limit ((u, Stepped s m moved) ∷ run))
   others_step run u s m moved legal ok other older stood before =
       let h : Heap = world n limit run in
       let reached : IsReached h = run_reached n limit (events_of (items_of run)) options
@@ -186,27 +188,28 @@ module _ (n limit t : ℕ) (P : Heap → Type 0) (Tells : List Told → Type 0) 
       lasts h (record { thread = u; step = s }) reached ok others
       (before (stood_before h (record { thread = u; step = s }) t sound ok others some_thread stood))
 
-  others_item : (run : Run) (u : ℕ) (x : Told) → IsLegal n limit run → MayCome (world n limit run) u (item_of x) → u ≢ t
+  others_item : (run : Run) (u : ℕ) (x : LogItem) → IsLegal n limit run → MayCome (world n limit run) u (item_of x)
+      → u ≢ t
       → is_start t (item_of x) ≡ false → stands (world n limit ((u, x) ∷ run)) t ≡ true
       → (stands (world n limit run) t ≡ true → P (world n limit run)) → P (world n limit ((u, x) ∷ run))
-  others_item run u (Did s m moved) legal comes other older stood before =
+  others_item run u (Stepped s m moved) legal comes other older stood before =
       others_step run u s m moved legal comes.0 other older stood before
-  others_item run u (Saw word m) legal comes other older stood before = before stood
+  others_item run u (Loaded word m) legal comes other older stood before = before stood
   others_item run u (Lost word m) legal comes other older stood before = before stood
 
   -- a log that begins tells nothing
-  begun : (x : Told) (used : Bool) → is_start t (item_of x) ≡ true → Tells (begins used x) → ⊥
+  begun : (x : LogItem) (used : Bool) → is_start t (item_of x) ≡ true → Tells (begins used x) → ⊥
   begun x false first tells = starts tells
-  begun (Did (Register u) m moved) true first tells =
-      again m moved (subst (λ v. Tells (Did (Register v) m moved ∷ [])) (eqb-true u t first) tells)
-  begun (Did _ m moved) true first tells = absurd (true≢false (sym first))
-  begun (Saw word m) true first tells = absurd (true≢false (sym first))
+  begun (Stepped (Register u) m moved) true first tells =
+      again m moved (subst (λ v. Tells (Stepped (Register v) m moved ∷ [])) (eqb-true u t first) tells)
+  begun (Stepped _ m moved) true first tells = absurd (true≢false (sym first))
+  begun (Loaded word m) true first tells = absurd (true≢false (sym first))
   begun (Lost word m) true first tells = absurd (true≢false (sym first))
 
-  item_so : (run : Run) (u : ℕ) (x : Told) → IsLegal n limit ((u, x) ∷ run) → Told_So run → Told_So ((u, x) ∷ run)
+  item_so : (run : Run) (u : ℕ) (x : LogItem) → IsLegal n limit ((u, x) ∷ run) → Told_So run → Told_So ((u, x) ∷ run)
   item_so run u x legal before stood tells =
       let earlier : IsLegal n limit run = record { items = legal.items.0; moved = legal.moved.0 } in
-      let mine : List Told = x ∷ own_of t run in
+      let mine : List LogItem = x ∷ own_of t run in
       elim (cases_Bool (is_start t (item_of x))) [
         | inl first ↦ absurd (begun x (is_used t (items_of run)) first
             (subst Tells (ap (λ b. if b then begins (is_used t (items_of run)) x else (if u ==
@@ -233,23 +236,23 @@ module _ (n limit t : ℕ) (P : Heap → Type 0) (Tells : List Told → Type 0) 
       item_so run x.0 x.1 (record { items = legal.items; moved = legal.moved })
       (run_so run (record { items = legal.items.0; moved = legal.moved.0 })) stood tells
 
-  told_so : (h : Heap) (log : List Told) → Known n limit h t log → Tells log → P h
+  told_so : (h : Heap) (log : List LogItem) → Known n limit h t log → Tells log → P h
   told_so h log known tells =
       subst P known.is_world (run_so known.run known.legal
       (subst (λ z. stands z t ≡ true) (sym known.is_world) known.stood) (subst Tells (sym known.is_own) tells))
 
 -- ---- since a note
 
-module _ (n limit t : ℕ) (now : List Told) (P : Heap → Type 0) (options : AreOptions n limit) (some_thread : 0 < t)
+module _ (n limit t : ℕ) (now : List LogItem) (P : Heap → Type 0) (options : AreOptions n limit) (some_thread : 0 < t)
     (f : Field) (c number : ℕ)
-    (found : (h : Heap) (before : List Told) → Known n limit h t before → part_seen n before ≡ part_seen n now
-    → Shows h (Of f c) number → P h) where
+    (found : (h : Heap) (before : List LogItem) → Known n limit h t before → part_seen n before ≡ part_seen n now
+    → WordShows h (Of f c) number → P h) where
   -- the note is there, and the thread's part is as it is now
-  abbrev NotedSo : List Told → Type 0
+  abbrev NotedSo : List LogItem → Type 0
   NotedSo log = (noted f c log ≡ Some number) × (part_seen n log ≡ part_seen n now)
 
   own_note : (run : Run) (word : Word) (m : ℕ) → IsLegal n limit run → stands (world n limit run) t ≡ true
-      → Shows (world n limit run) word m
+      → WordShows (world n limit run) word m
       → (if is_of f c word then Some m else noted f c (own_of t run)) ≡ Some number
       → part_seen n (own_of t run) ≡ part_seen n now
       → (stands (world n limit run) t ≡ true → NotedSo (own_of t run) → P (world n limit run)) → P (world n limit run)
@@ -258,17 +261,18 @@ module _ (n limit t : ℕ) (now : List Told) (P : Heap → Type 0) (options : Ar
         let this : m ≡ number = ap number_in
         (sym (ap (λ b. if b then Some m else noted f c (own_of t run)) here) ∙ is) in
         found (world n limit run) (own_of t run) (knows_run n limit run t options legal stood some_thread) same
-        (subst (Shows (world n limit run) (Of f c)) this
-        (subst (λ w. Shows (world n limit run) w m) (word_is f c word here) shown))
+        (subst (WordShows (world n limit run) (Of f c)) this
+        (subst (λ w. WordShows (world n limit run) w m) (word_is f c word here) shown))
     | inr other ↦ before stood (sym (ap (λ b. if b then Some m else noted f c (own_of t run)) other) ∙ is, same)
   ]
 
-  noted_item : (run : Run) (x : Told) → IsLegal n limit ((t, x) ∷ run) → stands (world n limit ((t, x) ∷ run)) t ≡ true
+  noted_item : (run : Run) (x : LogItem) → IsLegal n limit ((t, x) ∷ run)
+      → stands (world n limit ((t, x) ∷ run)) t ≡ true
       → NotedSo (x ∷ own_of t run)
       → (stands (world n limit run) t ≡ true → NotedSo (own_of t run) → P (world n limit run))
       → P (world n limit ((t, x) ∷ run))
-  noted_item run (Did s m moved) legal stood tells before = absurd (nothing_noted number tells.0)
-  noted_item run (Saw word m) legal stood tells before =
+  noted_item run (Stepped s m moved) legal stood tells before = absurd (nothing_noted number tells.0)
+  noted_item run (Loaded word m) legal stood tells before =
       own_note run word m (record { items = legal.items.0; moved = legal.moved.0 }) stood legal.items.1 tells.0
       tells.1 before
   noted_item run (Lost word m) legal stood tells before =
@@ -276,10 +280,10 @@ module _ (n limit t : ℕ) (now : List Told) (P : Heap → Type 0) (options : Ar
       tells.1 before
 
 -- what lasts, and was so as the note was made
-pub since : (n limit : ℕ) (h : Heap) (t : ℕ) (log : List Told) (f : Field) (c number : ℕ) (P : Heap → Type 0) → 0 < t
+pub since : (n limit : ℕ) (h : Heap) (t : ℕ) (log : List LogItem) (f : Field) (c number : ℕ) (P : Heap → Type 0) → 0 < t
     → Known n limit h t log → noted f c log ≡ Some number → Lasts t P
-    → ((old : Heap) (before : List Told) → Known n limit old t before → part_seen n before ≡ part_seen n log
-    → Shows old (Of f c) number → P old) → P h
+    → ((old : Heap) (before : List LogItem) → Known n limit old t before → part_seen n before ≡ part_seen n log
+    → WordShows old (Of f c) number → P old) → P h
 since n limit h t log f c number P some_thread known is lasts found =
     told_so n limit t P (λ now. (noted f c now ≡ Some number) × (part_seen n now ≡ part_seen n log)) lasts known.options
     some_thread (λ bad. nothing_noted number bad.0) (λ m moved bad. nothing_noted number bad.0)
@@ -293,19 +297,20 @@ no_step s bad = absurd (cc)
 step_same : (r s : Step) → Some r ≡ Some s → r ≡ s
 step_same r s e = cc
 
-module _ (n limit t : ℕ) (now : List Told) (P : Heap → Type 0) (options : AreOptions n limit) (some_thread : 0 < t)
+module _ (n limit t : ℕ) (now : List LogItem) (P : Heap → Type 0) (options : AreOptions n limit) (some_thread : 0 < t)
     (s : Step)
-    (done : (h : Heap) (later : List Told) → May h t s → Known n limit (moved_on h t s) t later
+    (done : (h : Heap) (later : List LogItem) → May h t s → Known n limit (moved_on h t s) t later
     → part_seen n later ≡ part_seen n now → P (moved_on h t s)) where
-  abbrev SteppedSo : List Told → Type 0
+  abbrev SteppedSo : List LogItem → Type 0
   SteppedSo log = (newest_step log ≡ Some s) × (part_seen n log ≡ part_seen n now)
 
-  own_step : (run : Run) (m : ℕ) (moved : Moved) → IsLegal n limit ((t, Did s m moved) ∷ run)
-      → stands (world n limit ((t, Did s m moved) ∷ run)) t ≡ true
-      → part_seen n (Did s m moved ∷ own_of t run) ≡ part_seen n now → P (world n limit ((t, Did s m moved) ∷ run))
+  own_step : (run : Run) (m : ℕ) (moved : Moved) → IsLegal n limit ((t, Stepped s m moved) ∷ run)
+      → stands (world n limit ((t, Stepped s m moved) ∷ run)) t ≡ true
+      → part_seen n (Stepped s m moved ∷ own_of t run) ≡ part_seen n now
+      → P (world n limit ((t, Stepped s m moved) ∷ run))
   own_step run m moved legal stood same =
       let h : Heap = world n limit run in
-      let x : Told = Did s m moved in
+      let x : LogItem = Stepped s m moved in
       let off : (t == 0) ≡ false = ne_eqb t 0 (λ zero. omega (arith, zero, some_thread)) in
       let may : May h t s = may_parts h t s
       (subst (λ b. (if b then root_may h s else thread_may h t s) ≡ true) off legal.items.1.0) in
@@ -315,24 +320,25 @@ module _ (n limit t : ℕ) (now : List Told) (P : Heap → Type 0) (options : Ar
       (subst (λ z. Known n limit z t (own_of t ((t, x) ∷ run))) is
       (knows_run n limit ((t, x) ∷ run) t options legal stood some_thread)) (ap (part_seen n) log ∙ same))
 
-  stepped_item : (run : Run) (x : Told) → IsLegal n limit ((t, x) ∷ run)
+  stepped_item : (run : Run) (x : LogItem) → IsLegal n limit ((t, x) ∷ run)
       → stands (world n limit ((t, x) ∷ run)) t ≡ true → SteppedSo (x ∷ own_of t run)
       → (stands (world n limit run) t ≡ true → SteppedSo (own_of t run) → P (world n limit run))
       → P (world n limit ((t, x) ∷ run))
-  stepped_item run (Did other m moved) legal stood tells before =
+  stepped_item run (Stepped other m moved) legal stood tells before =
       let is : Some other ≡ Some s = tells.0 in
       let same : s ≡ other = cc in
-      subst (λ z. IsLegal n limit ((t, Did z m moved) ∷ run)
-      → stands (world n limit ((t, Did z m moved) ∷ run)) t ≡ true
-      → part_seen n (Did z m moved ∷ own_of t run) ≡ part_seen n now → P (world n limit ((t, Did z m moved) ∷ run)))
+      subst (λ z. IsLegal n limit ((t, Stepped z m moved) ∷ run)
+      → stands (world n limit ((t, Stepped z m moved) ∷ run)) t ≡ true
+      → part_seen n (Stepped z m moved ∷ own_of t run) ≡ part_seen n now
+      → P (world n limit ((t, Stepped z m moved) ∷ run)))
       same (own_step run m moved) legal stood tells.1
-  stepped_item run (Saw word m) legal stood tells before = before stood tells
+  stepped_item run (Loaded word m) legal stood tells before = before stood tells
   stepped_item run (Lost word m) legal stood tells before = before stood tells
 
 -- what lasts, and was so after the thread's newest step, which isn't the root's
-pub since_step : (n limit : ℕ) (h : Heap) (t : ℕ) (log : List Told) (s : Step) (P : Heap → Type 0) → 0 < t
+pub since_step : (n limit : ℕ) (h : Heap) (t : ℕ) (log : List LogItem) (s : Step) (P : Heap → Type 0) → 0 < t
     → Known n limit h t log → newest_step log ≡ Some s → s ≢ Register t → Lasts t P
-    → ((old : Heap) (later : List Told) → May old t s → Known n limit (moved_on old t s) t later
+    → ((old : Heap) (later : List LogItem) → May old t s → Known n limit (moved_on old t s) t later
     → part_seen n later ≡ part_seen n log → P (moved_on old t s)) → P h
 since_step n limit h t log s P some_thread known is own lasts done =
     told_so n limit t P (λ now. (newest_step now ≡ Some s) × (part_seen n now ≡ part_seen n log)) lasts known.options

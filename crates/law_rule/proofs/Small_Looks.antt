@@ -23,11 +23,11 @@ use Rattle.law_lasting.proofs.Telling.{hand_tells}
 use Rattle.law_known.specs.declared.word.Field.TheVariants.{Owner as OwnerWord, Local}
 use Rattle.law_known.specs.declared.word.Word.{Word}
 use Rattle.law_known.specs.declared.word.Word.TheVariants.{Of}
-use Rattle.law_known.specs.Items.{IsWord, Shows}
+use Rattle.law_known.specs.Items.{IsWord, WordShows}
 use Rattle.law_known.proofs.Free_Law.{live_shown}
 use Rattle.law_rule.specs.declared.contents.Contents.{Contents}
-use Rattle.law_rule.specs.declared.told.Told.{Told}
-use Rattle.law_rule.specs.declared.told.Told.TheVariants.{Saw}
+use Rattle.law_rule.specs.declared.told.LogItem.{LogItem}
+use Rattle.law_rule.specs.declared.told.LogItem.TheVariants.{Loaded}
 use Rattle.law_rule.specs.declared.view.View.{View}
 use Rattle.law_rule.specs.Layout.{spot}
 use Rattle.law_rule.specs.Logs.{world}
@@ -45,8 +45,8 @@ owner_small threads (owners.Thread q) number few fits live is = omega (arith, is
 owner_small threads (owners.Claimed q) number few fits live is = absurd (true≢false (sym live))
 owner_small threads owners.Free number few fits live is = absurd (true≢false (sym live))
 
-carried_owner : (n limit : ℕ) (h : Heap) (t : ℕ) (log : List Told) (c number : ℕ) → Known n limit h t log
-    → carries c (part_seen n log).row.hand ≡ true → Shows h (Of OwnerWord c) number → number ≤ MOST_THREADS
+carried_owner : (n limit : ℕ) (h : Heap) (t : ℕ) (log : List LogItem) (c number : ℕ) → Known n limit h t log
+    → carries c (part_seen n log).row.hand ≡ true → WordShows h (Of OwnerWord c) number → number ≤ MOST_THREADS
 carried_owner n limit h t log c number known carried shown =
     let sound : IsSound h = reached_sound h known.reached in
     let carrying : carries c (row_at h t).hand ≡ true = ap (λ (r : Row). carries c r.hand) known.part.row_is
@@ -55,8 +55,8 @@ carried_owner n limit h t log c number known carried shown =
     owner_small (length h.rows) (cell_at h c).owner number sound.shaped.threads (reached_owners h known.reached c) live
     (live_shown (length h.rows) (cell_at h c).owner number live shown)
 
-merging_local : (n limit : ℕ) (h : Heap) (t : ℕ) (log : List Told) (c number : ℕ) → Known n limit h t log
-    → own_may n (part_seen n log) (MergeAdd c) ≡ true → Shows h (Of Local c) number → number ≤ limit
+merging_local : (n limit : ℕ) (h : Heap) (t : ℕ) (log : List LogItem) (c number : ℕ) → Known n limit h t log
+    → own_may n (part_seen n log) (MergeAdd c) ≡ true → WordShows h (Of Local c) number → number ≤ limit
 merging_local n limit h t log c number known own shown =
     let hand = adding_hand (part_seen n log).row.hand c (part_hand n (part_seen n log) (MergeAdd c) own) in
     let busy : (row_at h t).hand ≡ hands.Busy hand.0 c = hand_in n limit h t log log (hands.Busy hand.0 c) known
@@ -77,15 +77,15 @@ module _ {B : Type 0} (shows : B → ℕ × Contents) (n limit : ℕ) where
   -- a load, and what the log says of the number
   looks_and : (id : ℕ) (v : View) (slots : List (ℕ × Option B)) (w : Word) (Says : ℕ → Type 0) → v.active ≡ true
       → 0 < v.thread → IsWord n w
-      → ((h : Heap) (there : ℕ) → Known n limit h v.thread v.log → Shows h w there → Says there)
+      → ((h : Heap) (there : ℕ) → Known n limit h v.thread v.log → WordShows h w there → Says there)
       → Allows Rule n id (v, slots) (spot n w) (λ number. number)
-      (λ number me. (me ≡ (with_told (Saw w number) v, slots)) × Says number)
+      (λ number me. (me ≡ (with_told (Loaded w number) v, slots)) × Says number)
   looks_and id v slots w Says active some_thread is says s r deep at small =
       let there : ℕ = get_or s.words (spot n w) 0 in (
-        with_told (Saw w there) v,
+        with_told (Loaded w there) v,
         keeps,
         tt,
-        unmoved shows n limit s r id v w (Saw w there) at active is saw,
+        unmoved shows n limit s r id v w (Loaded w there) at active is saw,
         (
           refl,
           says (world n limit r.run) there (knows shows n limit s r id v at active some_thread)
@@ -96,7 +96,7 @@ module _ {B : Type 0} (shows : B → ℕ × Contents) (n limit : ℕ) where
   pub looks_owner : (id : ℕ) (v : View) (slots : List (ℕ × Option B)) (c : ℕ) → v.active ≡ true → 0 < v.thread → c < n
       → carries c (part_seen n v.log).row.hand ≡ true
       → Allows Rule n id (v, slots) (spot n (Of OwnerWord c)) (λ number. number)
-      (λ number me. (me ≡ (with_told (Saw (Of OwnerWord c) number) v, slots)) × (number ≤ MOST_THREADS))
+      (λ number me. (me ≡ (with_told (Loaded (Of OwnerWord c) number) v, slots)) × (number ≤ MOST_THREADS))
   looks_owner id v slots c active some_thread low carried =
       looks_and id v slots (Of OwnerWord c) (λ number. number ≤ MOST_THREADS) active some_thread low
       (λ h there known shown. carried_owner n limit h v.thread v.log c there known carried shown)
@@ -104,7 +104,7 @@ module _ {B : Type 0} (shows : B → ℕ × Contents) (n limit : ℕ) where
   pub looks_local : (id : ℕ) (v : View) (slots : List (ℕ × Option B)) (c : ℕ) → v.active ≡ true → 0 < v.thread → c < n
       → own_may n (part_seen n v.log) (MergeAdd c) ≡ true
       → Allows Rule n id (v, slots) (spot n (Of Local c)) (λ number. number)
-      (λ number me. (me ≡ (with_told (Saw (Of Local c) number) v, slots)) × (number ≤ limit))
+      (λ number me. (me ≡ (with_told (Loaded (Of Local c) number) v, slots)) × (number ≤ limit))
   looks_local id v slots c active some_thread low own =
       looks_and id v slots (Of Local c) (λ number. number ≤ limit) active some_thread low
       (λ h there known shown. merging_local n limit h v.thread v.log c there known own shown)

@@ -13,7 +13,7 @@ use Rattle.law_known.specs.Start.{start_of}
 use Rattle.law_world.specs.Heap.{Heap}
 use Rattle.law_world.specs.Steps.{enabled, after, after_target, root_after, root_may, thread_may, target_at}
 use Rattle.law_known.specs.declared.word.Word.{Word}
-use Rattle.law_known.specs.Items.{IsWord, Shows, IsTold, found, works_on, is_start, events_of}
+use Rattle.law_known.specs.Items.{IsWord, WordShows, IsNumberFound, found, works_on, is_start, events_of}
 use Rattle.law_world.proofs.Asking.{May, may_parts}
 use Rattle.law_world.proofs.Changes.{read_there}
 use Rattle.law_known.proofs.Items_Queues.{run_cells}
@@ -23,8 +23,8 @@ use Rattle.law_lasting.proofs.Ranges_Law.{same_rows}
 use Rattle.law_known.proofs.Words_Law.{others_shown}
 use Rattle.law_rule.specs.declared.contents.Contents.{Contents}
 use Rattle.law_rule.specs.declared.told.Moved.{Moved}
-use Rattle.law_rule.specs.declared.told.Told.{Told}
-use Rattle.law_rule.specs.declared.told.Told.TheVariants.{Did}
+use Rattle.law_rule.specs.declared.told.LogItem.{LogItem}
+use Rattle.law_rule.specs.declared.told.LogItem.TheVariants.{Stepped}
 use Rattle.law_rule.specs.declared.view.View.{View}
 use Rattle.law_rule.specs.Layout.{spot}
 use Rattle.law_rule.specs.Logs.{item_of, gathered_by, entries_found, Run, items_of, world, MovesWith}
@@ -53,13 +53,13 @@ same_threads h t s (Some c) = record { rows = same_rows h t s (Some c); gathered
 
 -- a thread neither registers nor gathers
 pub no_start : (h : Heap) (t : ℕ) (s : Step) (number : ℕ) (moved : Moved) → May h t s → (u : ℕ)
-    → is_start u (item_of (Did s number moved)) ≡ false
+    → is_start u (item_of (Stepped s number moved)) ≡ false
 no_start h t (Register w) number moved may u = absurd (true≢false (sym may.hand))
 no_start h t (Gather w) number moved may u = absurd (true≢false (sym may.hand))
 no_start h t _ number moved may u = refl
 
 no_gather : (h : Heap) (t : ℕ) (s : Step) (number : ℕ) (moved : Moved) → May h t s
-    → gathered_by (Did s number moved) ≡ None
+    → gathered_by (Stepped s number moved) ≡ None
 no_gather h t (Gather w) number moved may = absurd (true≢false (sym may.hand))
 no_gather h t _ number moved may = refl
 
@@ -70,8 +70,8 @@ pub record Does (n : ℕ) (h : Heap) (run : Run) (t : ℕ) (s : Step) (w : Word)
   pub may : thread_may h t s ≡ true
   pub word : works_on h t s (target_at h t s) ≡ w
   pub is_word : IsWord n w
-  pub shown : Shows (moved_on h t s) w written
-  pub told : IsTold h t s number
+  pub shown : WordShows (moved_on h t s) w written
+  pub told : IsNumberFound h t s number
   pub entries : entries_found moved ≡ found h t s
   pub moves : MovesWith h run t s moved
 
@@ -86,16 +86,16 @@ module _ {B : Type 0} (shows : B → ℕ × Contents) (n limit : ℕ) where
       (homes : Homes B) → get_elem? st.views id ≡ some v → v.active ≡ true
       → Does n (world n limit r.run) r.run v.thread s w written number moved → length homes ≡ n
       → ((c : ℕ) → c < n → HomeShown shows homes (moved_on (world n limit r.run) v.thread s)
-      ((v.thread, Did s number moved) ∷ r.run) c)
+      ((v.thread, Stepped s number moved) ∷ r.run) c)
       → Rule (record {
         words = set st.words (spot n w) written;
         homes = homes;
         views = set st.views id
-            (with_told (Did s number moved) v);
+            (with_told (Stepped s number moved) v);
       })
   does st r id v s w written number moved homes at active did deep each_home =
       let t : ℕ = v.thread in
-      let x : Told = Did s number moved in
+      let x : LogItem = Stepped s number moved in
       let h : Heap = world n limit r.run in
       let may : May h t s = may_parts h t s did.may in
       let is : world n limit ((t, x) ∷ r.run) ≡ moved_on h t s = thread_after h t s did.some_thread in
@@ -109,25 +109,26 @@ module _ {B : Type 0} (shows : B → ℕ × Contents) (n limit : ℕ) where
       (record {
         wide = length-set st.words (spot n w) written ∙ r.wide;
         deep = deep;
-        each_word = λ u there. subst (λ z. Shows z u (get_or (set st.words (spot n w) written) (spot n u) 0)) (sym is)
+        each_word = λ u there. subst (λ z. WordShows z u (get_or (set st.words (spot n w) written) (spot n u) 0))
+            (sym is)
             (word_shown st r t s w u written number moved did may there);
         each_home = λ c low. subst (λ z. HomeShown shows homes z ((t, x) ∷ r.run) c) (sym is) (each_home c low);
       })
     where
       word_shown : (st : Table) (r : Rule st) (t : ℕ) (s : Step) (w u : Word) (written number : ℕ) (moved : Moved)
           → Does n (world n limit r.run) r.run t s w written number moved
-          → May (world n limit r.run) t s → IsWord n u → Shows (moved_on (world n limit r.run) t s) u
+          → May (world n limit r.run) t s → IsWord n u → WordShows (moved_on (world n limit r.run) t s) u
           (get_or (set st.words (spot n w) written) (spot n u) 0)
       word_shown st r t s w u written number moved did may there = elim (cases_eq (spot n u) (spot n w)) [
         | inl same ↦
             let is : u ≡ w = apart n u w r.options.few_enough there did.is_word same in
-            subst (λ z. Shows (moved_on (world n limit r.run) t s) z
+            subst (λ z. WordShows (moved_on (world n limit r.run) t s) z
             (get_or (set st.words (spot n w) written) (spot n z) 0)) (sym is)
-            (subst (Shows (moved_on (world n limit r.run) t s) w)
+            (subst (WordShows (moved_on (world n limit r.run) t s) w)
             (sym (get_or-set_same st.words (spot n w) written 0 (omega (arith, inside n w did.is_word, r.wide))))
             did.shown)
         | inr other ↦
-            subst (Shows (moved_on (world n limit r.run) t s) u)
+            subst (WordShows (moved_on (world n limit r.run) t s) u)
             (sym (read_there st.words (spot n w) (spot n u) written 0 other))
             (others_shown (world n limit r.run) t s u (get_or st.words (spot n u) 0)
             (run_reached n limit (events_of (items_of r.run)) r.options

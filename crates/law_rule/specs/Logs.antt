@@ -18,8 +18,8 @@ use Rattle.law_rule.specs.declared.contents.Contents.TheVariants.{Nothing, Truth
 use Rattle.law_rule.specs.declared.contents.Contents.TheVariants.{Mailbox}
 use Rattle.law_rule.specs.declared.told.Moved.{Moved}
 use Rattle.law_rule.specs.declared.told.Moved.TheVariants as moves
-use Rattle.law_rule.specs.declared.told.Told.{Told}
-use Rattle.law_rule.specs.declared.told.Told.TheVariants.{Did, Saw, Lost}
+use Rattle.law_rule.specs.declared.told.LogItem.{LogItem}
+use Rattle.law_rule.specs.declared.told.LogItem.TheVariants.{Stepped, Loaded, Lost}
 use Rattle.law_rule.specs.Keys.{KeysAfter}
 
 -- ---- contents as the world has them
@@ -47,19 +47,19 @@ abbrev pub entries_found : Moved → List ℕ
 entries_found (moves.Found c contents) = entries_in contents
 entries_found _ = []
 
-abbrev pub item_of : Told → Item
-item_of (Did s number moved) = items.Did s number (entries_found moved)
-item_of (Saw word number) = items.Saw word number
+abbrev pub item_of : LogItem → Item
+item_of (Stepped s number moved) = items.Did s number (entries_found moved)
+item_of (Loaded word number) = items.Saw word number
 item_of (Lost word number) = items.Lost word number
 
-abbrev pub log_items : List Told → List Item
+abbrev pub log_items : List LogItem → List Item
 log_items log = map item_of log
 
 -- ---- runs
 
 -- the items of all threads, newest first
 abbrev pub Run : Type 0
-Run = List (ℕ × Told)
+Run = List (ℕ × LogItem)
 
 abbrev pub items_of : Run → ItemRun
 items_of [] = []
@@ -67,43 +67,43 @@ items_of (x ∷ run) = (x.0, item_of x.1) ∷ items_of run
 
 -- What the log of a registration begins with: nothing, where the number is new; where it was borne before, the root's
 -- item that registers it again.
-abbrev pub begins : Bool → Told → List Told
+abbrev pub begins : Bool → LogItem → List LogItem
 begins true x = x ∷ []
 begins false x = []
 
 -- a thread's own since it was last registered, newest first
-abbrev pub own_of : ℕ → Run → List Told
+abbrev pub own_of : ℕ → Run → List LogItem
 own_of t [] = []
 own_of t (x ∷ run) = if is_start t (item_of x.1) then begins (is_used t (items_of run)) x.1 else (if x.0 ==
     t then x.1 ∷ own_of t run else own_of t run)
 
 -- a log without the root's item: what the thread itself did and saw
-abbrev pub own_steps : ℕ → List Told → List Told
+abbrev pub own_steps : ℕ → List LogItem → List LogItem
 own_steps t [] = []
 own_steps t (x ∷ log) = if is_start t (item_of x) then own_steps t log else x ∷ own_steps t log
 
 -- whom an item gathers
-abbrev pub gathered_by : Told → Option ℕ
-gathered_by (Did (Gather u) number moved) = Some u
+abbrev pub gathered_by : LogItem → Option ℕ
+gathered_by (Stepped (Gather u) number moved) = Some u
 gathered_by x = None
 
-abbrev pub lives_on : Option ℕ → Run → List (ℕ × List Told) → List (ℕ × List Told)
+abbrev pub lives_on : Option ℕ → Run → List (ℕ × List LogItem) → List (ℕ × List LogItem)
 lives_on None run lives = lives
 lives_on (Some u) run lives = (u, own_of u run) ∷ lives
 
 -- What each registration that has ended did, newest first: of each thread that was gathered its items since it was
 -- registered.
-abbrev pub lives_of : Run → List (ℕ × List Told)
+abbrev pub lives_of : Run → List (ℕ × List LogItem)
 lives_of [] = []
 lives_of (x ∷ run) = lives_on (gathered_by x.1) run (lives_of run)
 
 -- all items of a thread's number
-abbrev pub all_of : ℕ → Run → List Told
+abbrev pub all_of : ℕ → Run → List LogItem
 all_of t [] = []
 all_of t (x ∷ run) = if x.0 == t then x.1 ∷ all_of t run else all_of t run
 
 -- what its registrations did that have ended, newest first
-abbrev pub ended_in : ℕ → List (ℕ × List Told) → List Told
+abbrev pub ended_in : ℕ → List (ℕ × List LogItem) → List LogItem
 ended_in t [] = []
 ended_in t (x ∷ lives) = if x.0 == t then own_steps t x.1 ++ ended_in t lives else ended_in t lives
 
@@ -117,9 +117,9 @@ abbrev pub put_by : Moved → ℕ → Contents → Contents
 put_by (moves.Put d contents) c before = if d == c then contents else before
 put_by _ c before = before
 
-abbrev pub put_in : Told → ℕ → Contents → Contents
-put_in (Did s number moved) c before = put_by moved c before
-put_in (Saw word number) c before = before
+abbrev pub put_in : LogItem → ℕ → Contents → Contents
+put_in (Stepped s number moved) c before = put_by moved c before
+put_in (Loaded word number) c before = before
 put_in (Lost word number) c before = before
 
 -- the immortals, as the heap is opened: none, false, true, the integers from -5 to 256, and the empty globals
@@ -175,9 +175,9 @@ MovesWith h run t s moves.Nothing = (puts h t s ≡ None) × (takes h t s ≡ No
 MovesWith h run t s (moves.Put c contents) = PutsHome h run t s c contents
 MovesWith h run t s (moves.Found c contents) = FindsThere h run t s c contents
 
-abbrev pub IsMoved : Heap → Run → ℕ → Told → Type 0
-IsMoved h run t (Did s number moved) = MovesWith h run t s moved
-IsMoved h run t (Saw word number) = Unit {0}
+abbrev pub IsMoved : Heap → Run → ℕ → LogItem → Type 0
+IsMoved h run t (Stepped s number moved) = MovesWith h run t s moved
+IsMoved h run t (Loaded word number) = Unit {0}
 IsMoved h run t (Lost word number) = Unit {0}
 
 -- the contents of all items are those that go with them

@@ -6,7 +6,7 @@ use Rattle.brc_words.specs.declared.limits.TheConstants.{FIRST_MORTAL}
 use Rattle.law_known.specs.Start.{start_of}
 use Rattle.law_world.specs.Heap.{}
 use Rattle.law_known.specs.declared.word.Word.{Word}
-use Rattle.law_known.specs.Items.{IsWord, Shows}
+use Rattle.law_known.specs.Items.{IsWord, WordShows}
 use Rattle.law_rule.specs.declared.contents.Contents.{Contents}
 use Rattle.law_rule.specs.declared.view.View.{View}
 use Rattle.law_rule.specs.Layout.{spot, extent}
@@ -21,6 +21,6 @@ pub record Opens {B : Type 0} (shows : B → ℕ × Contents) (n limit : ℕ) (w
     (slots : List (Option B)) : Type 0 where
   pub wide : length words ≡ extent n
   pub deep : length slots ≡ n
-  pub each_word : (w : Word) → IsWord n w → Shows (start_of n limit) w (slice_index words (spot n w))
+  pub each_word : (w : Word) → IsWord n w → WordShows (start_of n limit) w (slice_index words (spot n w))
   pub immortals : (c : ℕ) → c < FIRST_MORTAL → LiesThere shows (map some slots) c (opening_contents c)
   pub mortals : (c : ℕ) → FIRST_MORTAL ≤ c → c < n → get_elem? (map some slots) c ≡ some (some None)

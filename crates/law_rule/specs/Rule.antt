@@ -6,9 +6,9 @@ use lib.ListN.{get_elem?}
 use Rattle.atomic_table.specs.Table.{State}
 use Rattle.law_world.specs.Heap.{Heap, is_registered, is_gathered, AreOptions}
 use Rattle.law_known.specs.declared.word.Word.{Word}
-use Rattle.law_known.specs.Items.{IsWord, Shows}
+use Rattle.law_known.specs.Items.{IsWord, WordShows}
 use Rattle.law_rule.specs.declared.contents.Contents.{Contents}
-use Rattle.law_rule.specs.declared.told.Told.{Told}
+use Rattle.law_rule.specs.declared.told.LogItem.{LogItem}
 use Rattle.law_rule.specs.declared.view.View.{View}
 use Rattle.law_rule.specs.Layout.{spot, extent}
 use Rattle.law_rule.specs.Logs.{Run, own_of, own_steps, lives_of, all_of, ended_in, world, IsLegal}
@@ -19,12 +19,12 @@ abbrev pub stands : Heap → ℕ → Bool
 stands h t = (t == 0) || (is_registered h t && not (is_gathered h t))
 
 -- the newest of a thread's logs
-abbrev pub log_in : List (ℕ × List Told) → ℕ → Option (List Told)
+abbrev pub log_in : List (ℕ × List LogItem) → ℕ → Option (List LogItem)
 log_in [] u = None
 log_in (x ∷ logs) u = if x.0 == u then Some x.1 else log_in logs u
 
 -- a seat's view after one more item
-abbrev pub with_told : Told → View → View
+abbrev pub with_told : LogItem → View → View
 with_told x v = record v { log = x ∷ v.log }
 
 -- The view of a seat: its thread's only one, and its log is all that the thread did. The root's has a log for
@@ -57,7 +57,7 @@ pub record Kept {B : Type 0} (shows : B → ℕ × Contents) (n limit : ℕ) (s 
   pub legal : IsLegal n limit run
   pub wide : length s.words ≡ extent n
   pub deep : length s.homes ≡ n
-  pub each_word : (w : Word) → IsWord n w → Shows (world n limit run) w (slice_index s.words (spot n w))
+  pub each_word : (w : Word) → IsWord n w → WordShows (world n limit run) w (slice_index s.words (spot n w))
   pub each_home : (c : ℕ) → c < n → HomeShown shows s.homes (world n limit run) run c
   pub each_seat : (j : ℕ) (v : View) → get_elem? s.views j ≡ some v → v.active ≡ true
       → Fits (world n limit run) run seat j v

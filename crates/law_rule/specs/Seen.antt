@@ -11,24 +11,24 @@ use Rattle.law_known.specs.Risen.{is_risen}
 use Rattle.law_known.specs.Taken.{Blocks, taken_of}
 use Rattle.law_rule.specs.declared.contents.Contents.{Contents}
 use Rattle.law_rule.specs.declared.told.Moved.TheVariants as moves
-use Rattle.law_rule.specs.declared.told.Told.{Told}
-use Rattle.law_rule.specs.declared.told.Told.TheVariants.{Did}
+use Rattle.law_rule.specs.declared.told.LogItem.{LogItem}
+use Rattle.law_rule.specs.declared.told.LogItem.TheVariants.{Stepped}
 use Rattle.law_rule.specs.Logs.{log_items}
 
 -- the thread's own part of the world
-abbrev pub part_seen : ℕ → List Told → Part
+abbrev pub part_seen : ℕ → List LogItem → Part
 part_seen n log = part_of n (log_items log)
 
 -- the local counts of its own objects
-abbrev pub counts_seen : ℕ → List Told → ℕ → ℕ
+abbrev pub counts_seen : ℕ → List LogItem → ℕ → ℕ
 counts_seen n log = counts_of n (log_items log)
 
 -- what it has seen queued or merged
-abbrev pub risen_seen : ℕ → List Told → Dropped → ℕ → Bool
+abbrev pub risen_seen : ℕ → List LogItem → Dropped → ℕ → Bool
 risen_seen n log = is_risen n (log_items log)
 
 -- the dead blocks that it has
-abbrev pub taken_seen : ℕ → List Told → Blocks
+abbrev pub taken_seen : ℕ → List LogItem → Blocks
 taken_seen n log = taken_of n (log_items log)
 
 -- the thread's own part allows the step
@@ -38,11 +38,11 @@ own_may n part s =
     && own_ok (words_for n) part.row part.frame part.popped part.worklist part.has s
 
 -- the contents of the object that the thread has locked, as its locking found them
-abbrev pub contents_on : Told → Option Contents → Option Contents
-contents_on (Did (Lock k) number (moves.Found c contents)) before = Some contents
-contents_on (Did (Unlock change) number moved) before = None
+abbrev pub contents_on : LogItem → Option Contents → Option Contents
+contents_on (Stepped (Lock k) number (moves.Found c contents)) before = Some contents
+contents_on (Stepped (Unlock change) number moved) before = None
 contents_on x before = before
 
-abbrev pub contents_locked : List Told → Option Contents
+abbrev pub contents_locked : List LogItem → Option Contents
 contents_locked [] = None
 contents_locked (x ∷ log) = contents_on x (contents_locked log)

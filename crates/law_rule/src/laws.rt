@@ -19,7 +19,7 @@ ghost use Rattle.law_known.specs.declared.word.Word.TheVariants as words;
 ghost use Rattle.law_known.specs.Items.{IsWord, IsPart};
 ghost use Rattle.law_rule.specs.declared.contents.Contents.{Contents as contents};
 ghost use Rattle.law_rule.specs.declared.told.Moved.TheVariants as moves;
-ghost use Rattle.law_rule.specs.declared.told.Told.TheVariants as told;
+ghost use Rattle.law_rule.specs.declared.told.LogItem.TheVariants as told;
 ghost use Rattle.law_rule.specs.declared.view.View.{View as view};
 ghost use Rattle.law_rule.specs.Layout.{spot, extent};
 ghost use Rattle.law_rule.specs.Keys.{HasDistinctKeys, KeysGo};
@@ -76,7 +76,7 @@ pub fn looks_keep_the_rule<B>()
     ensures { (shows : B → ℕ × contents) (n limit id : ℕ) (v : view) (slots : List (ℕ × Option B)) (w : word)
         → v.active ≡ true → IsWord n w
         → Allows (Kept shows n limit) n id (v, slots) (spot n w) (λ number. number)
-        (λ number me. me ≡ (with_told (told.Saw w number) v, slots)) }
+        (λ number me. me ≡ (with_told (told.Loaded w number) v, slots)) }
 {}
 
 /// A look at the owner word of a cell that the thread carries finds a thread's number or 0, and one at the local word
@@ -86,12 +86,12 @@ pub fn looks_at_the_hands_cell_find_small_numbers<B>()
     ensures owner { (shows : B → ℕ × contents) (n limit id : ℕ) (v : view) (slots : List (ℕ × Option B)) (c : ℕ)
         → v.active ≡ true → 0 < v.thread → c < n → carries c (part_seen n v.log).row.hand ≡ true
         → Allows (Kept shows n limit) n id (v, slots) (spot n (words.Of fields.Owner c)) (λ number. number)
-        (λ number me. (me ≡ (with_told (told.Saw (words.Of fields.Owner c) number) v, slots))
+        (λ number me. (me ≡ (with_told (told.Loaded (words.Of fields.Owner c) number) v, slots))
         × (number ≤ MOST_THREADS)) }
     ensures local { (shows : B → ℕ × contents) (n limit id : ℕ) (v : view) (slots : List (ℕ × Option B)) (c : ℕ)
         → v.active ≡ true → 0 < v.thread → c < n → own_may n (part_seen n v.log) (steps.MergeAdd c) ≡ true
         → Allows (Kept shows n limit) n id (v, slots) (spot n (words.Of fields.Local c)) (λ number. number)
-        (λ number me. (me ≡ (with_told (told.Saw (words.Of fields.Local c) number) v, slots))
+        (λ number me. (me ≡ (with_told (told.Loaded (words.Of fields.Local c) number) v, slots))
         × (number ≤ limit)) }
 {}
 
@@ -101,9 +101,9 @@ pub fn looks_at_the_hands_cell_find_small_numbers<B>()
 #[tactic(auto, using(crate::proofs::Locked_Contents::found_is_put, crate::proofs::Locked_Contents::kept_is_put, crate::proofs::Locked_Contents::locked_contents, crate::proofs::Contents_Law::contents_fit))]
 pub fn lockings_find_what_was_put_home()
     ensures found { (n limit : ℕ) (run : Run) (t : ℕ) (s : step) (number c : ℕ) (p : contents)
-        → IsLegal n limit ((t, told.Did s number (moves.Found c p)) ∷ run) → p ≡ contents_at run c }
+        → IsLegal n limit ((t, told.Stepped s number (moves.Found c p)) ∷ run) → p ≡ contents_at run c }
     ensures kept { (n limit : ℕ) (run : Run) (t : ℕ) (s : step) (number c : ℕ) (p : contents)
-        → IsLegal n limit ((t, told.Did s number (moves.Put c p)) ∷ run) → keeps s ≡ true
+        → IsLegal n limit ((t, told.Stepped s number (moves.Put c p)) ∷ run) → keeps s ≡ true
         → p ≡ contents_at run c }
     ensures locked { (n limit : ℕ) (run : Run) (t c : ℕ) → AreOptions n limit → IsLegal n limit run
         → 0 < t → locked_at (world n limit run) t ≡ Some c
@@ -117,7 +117,7 @@ pub fn lockings_find_what_was_put_home()
 #[tactic(auto, using(crate::proofs::Keys_Law::keys_unlocked))]
 pub fn unlockings_pin_the_keys()
     ensures { (n limit : ℕ) (run : Run) (t : ℕ) (how : change) (number c : ℕ) (p : contents)
-        → IsLegal n limit ((t, told.Did (steps.Unlock how) number (moves.Put c p)) ∷ run)
+        → IsLegal n limit ((t, told.Stepped (steps.Unlock how) number (moves.Put c p)) ∷ run)
         → KeysGo how (contents_at run c) p }
 {}
 

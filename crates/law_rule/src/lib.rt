@@ -18,5 +18,5 @@ pub use laws::{
     no_key_stands_twice, tables_open_by_the_rule, unlockings_pin_the_keys,
     what_stands_here_is_one_run, words_lie_apart,
 };
-pub use told::{Moved, Told};
+pub use told::{LogItem, Moved};
 pub use view::View;

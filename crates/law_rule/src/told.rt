@@ -15,8 +15,8 @@ pub enum Moved {
 
 /// One item of a seat, with the number that it was told: a step, or a note, which is a load or a compare-exchange that
 /// was lost.
-pub enum Told {
-    Did(Step, u64, Moved),
-    Saw(Word, u64),
+pub enum LogItem {
+    Stepped(Step, u64, Moved),
+    Loaded(Word, u64),
     Lost(Word, u64),
 }

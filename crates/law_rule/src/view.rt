@@ -1,6 +1,6 @@
 //! What a seat at the table knows. No value of it is made.
 
-use crate::told::Told;
+use crate::told::LogItem;
 use std::collections::LinkedList;
 
 /// A seat's thread and its items, newest first.
@@ -9,7 +9,7 @@ pub struct View {
     pub active: bool,
     /// The thread that the seat steps for; 0 is the root.
     pub thread: u32,
-    pub log: LinkedList<Told>,
+    pub log: LinkedList<LogItem>,
     /// In the root's view, the items of the threads that are gathered, newest first.
-    pub gathered: LinkedList<(u32, LinkedList<Told>)>,
+    pub gathered: LinkedList<(u32, LinkedList<LogItem>)>,
 }

@@ -21,21 +21,21 @@ use Rattle.law_world.proofs.Merging.{popped_held, nonzero}
 use Rattle.law_world.proofs.Naming.{live_counts}
 use Rattle.law_world.proofs.Reached.{reached_sound}
 use Rattle.law_world.proofs.Sizes.{reached_count_range}
-use Rattle.law_lasting.specs.Staying.{Merges}
+use Rattle.law_lasting.specs.Staying.{StaysMerging}
 use Rattle.law_lasting.proofs.Lasting.{live_owner}
 use Rattle.law_lasting.proofs.Progress.{inside}
 use Rattle.law_lasting.proofs.Telling.{hand_tells, merging_lasts, yielding_lasts}
 use Rattle.law_known.specs.declared.word.Field.TheVariants.{Local, Shared}
 use Rattle.law_known.specs.declared.word.Word.TheVariants.{Of}
-use Rattle.law_known.specs.Items.{Shows, shared_word, cell_told}
+use Rattle.law_known.specs.Items.{WordShows, shared_word, cell_told}
 use Rattle.law_rule.specs.declared.contents.Contents.{Contents}
 use Rattle.law_rule.specs.declared.told.Moved.TheVariants as moves
-use Rattle.law_rule.specs.declared.told.Told.{Told}
-use Rattle.law_rule.specs.declared.told.Told.TheVariants.{Did}
+use Rattle.law_rule.specs.declared.told.LogItem.{LogItem}
+use Rattle.law_rule.specs.declared.told.LogItem.TheVariants.{Stepped}
 use Rattle.law_rule.specs.declared.view.View.{View}
 use Rattle.law_rule.specs.Layout.{spot}
 use Rattle.law_rule.specs.Rule.{with_told, Kept}
-use Rattle.law_steps.specs.Owing.{AddsLocal, Yields}
+use Rattle.law_steps.specs.Owing.{AddsLocal, MayYield}
 use Rattle.law_steps.specs.Taking.{CountsSome}
 use Rattle.law_rule.proofs.Knowing.{Known, is_enabled, known_edition}
 use Rattle.law_steps.proofs.Local_Steps.{fits_cell, read_cell}
@@ -51,7 +51,7 @@ use Rattle.law_lasting.proofs.Adding_Hands.{pops_active}
 use Rattle.law_lasting.proofs.Ranges_Law.{hand_unmarked}
 use Rattle.law_world.proofs.Asking.{may_parts}
 use Rattle.brc_words.specs.declared.owner.Owner.TheVariants as owners
-use Rattle.law_steps.specs.Taking.{Ended}
+use Rattle.law_steps.specs.Taking.{EndedObject}
 use Rattle.law_steps.proofs.Taking_Steps.{EndsOn, end_step_as}
 use Rattle.law_steps.proofs.Ending_Steps.{tells}
 use Rattle.law_steps.proofs.Untying_Steps.{hand_active}
@@ -69,16 +69,17 @@ record Sums (h : Heap) (t c local : ℕ) (p : Phase) : Type 0 where
 sums_inside : (h : Heap) (t c local : ℕ) (p : Phase) → Sums h t c local p → c < length h.cells
 sums_inside h t c local p now = inside h c (live_owner _ (ap lives now.owner))
 
-may_add : (n limit : ℕ) (h : Heap) (t : ℕ) (log : List Told) (c local : ℕ) (p : Phase) → 0 < t → Known n limit h t log
+may_add : (n limit : ℕ) (h : Heap) (t : ℕ) (log : List LogItem) (c local : ℕ) (p : Phase) → 0 < t
+    → Known n limit h t log
     → own_may n (part_seen n log) (MergeAdd c) ≡ true → Sums h t c local p → thread_may h t (MergeAdd c) ≡ true
 may_add n limit h t log c local p some_thread known own now =
     is_enabled n limit h t log (MergeAdd c) some_thread known own now.active refl
     (fits_cell n limit h t log (MergeAdd c) c known refl (sums_inside h t c local p now) refl)
 
 -- what the word is after it: the sum, of a merged object
-sum_stored : (n limit : ℕ) (h : Heap) (t : ℕ) (log : List Told) (c local there : ℕ) (p : Phase) → 0 < t
+sum_stored : (n limit : ℕ) (h : Heap) (t : ℕ) (log : List LogItem) (c local there : ℕ) (p : Phase) → 0 < t
     → Known n limit h t log → own_may n (part_seen n log) (MergeAdd c) ≡ true → Sums h t c local p
-    → Shows h (Of Shared c) there
+    → WordShows h (Of Shared c) there
     → (there + (local * 4 + 1)) % 2 ^ 64 ≡ shared_word ((cell_at h c).count +ℤ pos (cell_at h c).local) states.Merged
 sum_stored n limit h t log c local there p some_thread known own now shown =
     let s : Step = MergeAdd c in
@@ -103,17 +104,17 @@ sum_stored n limit h t log c local there p some_thread known own now shown =
 -- ---- for a popped entry
 
 noted_local : (h : Heap) (t c local : ℕ) → IsReached h → (row_at h t).hand ≡ hands.Busy phases.Popping c
-    → Shows h (Of Local c) local → Merges h t c local phases.Popping
+    → WordShows h (Of Local c) local → StaysMerging h t c local phases.Popping
 noted_local h t c local reached busy found =
     let words = merging_words h t c phases.Popping reached busy (inl refl) in
     record { hand = busy; phase = inr refl; owner = words.0; state = words.1; count = sym found }
 
 -- the local count is the one that was noted, since nobody else writes it
-merges_now : (n limit : ℕ) (h : Heap) (t : ℕ) (log : List Told) (c local : ℕ) → 0 < t → Known n limit h t log
+merges_now : (n limit : ℕ) (h : Heap) (t : ℕ) (log : List LogItem) (c local : ℕ) → 0 < t → Known n limit h t log
     → AddsLocal n log c local → Sums h t c local phases.Popping
 merges_now n limit h t log c local some_thread known adds =
-    let merges : Merges h t c local phases.Popping = since n limit h t log Local c local
-    (λ z. Merges z t c local phases.Popping) some_thread known adds.found (merging_lasts t c local phases.Popping)
+    let merges : StaysMerging h t c local phases.Popping = since n limit h t log Local c local
+    (λ z. StaysMerging z t c local phases.Popping) some_thread known adds.found (merging_lasts t c local phases.Popping)
     (λ old before was same found. noted_local old t c local was.reached
     (hand_in n limit old t before log (hands.Busy phases.Popping c) was same adds.hand) found) in
     record {
@@ -149,8 +150,8 @@ merging_lives h t c local reached now = nonzero ((cell_at h c).count +ℤ pos (c
 counts_word : (count : ℕ) → 1 ≤ count → 2 ^ 40 < ((2 ^ 40 + count) * 4 + 3) / 4
 counts_word count some = omega (arith, some)
 
-sum_counts : (n limit : ℕ) (h : Heap) (t : ℕ) (log : List Told) (c local there : ℕ) → 0 < t → Known n limit h t log
-    → AddsLocal n log c local → Shows h (Of Shared c) there
+sum_counts : (n limit : ℕ) (h : Heap) (t : ℕ) (log : List LogItem) (c local there : ℕ) → 0 < t → Known n limit h t log
+    → AddsLocal n log c local → WordShows h (Of Shared c) there
     → CountsSome ((there + (local * 4 + 1)) % 2 ^ 64)
 sum_counts n limit h t log c local there some_thread known adds shown =
     let now : Sums h t c local phases.Popping = merges_now n limit h t log c local some_thread known adds in
@@ -160,8 +161,8 @@ sum_counts n limit h t log c local there some_thread known adds shown =
     let some : 1 ≤ held h c = merging_held h t c local known.reached now in
     subst CountsSome (sym is) (counts_word (held h c) some)
 
-adds_up : (n limit : ℕ) (h : Heap) (t : ℕ) (log : List Told) (c local there : ℕ) → 0 < t → Known n limit h t log
-    → AddsLocal n log c local → Shows h (Of Shared c) there
+adds_up : (n limit : ℕ) (h : Heap) (t : ℕ) (log : List LogItem) (c local there : ℕ) → 0 < t → Known n limit h t log
+    → AddsLocal n log c local → WordShows h (Of Shared c) there
     → IsPlain n h t (MergeAdd c) (Of Shared c) ((there + (local * 4 + 1)) % 2 ^ 64) ((there + (local * 4 + 1)) % 2 ^ 64)
 adds_up n limit h t log c local there some_thread known adds shown =
     let s : Step = MergeAdd c in
@@ -186,13 +187,13 @@ adds_up n limit h t log c local there some_thread known adds shown =
 -- ---- to be handed over
 
 noted_own : (h : Heap) (t c local : ℕ) → IsReached h → (row_at h t).hand ≡ hands.Busy phases.Yielding c
-    → Shows h (Of Local c) local → HandsOver h t c local
+    → WordShows h (Of Local c) local → HandsOver h t c local
 noted_own h t c local reached busy found =
     let words = merging_words h t c phases.Yielding reached busy (inr refl) in
     record { hand = busy; owner = words.0; state = words.1; count = sym found }
 
-yields_now : (n limit : ℕ) (h : Heap) (t : ℕ) (log : List Told) (c local : ℕ) → 0 < t → Known n limit h t log
-    → Yields n log c local → Sums h t c local phases.Yielding
+yields_now : (n limit : ℕ) (h : Heap) (t : ℕ) (log : List LogItem) (c local : ℕ) → 0 < t → Known n limit h t log
+    → MayYield n log c local → Sums h t c local phases.Yielding
 yields_now n limit h t log c local some_thread known yields =
     let over : HandsOver h t c local = since n limit h t log Local c local (λ z. HandsOver z t c local) some_thread
     known yields.found (yielding_lasts t c local)
@@ -206,8 +207,8 @@ yields_now n limit h t log c local some_thread known yields =
       active = hand_active h t c phases.Yielding (reached_sound h known.reached) over.hand refl;
     }
 
-yielded : (n limit : ℕ) (h : Heap) (t : ℕ) (log : List Told) (c local there : ℕ) → 0 < t → Known n limit h t log
-    → Yields n log c local → Shows h (Of Shared c) there
+yielded : (n limit : ℕ) (h : Heap) (t : ℕ) (log : List LogItem) (c local there : ℕ) → 0 < t → Known n limit h t log
+    → MayYield n log c local → WordShows h (Of Shared c) there
     → EndsOn h t (MergeAdd c) c (Of Shared c) ((there + (local * 4 + 1)) % 2 ^ 64) ((there + (local * 4 + 1)) % 2 ^ 64)
 yielded n limit h t log c local there some_thread known yields shown =
     let s : Step = MergeAdd c in
@@ -241,12 +242,12 @@ module _ {B : Type 0} (shows : B → ℕ × Contents) (n limit : ℕ) where
   pub adds_local : (id : ℕ) (v : View) (slots : List (ℕ × Option B)) (c local : ℕ) → v.active ≡ true → 0 < v.thread
       → c < n → AddsLocal n v.log c local
       → Allows Rule n id (v, slots) (spot n (Of Shared c)) (λ there. (there + (local * 4 + 1)) % 2 ^ 64)
-      (λ there me. (me ≡ (with_told (Did (MergeAdd c) ((there + (local * 4 + 1)) % 2 ^ 64) moves.Nothing) v, slots))
+      (λ there me. (me ≡ (with_told (Stepped (MergeAdd c) ((there + (local * 4 + 1)) % 2 ^ 64) moves.Nothing) v, slots))
       × CountsSome ((there + (local * 4 + 1)) % 2 ^ 64))
   adds_local id v slots c local active some_thread low adds =
       tells_found shows n limit (λ there. CountsSome ((there + (local * 4 + 1)) % 2 ^ 64)) id v slots (Of Shared c)
       (λ there. (there + (local * 4 + 1)) % 2 ^ 64)
-      (λ there me. me ≡ (with_told (Did (MergeAdd c) ((there + (local * 4 + 1)) % 2 ^ 64) moves.Nothing) v, slots))
+      (λ there me. me ≡ (with_told (Stepped (MergeAdd c) ((there + (local * 4 + 1)) % 2 ^ 64) moves.Nothing) v, slots))
       active some_thread low
       (λ h there known shown. sum_counts n limit h v.thread v.log c local there some_thread known adds shown)
       (plain_step shows n limit id v slots (MergeAdd c) (Of Shared c) (λ there. (there + (local * 4 + 1)) % 2 ^ 64)
@@ -254,9 +255,9 @@ module _ {B : Type 0} (shows : B → ℕ × Contents) (n limit : ℕ) where
       (λ h there known shown small. adds_up n limit h v.thread v.log c local there some_thread known adds shown))
 
   pub yields_local : (id : ℕ) (v : View) (slots : List (ℕ × Option B)) (c local : ℕ) → v.active ≡ true → 0 < v.thread
-      → c < n → Yields n v.log c local
+      → c < n → MayYield n v.log c local
       → Allows Rule n id (v, slots) (spot n (Of Shared c)) (λ there. (there + (local * 4 + 1)) % 2 ^ 64)
-      (λ there me. Ended shows n v slots (MergeAdd c) c ((there + (local * 4 + 1)) % 2 ^ 64)
+      (λ there me. EndedObject shows n v slots (MergeAdd c) c ((there + (local * 4 + 1)) % 2 ^ 64)
       (takes_block (MergeAdd c) (cell_told (MergeAdd c) ((there + (local * 4 + 1)) % 2 ^ 64))) me)
   yields_local id v slots c local active some_thread low yields =
       end_step_as shows n limit id v slots (MergeAdd c) c (Of Shared c) (λ there. (there + (local * 4 + 1)) % 2 ^ 64)

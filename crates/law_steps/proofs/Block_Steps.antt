@@ -15,11 +15,11 @@ use Rattle.law_world.specs.Steps.{thread_may, target_at, after_target, cell_afte
 use Rattle.law_world.specs.Steps.{worklist_with}
 use Rattle.law_world.proofs.Changes.{read_there}
 use Rattle.law_known.specs.declared.word.Word.{Word}
-use Rattle.law_known.specs.Items.{IsWord, Shows, ToldBy, meets_closed, told_at, found_at, works_on}
+use Rattle.law_known.specs.Items.{IsWord, WordShows, ToldBy, meets_closed, told_at, found_at, works_on}
 use Rattle.law_known.proofs.Words_Law.{kept_by}
 use Rattle.law_rule.specs.declared.contents.Contents.{Contents}
 use Rattle.law_rule.specs.declared.told.Moved.{Moved}
-use Rattle.law_rule.specs.declared.told.Told.TheVariants.{Did}
+use Rattle.law_rule.specs.declared.told.LogItem.TheVariants.{Stepped}
 use Rattle.law_rule.specs.declared.view.View.{View}
 use Rattle.law_rule.specs.Layout.{spot}
 use Rattle.law_rule.specs.Logs.{Run, world, entries_found, contents_at, MovesWith}
@@ -56,11 +56,11 @@ pub record BlockMoves (h : Heap) (run : Run) (t : ℕ) (s : Step) (c : ℕ) (w :
   pub target : target_at h t s ≡ Some c
   pub low : c < length h.cells
   pub word : works_on h t s (Some c) ≡ w
-  pub shown : Shows (stepped h t s c) w written
+  pub shown : WordShows (stepped h t s c) w written
   pub told : ToldBy (meets_closed h s) (told_at h t s (Some c)) number
   pub entries : entries_found moved ≡ found_at h s (Some c)
   pub moves : MovesWith h run t s moved
-  pub elsewhere : (d : ℕ) → d ≢ c → contents_at ((t, Did s number moved) ∷ run) d ≡ contents_at run d
+  pub elsewhere : (d : ℕ) → d ≢ c → contents_at ((t, Stepped s number moved) ∷ run) d ≡ contents_at run d
 
 module _ {B : Type 0} (shows : B → ℕ × Contents) (n limit : ℕ) where
   abbrev Table : Type 0
@@ -75,17 +75,17 @@ module _ {B : Type 0} (shows : B → ℕ × Contents) (n limit : ℕ) where
       → get_elem? st.views id ≡ some v → v.active ≡ true → IsWord n w
       → BlockMoves (world n limit r.run) r.run v.thread s c w written number moved
       → HomeShown shows (set st.homes c home) (stepped (world n limit r.run) v.thread s c)
-      ((v.thread, Did s number moved) ∷ r.run) c
+      ((v.thread, Stepped s number moved) ∷ r.run) c
       → Rule (record {
         words = set st.words (spot n w) written;
         homes = set st.homes c home;
         views = set st.views id
-            (with_told (Did s number moved) v);
+            (with_told (Stepped s number moved) v);
       })
   block_moved st r id v s c w written number moved home at active is moves here =
       let t : ℕ = v.thread in
       let h : Heap = world n limit r.run in
-      let later : Run = (t, Did s number moved) ∷ r.run in
+      let later : Run = (t, Stepped s number moved) ∷ r.run in
       let back : Some c ≡ target_at h t s = sym moves.target in
       does shows n limit st r id v s w written number moved (set st.homes c home) at active
       (record {
@@ -93,7 +93,7 @@ module _ {B : Type 0} (shows : B → ℕ × Contents) (n limit : ℕ) where
         may = moves.may;
         word = ap (works_on h t s) moves.target ∙ moves.word;
         is_word = is;
-        shown = subst (λ o. Shows (after_target h t s o) w written) back moves.shown;
+        shown = subst (λ o. WordShows (after_target h t s o) w written) back moves.shown;
         told = subst (λ o. ToldBy (meets_closed h s) (told_at h t s o) number) back moves.told;
         entries = moves.entries ∙ ap (found_at h s) back;
         moves = moves.moves;

@@ -26,22 +26,22 @@ use Rattle.law_world.proofs.Dropping.{dropped_held}
 use Rattle.law_world.proofs.Naming.{free_hand, busy_hand, one-false}
 use Rattle.law_world.proofs.Reached.{reached_sound}
 use Rattle.law_world.proofs.Sizes.{reached_count_range}
-use Rattle.law_lasting.specs.Staying.{Tells, rank}
+use Rattle.law_lasting.specs.Staying.{PhaseTells, rank}
 use Rattle.law_lasting.proofs.Lasting.{live_owner}
 use Rattle.law_lasting.proofs.Progress.{inside}
 use Rattle.law_lasting.proofs.Ranges_Law.{hand_unmarked}
 use Rattle.law_lasting.proofs.Telling.{hand_tells}
 use Rattle.law_known.specs.declared.word.Field.TheVariants.{Shared}
 use Rattle.law_known.specs.declared.word.Word.TheVariants.{Of}
-use Rattle.law_known.specs.Items.{Shows, shared_word, raised, told_of, cell_told}
+use Rattle.law_known.specs.Items.{WordShows, shared_word, raised, told_of, cell_told}
 use Rattle.law_known.proofs.Items_Told.{alike}
 use Rattle.law_rule.specs.declared.contents.Contents.{Contents}
-use Rattle.law_rule.specs.declared.told.Told.{Told}
+use Rattle.law_rule.specs.declared.told.LogItem.{LogItem}
 use Rattle.law_rule.specs.declared.view.View.{View}
 use Rattle.law_rule.specs.Layout.{spot}
 use Rattle.law_rule.specs.Rule.{Kept}
-use Rattle.law_steps.specs.Owing.{Carries, EndsRisen}
-use Rattle.law_steps.specs.Taking.{Ended}
+use Rattle.law_steps.specs.Owing.{MayCarry, EndsRisen}
+use Rattle.law_steps.specs.Taking.{EndedObject}
 use Rattle.law_rule.proofs.Knowing.{Known, is_enabled, meant_there, hand_there}
 use Rattle.law_steps.proofs.Local_Steps.{mortal_cell, fits_cell, read_cell}
 use Rattle.law_steps.proofs.Numbers.{word_taken, bits_three}
@@ -50,7 +50,8 @@ use Rattle.law_steps.proofs.Shared_Steps.{HeldCell, held_cell, not_his, count_af
 use Rattle.law_steps.proofs.Taking_Steps.{EndsOn, end_step}
 
 -- the number that is found tells whether the block is taken
-pub tells : (n limit : ℕ) (h : Heap) (t : ℕ) (log : List Told) (s : Step) (c there : ℕ) → Known n limit h t log → May h t s
+pub tells : (n limit : ℕ) (h : Heap) (t : ℕ) (log : List LogItem) (s : Step) (c there : ℕ) → Known n limit h t log
+    → May h t s
     → target_at h t s ≡ Some c → there ≡ told_of h t s c
     → takes_block s (cell_told s there) ≡ takes_block s (cell_at h c)
 tells n limit h t log s c there known may named is =
@@ -63,15 +64,15 @@ module _ {B : Type 0} (shows : B → ℕ × Contents) (n limit : ℕ) where
 
   -- ---- SeeZero
 
-  sees_zero : (h : Heap) (t : ℕ) (log : List Told) (c there : ℕ) → 0 < t → Known n limit h t log
-      → Carries n log (SeeZero c) c → Shows h (Of Shared c) there
+  sees_zero : (h : Heap) (t : ℕ) (log : List LogItem) (c there : ℕ) → 0 < t → Known n limit h t log
+      → MayCarry n log (SeeZero c) c → WordShows h (Of Shared c) there
       → EndsOn h t (SeeZero c) c (Of Shared c) there there
   sees_zero h t log c there some_thread known carries shown =
       let s : Step = SeeZero c in
       let x : Cell = cell_at h c in
       let busy : (row_at h t).hand ≡ hands.Busy phases.Zero c = busy_hand phases.Zero c _
       (hand_there n limit h t log s known carries.own) in
-      let said : Tells t phases.Zero x = (hand_tells h t c phases.Zero known.reached busy).1 in
+      let said : PhaseTells t phases.Zero x = (hand_tells h t c phases.Zero known.reached busy).1 in
       let live : lives x.owner ≡ true = ap lives said.0 in
       let low : c < length h.cells = inside h c (live_owner _ live) in
       let may : thread_may h t s ≡ true = is_enabled n limit h t log s some_thread known carries.own refl refl
@@ -94,24 +95,25 @@ module _ {B : Type 0} (shows : B → ℕ × Contents) (n limit : ℕ) where
       }
 
   pub ends_at_zero : (id : ℕ) (v : View) (slots : List (ℕ × Option B)) (c : ℕ) → v.active ≡ true → 0 < v.thread → c < n
-      → Carries n v.log (SeeZero c) c
+      → MayCarry n v.log (SeeZero c) c
       → Allows Rule n id (v, slots) (spot n (Of Shared c)) (λ there. there)
-      (λ there me. Ended shows n v slots (SeeZero c) c there (takes_block (SeeZero c) (cell_told (SeeZero c) there)) me)
+      (λ there me. EndedObject shows n v slots (SeeZero c) c there
+      (takes_block (SeeZero c) (cell_told (SeeZero c) there)) me)
   ends_at_zero id v slots c active some_thread low carries =
       end_step shows n limit id v slots (SeeZero c) c (Of Shared c) (λ there. there) active some_thread low low
       (λ h there known shown small. sees_zero h v.thread v.log c there some_thread known carries shown)
 
   -- ---- MergeZero
 
-  merged_zero : (h : Heap) (t : ℕ) (log : List Told) (c there : ℕ) → 0 < t → Known n limit h t log
-      → Carries n log (MergeZero c) c → Shows h (Of Shared c) there
+  merged_zero : (h : Heap) (t : ℕ) (log : List LogItem) (c there : ℕ) → 0 < t → Known n limit h t log
+      → MayCarry n log (MergeZero c) c → WordShows h (Of Shared c) there
       → EndsOn h t (MergeZero c) c (Of Shared c) (bit_or there 3) there
   merged_zero h t log c there some_thread known carries shown =
       let s : Step = MergeZero c in
       let x : Cell = cell_at h c in
       let busy : (row_at h t).hand ≡ hands.Busy phases.Untied c = busy_hand phases.Untied c _
       (hand_there n limit h t log s known carries.own) in
-      let said : Tells t phases.Untied x = (hand_tells h t c phases.Untied known.reached busy).1 in
+      let said : PhaseTells t phases.Untied x = (hand_tells h t c phases.Untied known.reached busy).1 in
       let live : lives x.owner ≡ true = ap lives said.0 in
       let low : c < length h.cells = inside h c (live_owner _ live) in
       let may : thread_may h t s ≡ true = is_enabled n limit h t log s some_thread known carries.own refl refl
@@ -135,9 +137,9 @@ module _ {B : Type 0} (shows : B → ℕ × Contents) (n limit : ℕ) where
       }
 
   pub merges_at_zero : (id : ℕ) (v : View) (slots : List (ℕ × Option B)) (c : ℕ) → v.active ≡ true → 0 < v.thread
-      → c < n → Carries n v.log (MergeZero c) c
+      → c < n → MayCarry n v.log (MergeZero c) c
       → Allows Rule n id (v, slots) (spot n (Of Shared c)) (λ there. bit_or there 3)
-      (λ there me. Ended shows n v slots (MergeZero c) c there
+      (λ there me. EndedObject shows n v slots (MergeZero c) c there
       (takes_block (MergeZero c) (cell_told (MergeZero c) there)) me)
   merges_at_zero id v slots c active some_thread low carries =
       end_step shows n limit id v slots (MergeZero c) c (Of Shared c) (λ there. bit_or there 3) active
@@ -147,15 +149,15 @@ module _ {B : Type 0} (shows : B → ℕ × Contents) (n limit : ℕ) where
   -- ---- LastDown
 
   -- the reference is there, and what the step asks of its cell
-  pub record LastFits (h : Heap) (t : ℕ) (log : List Told) (last : LastDropped) (c : ℕ) : Type 0 where
+  pub record LastFits (h : Heap) (t : ℕ) (log : List LogItem) (last : LastDropped) (c : ℕ) : Type 0 where
     pub own : Rattle.law_rule.specs.Seen.own_may n (Rattle.law_rule.specs.Seen.part_seen n log) (LastDown last) ≡ true
     pub named : target_at h t (LastDown last) ≡ Some c
     pub holds : 1 ≤ held h c
     pub risen : is_default (cell_at h c).state ≡ false
     pub fits : last_ok t (row_at h t) last c (cell_at h c) ≡ true
 
-  pub last_down : (h : Heap) (t : ℕ) (log : List Told) (last : LastDropped) (c there : ℕ) → 0 < t
-      → Known n limit h t log → LastFits h t log last c → Shows h (Of Shared c) there
+  pub last_down : (h : Heap) (t : ℕ) (log : List LogItem) (last : LastDropped) (c there : ℕ) → 0 < t
+      → Known n limit h t log → LastFits h t log last c → WordShows h (Of Shared c) there
       → EndsOn h t (LastDown last) c (Of Shared c) ((there + (2 ^ 64 - 4)) % 2 ^ 64) there
   last_down h t log last c there some_thread known ends shown =
       let s : Step = LastDown last in
@@ -190,7 +192,7 @@ module _ {B : Type 0} (shows : B → ℕ × Contents) (n limit : ℕ) where
   risen_state states.Queued high = refl
   risen_state states.Merged high = refl
 
-  risen_last : (h : Heap) (t : ℕ) (log : List Told) (drop : Dropped) (c : ℕ) → Known n limit h t log
+  risen_last : (h : Heap) (t : ℕ) (log : List LogItem) (drop : Dropped) (c : ℕ) → Known n limit h t log
       → EndsRisen n log drop c → LastFits h t log (lasts.Dropped drop) c
   risen_last h t log drop c known ends =
       let s : Step = LastDown (lasts.Dropped drop) in
@@ -209,7 +211,7 @@ module _ {B : Type 0} (shows : B → ℕ × Contents) (n limit : ℕ) where
   pub counts_last : (id : ℕ) (v : View) (slots : List (ℕ × Option B)) (drop : Dropped) (c : ℕ) → v.active ≡ true
       → 0 < v.thread → c < n → EndsRisen n v.log drop c
       → Allows Rule n id (v, slots) (spot n (Of Shared c)) (λ there. (there + (2 ^ 64 - 4)) % 2 ^ 64)
-      (λ there me. Ended shows n v slots (LastDown (lasts.Dropped drop)) c there
+      (λ there me. EndedObject shows n v slots (LastDown (lasts.Dropped drop)) c there
       (takes_block (LastDown (lasts.Dropped drop)) (cell_told (LastDown (lasts.Dropped drop)) there)) me)
   counts_last id v slots drop c active some_thread low ends =
       end_step shows n limit id v slots (LastDown (lasts.Dropped drop)) c (Of Shared c)

@@ -24,21 +24,21 @@ use Rattle.law_world.proofs.Merging.{carried_held, popped_held, held_owner}
 use Rattle.law_world.proofs.Naming.{busy_carrier, free_hand, grips_free}
 use Rattle.law_world.proofs.Reached.{reached_sound}
 use Rattle.law_world.proofs.Sharing.{ending_hand, ending_reference}
-use Rattle.law_lasting.specs.Staying.{Lasts, Keeps, Nobodys, rank}
+use Rattle.law_lasting.specs.Staying.{Lasts, LivesOn, Nobodys, rank}
 use Rattle.law_lasting.proofs.Lasting.{keeping_lasts, nobodys_last}
 use Rattle.law_lasting.proofs.Ranges_Law.{reached_owners}
 use Rattle.law_lasting.proofs.Telling.{hand_tells, popped_tells}
 use Rattle.law_known.specs.declared.word.Field.TheVariants.{Owner, Shared}
 use Rattle.law_known.specs.declared.word.Word.TheVariants.{Of}
-use Rattle.law_known.specs.Items.{Shows, cell_told}
+use Rattle.law_known.specs.Items.{WordShows, cell_told}
 use Rattle.law_rule.specs.declared.contents.Contents.{Contents}
-use Rattle.law_rule.specs.declared.told.Told.{Told}
+use Rattle.law_rule.specs.declared.told.LogItem.{LogItem}
 use Rattle.law_rule.specs.declared.view.View.{View}
 use Rattle.law_rule.specs.Layout.{spot}
 use Rattle.law_rule.specs.Rule.{Kept}
 use Rattle.law_rule.specs.Seen.{part_seen, own_may}
 use Rattle.law_steps.specs.Owing.{EndsPopped, EndsAdded, EndsLeft, EndsShut, EndsNobodys}
-use Rattle.law_steps.specs.Taking.{Ended}
+use Rattle.law_steps.specs.Taking.{EndedObject}
 use Rattle.law_rule.proofs.Knowing.{Known, known_edition, hand_there}
 use Rattle.brc_words.specs.declared.limits.TheConstants.{FIRST_MORTAL}
 use Rattle.law_world.specs.declared.row.Row.{Row}
@@ -58,7 +58,7 @@ use Rattle.law_steps.proofs.Taking_Steps.{end_step}
 record Stays (h : Heap) (t c least : ℕ) : Type 0 where
   kind : Kind
   bearer : ℕ
-  keeps : Keeps h t c kind bearer least
+  keeps : LivesOn h t c kind bearer least
 
 stays_last : (t c least : ℕ) → Lasts t (λ h. Stays h t c least)
 stays_last t c least h e reached ok others stays = record {
@@ -86,7 +86,7 @@ popped_stays h t c reached bit merged =
     }
 
 -- the bit is set, as the step wants it
-popped_bit : (n : ℕ) (log : List Told) (c : ℕ) → own_may n (part_seen n log) (LastDown (lasts.Popped c)) ≡ true
+popped_bit : (n : ℕ) (log : List LogItem) (c : ℕ) → own_may n (part_seen n log) (LastDown (lasts.Popped c)) ≡ true
     → bit_of (part_seen n log).popped c ≡ 1
 popped_bit n log c own = eqb-true (bit_of (part_seen n log).popped c) 1
     (part_own n (part_seen n log) (LastDown (lasts.Popped c)) own)
@@ -120,7 +120,7 @@ module _ {B : Type 0} (shows : B → ℕ × Contents) (n limit : ℕ) where
 
   -- ---- a popped bit
 
-  popped_fits : (h : Heap) (t : ℕ) (log : List Told) (c : ℕ) → Known n limit h t log
+  popped_fits : (h : Heap) (t : ℕ) (log : List LogItem) (c : ℕ) → Known n limit h t log
       → own_may n (part_seen n log) (LastDown (lasts.Popped c)) ≡ true → Stays h t c 2
       → LastFits shows n limit h t log (lasts.Popped c) c
   popped_fits h t log c known own now =
@@ -133,7 +133,7 @@ module _ {B : Type 0} (shows : B → ℕ × Contents) (n limit : ℕ) where
         fits = ap is_merged merged;
       }
 
-  noted_merged : (h : Heap) (t : ℕ) (log : List Told) (c number : ℕ) → 0 < t → Known n limit h t log
+  noted_merged : (h : Heap) (t : ℕ) (log : List LogItem) (c number : ℕ) → 0 < t → Known n limit h t log
       → EndsPopped n log c number → Stays h t c 2
   noted_merged h t log c number some_thread known ends = since n limit h t log Shared c number
       (λ z. Stays z t c 2) some_thread known ends.found (stays_last t c 2)
@@ -144,7 +144,7 @@ module _ {B : Type 0} (shows : B → ℕ × Contents) (n limit : ℕ) where
   pub ends_popped : (id : ℕ) (v : View) (slots : List (ℕ × Option B)) (c number : ℕ) → v.active ≡ true → 0 < v.thread
       → c < n → EndsPopped n v.log c number
       → Allows Rule n id (v, slots) (spot n (Of Shared c)) (λ there. (there + (2 ^ 64 - 4)) % 2 ^ 64)
-      (λ there me. Ended shows n v slots (LastDown (lasts.Popped c)) c there
+      (λ there me. EndedObject shows n v slots (LastDown (lasts.Popped c)) c there
       (takes_block (LastDown (lasts.Popped c)) (cell_told (LastDown (lasts.Popped c)) there)) me)
   ends_popped id v slots c number active some_thread low ends =
       end_step shows n limit id v slots (LastDown (lasts.Popped c)) c (Of Shared c)
@@ -157,7 +157,7 @@ module _ {B : Type 0} (shows : B → ℕ × Contents) (n limit : ℕ) where
   no_root c t bad = absurd (cc)
 
   -- it has just been merged, by the thread's own hand
-  just_merged : (h : Heap) (t : ℕ) (log : List Told) (c : ℕ) → 0 < t → Known n limit h t log → EndsAdded n log c
+  just_merged : (h : Heap) (t : ℕ) (log : List LogItem) (c : ℕ) → 0 < t → Known n limit h t log → EndsAdded n log c
       → Stays h t c 2
   just_merged h t log c some_thread known ends = since_step n limit h t log (MergeAdd c)
       (λ z. Stays z t c 2) some_thread known ends.added (λ bad. no_root c t bad) (stays_last t c 2)
@@ -168,7 +168,7 @@ module _ {B : Type 0} (shows : B → ℕ × Contents) (n limit : ℕ) where
   pub ends_added : (id : ℕ) (v : View) (slots : List (ℕ × Option B)) (c : ℕ) → v.active ≡ true → 0 < v.thread → c < n
       → EndsAdded n v.log c
       → Allows Rule n id (v, slots) (spot n (Of Shared c)) (λ there. (there + (2 ^ 64 - 4)) % 2 ^ 64)
-      (λ there me. Ended shows n v slots (LastDown (lasts.Popped c)) c there
+      (λ there me. EndedObject shows n v slots (LastDown (lasts.Popped c)) c there
       (takes_block (LastDown (lasts.Popped c)) (cell_told (LastDown (lasts.Popped c)) there)) me)
   ends_added id v slots c active some_thread low ends =
       end_step shows n limit id v slots (LastDown (lasts.Popped c)) c (Of Shared c)
@@ -177,7 +177,7 @@ module _ {B : Type 0} (shows : B → ℕ × Contents) (n limit : ℕ) where
       (popped_fits h v.thread v.log c known ends.own (just_merged h v.thread v.log c some_thread known ends)) shown)
 
   -- a thread that isn't active any more has handed over what it owned
-  merged_left : (h : Heap) (t : ℕ) (log : List Told) (c : ℕ) → Known n limit h t log → EndsLeft n log c
+  merged_left : (h : Heap) (t : ℕ) (log : List LogItem) (c : ℕ) → Known n limit h t log → EndsLeft n log c
       → (cell_at h c).state ≡ states.Merged
   merged_left h t log c known ends =
       let sound : IsSound h = reached_sound h known.reached in
@@ -201,7 +201,7 @@ module _ {B : Type 0} (shows : B → ℕ × Contents) (n limit : ℕ) where
   pub ends_left : (id : ℕ) (v : View) (slots : List (ℕ × Option B)) (c : ℕ) → v.active ≡ true → 0 < v.thread → c < n
       → EndsLeft n v.log c
       → Allows Rule n id (v, slots) (spot n (Of Shared c)) (λ there. (there + (2 ^ 64 - 4)) % 2 ^ 64)
-      (λ there me. Ended shows n v slots (LastDown (lasts.Popped c)) c there
+      (λ there me. EndedObject shows n v slots (LastDown (lasts.Popped c)) c there
       (takes_block (LastDown (lasts.Popped c)) (cell_told (LastDown (lasts.Popped c)) there)) me)
   ends_left id v slots c active some_thread low ends =
       end_step shows n limit id v slots (LastDown (lasts.Popped c)) c (Of Shared c)
@@ -213,7 +213,7 @@ module _ {B : Type 0} (shows : B → ℕ × Contents) (n limit : ℕ) where
 
   -- ---- the hand
 
-  hand_fits : (h : Heap) (t : ℕ) (log : List Told) (c : ℕ) (p : Phase) → Known n limit h t log
+  hand_fits : (h : Heap) (t : ℕ) (log : List LogItem) (c : ℕ) (p : Phase) → Known n limit h t log
       → own_may n (part_seen n log) (LastDown lasts.Hand) ≡ true → (row_at h t).hand ≡ hands.Busy p c
       → is_ending p ≡ true → ends_ok (hands.Busy p c) (cell_at h c) ≡ true
       → LastFits shows n limit h t log lasts.Hand c
@@ -226,7 +226,7 @@ module _ {B : Type 0} (shows : B → ℕ × Contents) (n limit : ℕ) where
   }
 
   -- the owner has handed over what was asked of it
-  shut_fits : (h : Heap) (t : ℕ) (log : List Told) (c : ℕ) → Known n limit h t log → EndsShut n log c
+  shut_fits : (h : Heap) (t : ℕ) (log : List LogItem) (c : ℕ) → Known n limit h t log → EndsShut n log c
       → LastFits shows n limit h t log lasts.Hand c
   shut_fits h t log c known ends =
       let busy : (row_at h t).hand ≡ hands.Busy phases.Shut c =
@@ -239,7 +239,7 @@ module _ {B : Type 0} (shows : B → ℕ × Contents) (n limit : ℕ) where
   pub ends_shut : (id : ℕ) (v : View) (slots : List (ℕ × Option B)) (c : ℕ) → v.active ≡ true → 0 < v.thread → c < n
       → EndsShut n v.log c
       → Allows Rule n id (v, slots) (spot n (Of Shared c)) (λ there. (there + (2 ^ 64 - 4)) % 2 ^ 64)
-      (λ there me. Ended shows n v slots (LastDown lasts.Hand) c there
+      (λ there me. EndedObject shows n v slots (LastDown lasts.Hand) c there
       (takes_block (LastDown lasts.Hand) (cell_told (LastDown lasts.Hand) there)) me)
   ends_shut id v slots c active some_thread low ends =
       end_step shows n limit id v slots (LastDown lasts.Hand) c (Of Shared c) (λ there. (there + (2 ^ 64 - 4)) % 2 ^ 64)
@@ -247,7 +247,7 @@ module _ {B : Type 0} (shows : B → ℕ × Contents) (n limit : ℕ) where
       (λ h there known shown small. last_down shows n limit h v.thread v.log lasts.Hand c there some_thread known
       (shut_fits h v.thread v.log c known ends) shown)
 
-  nobodys_fits : (h : Heap) (t : ℕ) (log : List Told) (c : ℕ) → 0 < t → Known n limit h t log → EndsNobodys n log c
+  nobodys_fits : (h : Heap) (t : ℕ) (log : List LogItem) (c : ℕ) → 0 < t → Known n limit h t log → EndsNobodys n log c
       → LastFits shows n limit h t log lasts.Hand c
   nobodys_fits h t log c some_thread known ends =
       let hand = ending_hand (part_seen n log).row.hand c (part_hand n (part_seen n log) (LastDown lasts.Hand) ends.own)
@@ -260,7 +260,7 @@ module _ {B : Type 0} (shows : B → ℕ × Contents) (n limit : ℕ) where
       hand.2 (ends_nobody hand.0 c (cell_at h c) now.owner)
     where
       noted_nobodys : (h : Heap) (t c : ℕ) (p : Phase) → IsReached h → (row_at h t).hand ≡ hands.Busy p c
-          → is_ending p ≡ true → Shows h (Of Owner c) 0 → Nobodys h t c
+          → is_ending p ≡ true → WordShows h (Of Owner c) 0 → Nobodys h t c
       noted_nobodys h t c p reached busy ends found = record {
         held = has_in_hand h t c p busy (ending_reference p ends);
         mortal = (hand_tells h t c p reached busy).0;
@@ -271,7 +271,7 @@ module _ {B : Type 0} (shows : B → ℕ × Contents) (n limit : ℕ) where
   pub ends_nobodys : (id : ℕ) (v : View) (slots : List (ℕ × Option B)) (c : ℕ) → v.active ≡ true → 0 < v.thread → c < n
       → EndsNobodys n v.log c
       → Allows Rule n id (v, slots) (spot n (Of Shared c)) (λ there. (there + (2 ^ 64 - 4)) % 2 ^ 64)
-      (λ there me. Ended shows n v slots (LastDown lasts.Hand) c there
+      (λ there me. EndedObject shows n v slots (LastDown lasts.Hand) c there
       (takes_block (LastDown lasts.Hand) (cell_told (LastDown lasts.Hand) there)) me)
   ends_nobodys id v slots c active some_thread low ends =
       end_step shows n limit id v slots (LastDown lasts.Hand) c (Of Shared c) (λ there. (there + (2 ^ 64 - 4)) % 2 ^ 64)

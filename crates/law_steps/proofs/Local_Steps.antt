@@ -18,28 +18,28 @@ use Rattle.law_world.proofs.Changes.{read_here}
 use Rattle.law_lasting.proofs.Progress.{inside}
 use Rattle.law_known.specs.declared.word.Field.TheVariants.{Local}
 use Rattle.law_known.specs.declared.word.Word.TheVariants.{Of}
-use Rattle.law_known.specs.Items.{Shows}
+use Rattle.law_known.specs.Items.{WordShows}
 use Rattle.law_known.specs.Counts.{own_count}
 use Rattle.law_known.proofs.Counts_Law.{counted}
 use Rattle.law_rule.specs.declared.contents.Contents.{Contents}
 use Rattle.law_rule.specs.declared.told.Moved.TheVariants as moves
-use Rattle.law_rule.specs.declared.told.Told.{Told}
-use Rattle.law_rule.specs.declared.told.Told.TheVariants.{Did}
+use Rattle.law_rule.specs.declared.told.LogItem.{LogItem}
+use Rattle.law_rule.specs.declared.told.LogItem.TheVariants.{Stepped}
 use Rattle.law_rule.specs.declared.view.View.{View}
 use Rattle.law_rule.specs.Layout.{spot}
 use Rattle.law_rule.specs.Rule.{with_told, Kept}
 use Rattle.law_rule.specs.Seen.{counts_seen}
-use Rattle.law_steps.specs.Owing.{Raises, RaisesImmortal, Lowers, LowersImmortal}
+use Rattle.law_steps.specs.Owing.{MayRaise, MayRaiseImmortal, MayLower, MayLowerImmortal}
 use Rattle.law_rule.proofs.Knowing.{Known, is_enabled, meant_there}
 use Rattle.law_steps.proofs.Plain_Steps.{IsPlain, plain_on, same_owner, stays_on, plain_step}
 
 -- an object that the log counts
-pub record Counted (n limit : ℕ) (h : Heap) (t : ℕ) (log : List Told) (c count : ℕ) : Type 0 where
+pub record Counted (n limit : ℕ) (h : Heap) (t : ℕ) (log : List LogItem) (c count : ℕ) : Type 0 where
   pub his : is_mine t (row_at h t).stage (cell_at h c) ≡ true
   pub count_is : (cell_at h c).local ≡ count
   pub low : c < length h.cells
 
-pub counted_there : (n limit : ℕ) (h : Heap) (t : ℕ) (log : List Told) (c count : ℕ) → Known n limit h t log
+pub counted_there : (n limit : ℕ) (h : Heap) (t : ℕ) (log : List LogItem) (c count : ℕ) → Known n limit h t log
     → FIRST_MORTAL ≤ c → counts_seen n log c ≡ count → 0 < count
     → Counted n limit h t log c count
 counted_there n limit h t log c count known mortal says some_count =
@@ -61,7 +61,7 @@ mortal_cell c mortal = le-ltb _ _ mortal
 -- ---- the steps in the world
 
 -- the cell that is meant, as an enabled step wants it
-pub fits_cell : (n limit : ℕ) (h : Heap) (t : ℕ) (log : List Told) (s : Step) (c : ℕ) → Known n limit h t log
+pub fits_cell : (n limit : ℕ) (h : Heap) (t : ℕ) (log : List LogItem) (s : Step) (c : ℕ) → Known n limit h t log
     → target_at h t s ≡ Some c → c < length h.cells
     → cell_ok limit t (row_at h t) s c (cell_at h c) ≡ true → target_ok h t (row_at h t) s (target_at h t s) ≡ true
 fits_cell n limit h t log s c known named low ok =
@@ -78,8 +78,8 @@ module _ {B : Type 0} (shows : B → ℕ × Contents) (n limit : ℕ) where
   abbrev Rule : State (Option B) View → Type 0
   Rule = Kept shows n limit
 
-  raised : (h : Heap) (t : ℕ) (log : List Told) (source : Source) (k c count : ℕ) → 0 < t → Known n limit h t log
-      → Raises n limit log source k c count
+  raised : (h : Heap) (t : ℕ) (log : List LogItem) (source : Source) (k c count : ℕ) → 0 < t → Known n limit h t log
+      → MayRaise n limit log source k c count
       → IsPlain n h t (LocalUp source k) (Of Local c) (count + 1) (count + 1)
   raised h t log source k c count some_thread known raises =
       let s : Step = LocalUp source k in
@@ -112,16 +112,16 @@ module _ {B : Type 0} (shows : B → ℕ × Contents) (n limit : ℕ) where
 
   -- the owner counts up
   pub counts_up : (id : ℕ) (v : View) (slots : List (ℕ × Option B)) (source : Source) (k c count : ℕ) → v.active ≡ true
-      → 0 < v.thread → c < n → Raises n limit v.log source k c count
+      → 0 < v.thread → c < n → MayRaise n limit v.log source k c count
       → Allows Rule n id (v, slots) (spot n (Of Local c)) (λ there. count + 1)
-      (λ there me. me ≡ (with_told (Did (LocalUp source k) (count + 1) moves.Nothing) v, slots))
+      (λ there me. me ≡ (with_told (Stepped (LocalUp source k) (count + 1) moves.Nothing) v, slots))
   counts_up id v slots source k c count active some_thread low raises =
       plain_step shows n limit id v slots (LocalUp source k) (Of Local c) (λ there. count + 1)
       (λ there. count + 1) active some_thread low
       (λ h there known shown small. raised h v.thread v.log source k c count some_thread known raises)
 
-  lowered : (h : Heap) (t : ℕ) (log : List Told) (drop : Dropped) (c count : ℕ) → 0 < t → Known n limit h t log
-      → Lowers n log drop c count
+  lowered : (h : Heap) (t : ℕ) (log : List LogItem) (drop : Dropped) (c count : ℕ) → 0 < t → Known n limit h t log
+      → MayLower n log drop c count
       → IsPlain n h t (LocalDown drop) (Of Local c) (count - 1) (count - 1)
   lowered h t log drop c count some_thread known lowers =
       let s : Step = LocalDown drop in
@@ -152,9 +152,9 @@ module _ {B : Type 0} (shows : B → ℕ × Contents) (n limit : ℕ) where
 
   -- the owner counts down
   pub counts_down : (id : ℕ) (v : View) (slots : List (ℕ × Option B)) (drop : Dropped) (c count : ℕ) → v.active ≡ true
-      → 0 < v.thread → c < n → Lowers n v.log drop c count
+      → 0 < v.thread → c < n → MayLower n v.log drop c count
       → Allows Rule n id (v, slots) (spot n (Of Local c)) (λ there. count - 1)
-      (λ there me. me ≡ (with_told (Did (LocalDown drop) (count - 1) moves.Nothing) v, slots))
+      (λ there me. me ≡ (with_told (Stepped (LocalDown drop) (count - 1) moves.Nothing) v, slots))
   counts_down id v slots drop c count active some_thread low lowers =
       plain_step shows n limit id v slots (LocalDown drop) (Of Local c) (λ there. count - 1) (λ there. count - 1) active
       some_thread low
@@ -163,17 +163,18 @@ module _ {B : Type 0} (shows : B → ℕ × Contents) (n limit : ℕ) where
   -- ---- an immortal's count: its word is read, and says what it said
 
   -- an immortal is a cell of every heap
-  immortal_low : (h : Heap) (t : ℕ) (log : List Told) (c : ℕ) → Known n limit h t log → c < FIRST_MORTAL
+  immortal_low : (h : Heap) (t : ℕ) (log : List LogItem) (c : ℕ) → Known n limit h t log → c < FIRST_MORTAL
       → c < length h.cells
   immortal_low h t log c known low = omega (arith, known.options.enough, known.cells, low)
 
-  kept_count : (h : Heap) (t : ℕ) (log : List Told) (s : Step) (c there : ℕ) → c < length h.cells
+  kept_count : (h : Heap) (t : ℕ) (log : List LogItem) (s : Step) (c there : ℕ) → c < length h.cells
       → cell_after t s c (cell_at h c) ≡ cell_at h c
-      → Shows h (Of Local c) there → there ≡ (cell_at (stepped h t s c) c).local
+      → WordShows h (Of Local c) there → there ≡ (cell_at (stepped h t s c) c).local
   kept_count h t log s c there low same shown = shown ∙ sym (ap (λ (y : Cell). y.local) (read_cell h t s c low ∙ same))
 
-  up_immortal : (h : Heap) (t : ℕ) (log : List Told) (source : Source) (k c there : ℕ) → 0 < t → Known n limit h t log
-      → RaisesImmortal n log source k c → Shows h (Of Local c) there
+  up_immortal : (h : Heap) (t : ℕ) (log : List LogItem) (source : Source) (k c there : ℕ) → 0 < t
+      → Known n limit h t log
+      → MayRaiseImmortal n log source k c → WordShows h (Of Local c) there
       → IsPlain n h t (LocalUp source k) (Of Local c) there there
   up_immortal h t log source k c there some_thread known raises shown =
       let s : Step = LocalUp source k in
@@ -198,16 +199,16 @@ module _ {B : Type 0} (shows : B → ℕ × Contents) (n limit : ℕ) where
       })
 
   pub counts_immortal_up : (id : ℕ) (v : View) (slots : List (ℕ × Option B)) (source : Source) (k c : ℕ)
-      → v.active ≡ true → 0 < v.thread → c < n → RaisesImmortal n v.log source k c
+      → v.active ≡ true → 0 < v.thread → c < n → MayRaiseImmortal n v.log source k c
       → Allows Rule n id (v, slots) (spot n (Of Local c)) (λ there. there)
-      (λ there me. me ≡ (with_told (Did (LocalUp source k) there moves.Nothing) v, slots))
+      (λ there me. me ≡ (with_told (Stepped (LocalUp source k) there moves.Nothing) v, slots))
   counts_immortal_up id v slots source k c active some_thread low raises =
       plain_step shows n limit id v slots (LocalUp source k) (Of Local c) (λ there. there) (λ there. there) active
       some_thread low
       (λ h there known shown small. up_immortal h v.thread v.log source k c there some_thread known raises shown)
 
-  down_immortal : (h : Heap) (t : ℕ) (log : List Told) (drop : Dropped) (c there : ℕ) → 0 < t → Known n limit h t log
-      → LowersImmortal n log drop c → Shows h (Of Local c) there
+  down_immortal : (h : Heap) (t : ℕ) (log : List LogItem) (drop : Dropped) (c there : ℕ) → 0 < t → Known n limit h t log
+      → MayLowerImmortal n log drop c → WordShows h (Of Local c) there
       → IsPlain n h t (LocalDown drop) (Of Local c) there there
   down_immortal h t log drop c there some_thread known lowers shown =
       let s : Step = LocalDown drop in
@@ -232,9 +233,9 @@ module _ {B : Type 0} (shows : B → ℕ × Contents) (n limit : ℕ) where
       })
 
   pub counts_immortal_down : (id : ℕ) (v : View) (slots : List (ℕ × Option B)) (drop : Dropped) (c : ℕ)
-      → v.active ≡ true → 0 < v.thread → c < n → LowersImmortal n v.log drop c
+      → v.active ≡ true → 0 < v.thread → c < n → MayLowerImmortal n v.log drop c
       → Allows Rule n id (v, slots) (spot n (Of Local c)) (λ there. there)
-      (λ there me. me ≡ (with_told (Did (LocalDown drop) there moves.Nothing) v, slots))
+      (λ there me. me ≡ (with_told (Stepped (LocalDown drop) there moves.Nothing) v, slots))
   counts_immortal_down id v slots drop c active some_thread low lowers =
       plain_step shows n limit id v slots (LocalDown drop) (Of Local c) (λ there. there) (λ there. there) active
       some_thread low

@@ -30,8 +30,8 @@ use Rattle.law_known.specs.declared.word.Field.TheVariants.{Mutex}
 use Rattle.law_known.specs.declared.word.Word.TheVariants.{Of}
 use Rattle.law_rule.specs.declared.contents.Contents.{Contents}
 use Rattle.law_rule.specs.declared.told.Moved.TheVariants as moves
-use Rattle.law_rule.specs.declared.told.Told.{Told}
-use Rattle.law_rule.specs.declared.told.Told.TheVariants.{Did, Lost}
+use Rattle.law_rule.specs.declared.told.LogItem.{LogItem}
+use Rattle.law_rule.specs.declared.told.LogItem.TheVariants.{Stepped, Lost}
 use Rattle.law_rule.specs.declared.view.View.{View}
 use Rattle.law_rule.specs.Layout.{spot}
 use Rattle.law_rule.specs.Keys.{KeysGo}
@@ -39,8 +39,8 @@ use Rattle.law_rule.specs.Logs.{kind_in, entries_in, Run, own_of, world, content
 use Rattle.law_rule.specs.Homes.{LiesThere}
 use Rattle.law_rule.specs.Rule.{with_told, Kept}
 use Rattle.law_rule.specs.Seen.{contents_locked}
-use Rattle.law_steps.specs.Owing.{Carries, Unlocks}
-use Rattle.law_steps.specs.Taking.{Locked}
+use Rattle.law_steps.specs.Owing.{MayCarry, MayUnlock}
+use Rattle.law_steps.specs.Taking.{LockedOrBusy}
 use Rattle.law_rule.proofs.Homing.{home_out}
 use Rattle.law_rule.proofs.Knowing.{Known, knows, is_enabled, meant_there}
 use Rattle.law_steps.proofs.Local_Steps.{fits_cell, read_cell}
@@ -59,7 +59,7 @@ record Named (h : Heap) (c : ℕ) : Type 0 where
   low : c < length h.cells
   rest : AtRest h c
 
-named_rests : (n limit : ℕ) (h : Heap) (t : ℕ) (log : List Told) (c : ℕ) → Known n limit h t log → 1 ≤ held h c
+named_rests : (n limit : ℕ) (h : Heap) (t : ℕ) (log : List LogItem) (c : ℕ) → Known n limit h t log → 1 ≤ held h c
     → Named h c
 named_rests n limit h t log c known holds =
     let sound : IsSound h = reached_sound h known.reached in
@@ -81,7 +81,7 @@ module _ {B : Type 0} (shows : B → ℕ × Contents) (n limit : ℕ) where
 
   -- the block that the locking finds
   lies_there : (st : Table (Option B) View) (r : Rule st) (id : ℕ) (v : View) (k c : ℕ) → get_elem? st.views id ≡ some v
-      → v.active ≡ true → 0 < v.thread → c < n → Carries n v.log (Lock k) c
+      → v.active ≡ true → 0 < v.thread → c < n → MayCarry n v.log (Lock k) c
       → get_or st.words (spot n (Of Mutex c)) 0 ≡ 0 → LiesThere shows st.homes c (contents_at r.run c)
   lies_there st r id v k c at active some_thread low carries zero =
       let h : Heap = world n limit r.run in
@@ -92,12 +92,12 @@ module _ {B : Type 0} (shows : B → ℕ × Contents) (n limit : ℕ) where
       (r.each_home c low).lies cell.rest.live (sym (r.each_word (Of Mutex c) low) ∙ zero) cell.rest.off
 
   locking : (st : Table (Option B) View) (r : Rule st) (id : ℕ) (v : View) (k c : ℕ) → get_elem? st.views id ≡ some v
-      → v.active ≡ true → 0 < v.thread → c < n → Carries n v.log (Lock k) c
+      → v.active ≡ true → 0 < v.thread → c < n → MayCarry n v.log (Lock k) c
       → get_or st.words (spot n (Of Mutex c)) 0 ≡ 0 → (lies : LiesThere shows st.homes c (contents_at r.run c))
       → Rule (record {
         words = set st.words (spot n (Of Mutex c)) v.thread;
         homes = set st.homes c none;
-        views = set st.views id (with_told (Did (Lock k) 0 (moves.Found c (shows lies.block).1)) v);
+        views = set st.views id (with_told (Stepped (Lock k) 0 (moves.Found c (shows lies.block).1)) v);
       })
   locking st r id v k c at active some_thread low carries zero lies =
       let t : ℕ = v.thread in
@@ -124,7 +124,7 @@ module _ {B : Type 0} (shows : B → ℕ × Contents) (n limit : ℕ) where
         elsewhere = λ d other. refl;
       })
       (home_out shows (set st.homes c none) (stepped h t s c)
-      ((t, Did s 0 (moves.Found c (shows lies.block).1)) ∷ r.run) c
+      ((t, Stepped s 0 (moves.Found c (shows lies.block).1)) ∷ r.run) c
       (λ bad. live_owner x.owner cell.rest.live (sym (ap (λ (y : Cell). y.owner) now) ∙ bad))
       (λ live unlocked off. omega (arith, some_thread, sym (ap (λ (y : Cell). y.mutex) now) ∙ unlocked)))
 
@@ -136,16 +136,16 @@ module _ {B : Type 0} (shows : B → ℕ × Contents) (n limit : ℕ) where
         words = words;
         homes = homes;
         views = set st.views id
-            (with_told (Did (Lock k) 0 (moves.Found c found)) v);
+            (with_told (Stepped (Lock k) 0 (moves.Found c found)) v);
       }) → FindsOwn n v.log c found
   found_own st v id k c found words homes at active after =
-      let told : View = with_told (Did (Lock k) 0 (moves.Found c found)) v in
+      let told : View = with_told (Stepped (Lock k) 0 (moves.Found c found)) v in
       (seats_own_locks shows n limit _ after id told (set_here st.views id told (at_inside st.views id v at)) active).1
 
   pub locks_cell : (id : ℕ) (v : View) (slots : List (ℕ × Option B)) (k c : ℕ) → v.active ≡ true → 0 < v.thread → c < n
-      → Carries n v.log (Lock k) c
+      → MayCarry n v.log (Lock k) c
       → Allows Rule n id (v, slots) (spot n (Of Mutex c)) (λ there. either (there == 0) v.thread there)
-      (λ there me. Locked shows n v slots k c there (there == 0) me)
+      (λ there me. LockedOrBusy shows n v slots k c there (there == 0) me)
   locks_cell id v slots k c active some_thread low carries st r deep at small =
       let w = Of Mutex c in
       let there : ℕ = get_or st.words (spot n w) 0 in
@@ -160,17 +160,17 @@ module _ {B : Type 0} (shows : B → ℕ × Contents) (n limit : ℕ) where
             low carries same in
             let are : entries_in (shows lies.block).1 ≡ entries_at h c = ap entries_in lies.holds
             ∙ (contents_fit n limit r.run c r.options r.legal cell.rest).entries in (
-              with_told (Did (Lock k) 0 (moves.Found c (shows lies.block).1)) v,
+              with_told (Stepped (Lock k) 0 (moves.Found c (shows lies.block).1)) v,
               takes c (Some lies.block),
               lies.there,
               subst (λ b. Rule (record {
                 words = set st.words (spot n w) (either b v.thread there);
                 homes = set st.homes c none;
-                views = set st.views id (with_told (Did (Lock k) 0 (moves.Found c (shows lies.block).1)) v);
+                views = set st.views id (with_told (Stepped (Lock k) 0 (moves.Found c (shows lies.block).1)) v);
               }))
                   (sym (eq-eqb there 0 same)) (locking st r id v k c at active some_thread low carries same lies),
-              subst (λ b. Locked shows n v slots k c there b
-                  (with_told (Did (Lock k) 0 (moves.Found c (shows lies.block).1)) v, (c, Some lies.block) ∷ slots))
+              subst (λ b. LockedOrBusy shows n v slots k c there b
+                  (with_told (Stepped (Lock k) 0 (moves.Found c (shows lies.block).1)) v, (c, Some lies.block) ∷ slots))
                   (sym (eq-eqb there 0 same))
                   (record {
                     took = record {
@@ -195,7 +195,7 @@ module _ {B : Type 0} (shows : B → ℕ × Contents) (n limit : ℕ) where
             views = set st.views id (with_told (Lost w there) v);
           })) (sym (ne_eqb there 0 other))
               (unmoved shows n limit st r id v w (Lost w there) at active low lost),
-          subst (λ b. Locked shows n v slots k c there b (with_told (Lost w there) v, slots))
+          subst (λ b. LockedOrBusy shows n v slots k c there b (with_told (Lost w there) v, slots))
               (sym (ne_eqb there 0 other)) refl,
         )
       ]
@@ -210,11 +210,11 @@ module _ {B : Type 0} (shows : B → ℕ × Contents) (n limit : ℕ) where
 
   unlocking : (st : Table (Option B) View) (r : Rule st) (id : ℕ) (v : View) (block : B) (found : Contents)
       (change : Change) (c : ℕ) → get_elem? st.views id ≡ some v → v.active ≡ true → 0 < v.thread → c < n
-      → Unlocks n v.log (shows block) found change c
+      → MayUnlock n v.log (shows block) found change c
       → Rule (record {
         words = set st.words (spot n (Of Mutex c)) 0;
         homes = set st.homes c (some (Some block));
-        views = set st.views id (with_told (Did (Unlock change) 0 (moves.Put c (shows block).1)) v);
+        views = set st.views id (with_told (Stepped (Unlock change) 0 (moves.Put c (shows block).1)) v);
       })
   unlocking st r id v block found change c at active some_thread low unlocks =
       let t : ℕ = v.thread in
@@ -222,7 +222,7 @@ module _ {B : Type 0} (shows : B → ℕ × Contents) (n limit : ℕ) where
       let p : Contents = (shows block).1 in
       let h : Heap = world n limit r.run in
       let x : Cell = cell_at h c in
-      let later : Run = (t, Did s 0 (moves.Put c p)) ∷ r.run in
+      let later : Run = (t, Stepped s 0 (moves.Put c p)) ∷ r.run in
       let known : Known n limit h t v.log = knows shows n limit st r id v at active some_thread in
       let sound : IsSound h = reached_sound h known.reached in
       let named : target_at h t s ≡ Some c = meant_there n limit h t v.log s (Some c) known unlocks.cell in
@@ -285,11 +285,11 @@ module _ {B : Type 0} (shows : B → ℕ × Contents) (n limit : ℕ) where
 
   pub unlocks_cell : (id : ℕ) (v : View) (rest : List (ℕ × Option B)) (block : B) (found : Contents) (change : Change)
       (c : ℕ) → v.active ≡ true → 0 < v.thread → c < n
-      → Unlocks n v.log (shows block) found change c
+      → MayUnlock n v.log (shows block) found change c
       → Allows Rule n id (v, (c, Some block) ∷ rest) (spot n (Of Mutex c)) (λ there. 0)
-      (λ there me. me ≡ (with_told (Did (Unlock change) 0 (moves.Put c (shows block).1)) v, rest))
+      (λ there me. me ≡ (with_told (Stepped (Unlock change) 0 (moves.Put c (shows block).1)) v, rest))
   unlocks_cell id v rest block found change c active some_thread low unlocks st r deep at small = (
-    with_told (Did (Unlock change) 0 (moves.Put c (shows block).1)) v,
+    with_told (Stepped (Unlock change) 0 (moves.Put c (shows block).1)) v,
     gives,
     tt,
     unlocking st r id v block found change c at active some_thread low unlocks,

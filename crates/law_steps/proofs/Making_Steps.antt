@@ -30,20 +30,20 @@ use Rattle.law_lasting.proofs.Telling.{hand_tells}
 use Rattle.law_known.specs.declared.word.Field.TheVariants.{Owner as OwnerWord, Local, Shared}
 use Rattle.law_known.specs.declared.word.Word.TheVariants.{Of, FreeWord}
 use Rattle.law_known.specs.Free_Words.{is_free_cell, ShowsOwner}
-use Rattle.law_known.specs.Items.{shared_word, IsWord, Shows}
+use Rattle.law_known.specs.Items.{shared_word, IsWord, WordShows}
 use Rattle.law_known.specs.Taken.{listed_at}
 use Rattle.law_known.proofs.Free_Law.{told_true, told_bit, bit_taken, bit_given, cell_of_bit, bit_of_cell}
 use Rattle.law_known.proofs.Words_Law.{cell_free}
 use Rattle.law_rule.specs.declared.contents.Contents.{Contents}
 use Rattle.law_rule.specs.declared.told.Moved.TheVariants as moves
-use Rattle.law_rule.specs.declared.told.Told.{Told}
-use Rattle.law_rule.specs.declared.told.Told.TheVariants.{Did, Lost}
+use Rattle.law_rule.specs.declared.told.LogItem.{LogItem}
+use Rattle.law_rule.specs.declared.told.LogItem.TheVariants.{Stepped, Lost}
 use Rattle.law_rule.specs.declared.view.View.{View}
 use Rattle.law_rule.specs.Layout.{spot}
 use Rattle.law_rule.specs.Logs.{Run, world, contents_at}
 use Rattle.law_rule.specs.Rule.{with_told, Kept}
 use Rattle.law_rule.specs.Seen.{taken_seen}
-use Rattle.law_steps.specs.Owing.{Carries, Claims, Bears}
+use Rattle.law_steps.specs.Owing.{MayCarry, MayClaimCell, MayBear}
 use Rattle.law_steps.specs.Taking.{Claimed}
 use Rattle.law_rule.proofs.Homing.{home_out}
 use Rattle.law_rule.proofs.Keys_Law.{bare_keys}
@@ -66,7 +66,7 @@ free_inside : (n c : ℕ) → c < n → IsWord n (FreeWord (c / 64))
 free_inside n c low = omega (arith, low)
 
 -- a cell whose bit is 1 is free
-bit_free : (h : Heap) (c there : ℕ) → Shows h (FreeWord (c / 64)) there → bit_at there (c % 64) ≡ 1
+bit_free : (h : Heap) (c there : ℕ) → WordShows h (FreeWord (c / 64)) there → bit_at there (c % 64) ≡ 1
     → (cell_at h c).owner ≡ owners.Free
 bit_free h c there shows bit =
     let told : is_free_cell h (c / 64 * 64 + c % 64) ≡ true = told_true (λ i. is_free_cell h (c / 64 * 64 + i)) 64
@@ -79,9 +79,9 @@ other_bits : (h : Heap) (t : ℕ) (s : Step) (c i : ℕ) → i < 64 → i ≢ c 
 other_bits h t s c i low other = cell_free h t s c (c / 64 * 64 + i) (λ e. other (bit_of_cell c (c / 64) i low e).1)
 
 -- the free word after a claim, which takes the cell's bit
-bit_is_taken : (h : Heap) (t : ℕ) (s : Step) (c there : ℕ) → Shows h (FreeWord (c / 64)) there
+bit_is_taken : (h : Heap) (t : ℕ) (s : Step) (c there : ℕ) → WordShows h (FreeWord (c / 64)) there
     → is_free (cell_at (stepped h t s c) c).owner ≡ false
-    → Shows (stepped h t s c) (FreeWord (c / 64)) (bit_and there (2 ^ 64 - 1 - 2 ^ (c % 64)))
+    → WordShows (stepped h t s c) (FreeWord (c / 64)) (bit_and there (2 ^ 64 - 1 - 2 ^ (c % 64)))
 bit_is_taken h t s c there shows gone =
     ap (λ m. bit_and m (2 ^ 64 - 1 - 2 ^ (c % 64))) shows
     ∙ bit_taken (λ i. is_free_cell h (c / 64 * 64 + i)) (λ i. is_free_cell (stepped h t s c) (c / 64 * 64 + i)) (c % 64)
@@ -93,9 +93,9 @@ bit_is_taken h t s c there shows gone =
     both_false false b is = refl
 
 -- and after a free, which gives it
-bit_is_given : (h : Heap) (t : ℕ) (s : Step) (c there : ℕ) → Shows h (FreeWord (c / 64)) there → c < length h.cells
+bit_is_given : (h : Heap) (t : ℕ) (s : Step) (c there : ℕ) → WordShows h (FreeWord (c / 64)) there → c < length h.cells
     → is_free (cell_at (stepped h t s c) c).owner ≡ true
-    → Shows (stepped h t s c) (FreeWord (c / 64)) (bit_or there (2 ^ (c % 64)))
+    → WordShows (stepped h t s c) (FreeWord (c / 64)) (bit_or there (2 ^ (c % 64)))
 bit_is_given h t s c there shows low given =
     ap (λ m. bit_or m (2 ^ (c % 64))) shows
     ∙ bit_given (λ i. is_free_cell h (c / 64 * 64 + i)) (λ i. is_free_cell (stepped h t s c) (c / 64 * 64 + i)) (c % 64)
@@ -104,7 +104,7 @@ bit_is_given h t s c there shows low given =
     ∙ both_true (lt-ltb c _ (omega (arith, low, length-set h.cells c (cell_after t s c (cell_at h c))))) given)
 
 -- a claim of a cell that has no bit leaves the word
-bit_missed : (h : Heap) (c there : ℕ) → Shows h (FreeWord (c / 64)) there → bit_at there (c % 64) ≢ 1
+bit_missed : (h : Heap) (c there : ℕ) → WordShows h (FreeWord (c / 64)) there → bit_at there (c % 64) ≢ 1
     → bit_and there (2 ^ 64 - 1 - 2 ^ (c % 64)) ≡ there
 bit_missed h c there shows missing =
     let f : ℕ → Bool = λ i. is_free_cell h (c / 64 * 64 + i) in
@@ -131,8 +131,8 @@ module _ {B : Type 0} (shows : B → ℕ × Contents) (n limit : ℕ) where
 
   -- ---- InitLocal and InitShared
 
-  inits_local : (h : Heap) (t : ℕ) (log : List Told) (c : ℕ) → 0 < t → Known n limit h t log
-      → Carries n log (InitLocal c) c → IsPlain n h t (InitLocal c) (Of Local c) 1 1
+  inits_local : (h : Heap) (t : ℕ) (log : List LogItem) (c : ℕ) → 0 < t → Known n limit h t log
+      → MayCarry n log (InitLocal c) c → IsPlain n h t (InitLocal c) (Of Local c) 1 1
   inits_local h t log c some_thread known carries =
       let s : Step = InitLocal c in
       let x : Cell = cell_at h c in
@@ -153,15 +153,15 @@ module _ {B : Type 0} (shows : B → ℕ × Contents) (n limit : ℕ) where
       })
 
   pub sets_local : (id : ℕ) (v : View) (slots : List (ℕ × Option B)) (c : ℕ) → v.active ≡ true → 0 < v.thread → c < n
-      → Carries n v.log (InitLocal c) c
+      → MayCarry n v.log (InitLocal c) c
       → Allows Rule n id (v, slots) (spot n (Of Local c)) (λ there. 1)
-      (λ there me. me ≡ (with_told (Did (InitLocal c) 1 moves.Nothing) v, slots))
+      (λ there me. me ≡ (with_told (Stepped (InitLocal c) 1 moves.Nothing) v, slots))
   sets_local id v slots c active some_thread low carries =
       plain_step shows n limit id v slots (InitLocal c) (Of Local c) (λ there. 1) (λ there. 1) active some_thread low
       (λ h there known shown small. inits_local h v.thread v.log c some_thread known carries)
 
-  inits_shared : (h : Heap) (t : ℕ) (log : List Told) (c : ℕ) → 0 < t → Known n limit h t log
-      → Carries n log (InitShared c) c → IsPlain n h t (InitShared c) (Of Shared c) (2 ^ 42) (2 ^ 42)
+  inits_shared : (h : Heap) (t : ℕ) (log : List LogItem) (c : ℕ) → 0 < t → Known n limit h t log
+      → MayCarry n log (InitShared c) c → IsPlain n h t (InitShared c) (Of Shared c) (2 ^ 42) (2 ^ 42)
   inits_shared h t log c some_thread known carries =
       let s : Step = InitShared c in
       let x : Cell = cell_at h c in
@@ -182,9 +182,9 @@ module _ {B : Type 0} (shows : B → ℕ × Contents) (n limit : ℕ) where
       })
 
   pub sets_shared : (id : ℕ) (v : View) (slots : List (ℕ × Option B)) (c : ℕ) → v.active ≡ true → 0 < v.thread → c < n
-      → Carries n v.log (InitShared c) c
+      → MayCarry n v.log (InitShared c) c
       → Allows Rule n id (v, slots) (spot n (Of Shared c)) (λ there. 2 ^ 42)
-      (λ there me. me ≡ (with_told (Did (InitShared c) (2 ^ 42) moves.Nothing) v, slots))
+      (λ there me. me ≡ (with_told (Stepped (InitShared c) (2 ^ 42) moves.Nothing) v, slots))
   sets_shared id v slots c active some_thread low carries =
       plain_step shows n limit id v slots (InitShared c) (Of Shared c) (λ there. 2 ^ 42) (λ there. 2 ^ 42) active
       some_thread low
@@ -210,13 +210,13 @@ module _ {B : Type 0} (shows : B → ℕ × Contents) (n limit : ℕ) where
       (free_unmarked h v.thread c (reached_sound h known.reached) (found_free st r c low found))
 
   claiming : (st : Table (Option B) View) (r : Rule st) (id : ℕ) (v : View) (c there : ℕ)
-      → get_elem? st.views id ≡ some v → v.active ≡ true → 0 < v.thread → c < n → Claims n v.log c
+      → get_elem? st.views id ≡ some v → v.active ≡ true → 0 < v.thread → c < n → MayClaimCell n v.log c
       → get_or st.words (spot n (FreeWord (c / 64))) 0 ≡ there → bit_at there (c % 64) ≡ 1
       → (get_elem? st.homes c ≡ some (some None))
       × Rule (record {
         words = set st.words (spot n (FreeWord (c / 64))) (bit_and there (2 ^ 64 - 1 - 2 ^ (c % 64)));
         homes = set st.homes c none;
-        views = set st.views id (with_told (Did (Claim c) there moves.Nothing) v);
+        views = set st.views id (with_told (Stepped (Claim c) there moves.Nothing) v);
       })
   claiming st r id v c there at active some_thread low claims is found =
       let t : ℕ = v.thread in
@@ -225,7 +225,7 @@ module _ {B : Type 0} (shows : B → ℕ × Contents) (n limit : ℕ) where
       let x : Cell = cell_at h c in
       let known : Known n limit h t v.log = knows shows n limit st r id v at active some_thread in
       let inside_is : c < length h.cells = omega (arith, known.cells, low) in
-      let shows_word : Shows h (FreeWord (c / 64)) there = sym is
+      let shows_word : WordShows h (FreeWord (c / 64)) there = sym is
       ∙ r.each_word (FreeWord (c / 64)) (free_inside n c low) in
       let free : x.owner ≡ owners.Free = bit_free h c there shows_word found in
       let now : (cell_at (stepped h t s c) c).owner ≡ owners.Claimed t = ap (λ (y : Cell). y.owner)
@@ -247,7 +247,7 @@ module _ {B : Type 0} (shows : B → ℕ × Contents) (n limit : ℕ) where
               moves = (refl, refl);
               elsewhere = λ d other. refl;
             })
-            (home_out shows (set st.homes c none) (stepped h t s c) ((t, Did s there moves.Nothing) ∷ r.run) c
+            (home_out shows (set st.homes c none) (stepped h t s c) ((t, Stepped s there moves.Nothing) ∷ r.run) c
             (λ bad. claimed_free t (sym now ∙ bad)) (λ live unlocked off. true≢false (sym live ∙ ap lives now))),
       )
     where
@@ -255,7 +255,7 @@ module _ {B : Type 0} (shows : B → ℕ × Contents) (n limit : ℕ) where
       claimed_free t bad = absurd (cc)
 
   pub claims_cell : (id : ℕ) (v : View) (slots : List (ℕ × Option B)) (c : ℕ) → v.active ≡ true → 0 < v.thread → c < n
-      → Claims n v.log c
+      → MayClaimCell n v.log c
       → Allows Rule n id (v, slots) (spot n (FreeWord (c / 64))) (λ there. bit_and there (2 ^ 64 - 1 - 2 ^ (c % 64)))
       (λ there me. Claimed n v slots c there (bit_at there (c % 64) == 1) me)
   claims_cell id v slots c active some_thread low claims st r deep at small =
@@ -264,12 +264,12 @@ module _ {B : Type 0} (shows : B → ℕ × Contents) (n limit : ℕ) where
       elim (cases_eq (bit_at there (c % 64)) 1) [
         | inl same ↦
             let done = claiming st r id v c there at active some_thread low claims refl same in (
-              with_told (Did (Claim c) there moves.Nothing) v,
+              with_told (Stepped (Claim c) there moves.Nothing) v,
               takes c None,
               done.0,
               done.1,
               subst (λ b. Claimed n v slots c there b (
-                with_told (Did (Claim c) there moves.Nothing) v,
+                with_told (Stepped (Claim c) there moves.Nothing) v,
                 (c, None) ∷ slots,
               )) (sym (eq-eqb (bit_at there (c % 64)) 1 same))
                   (record { fresh = found_fresh st r id v c at active some_thread low same; after_is = refl }),
@@ -295,12 +295,12 @@ module _ {B : Type 0} (shows : B → ℕ × Contents) (n limit : ℕ) where
 
   bearing : (st : Table (Option B) View) (r : Rule st) (id : ℕ) (v : View) (block : B) (kind : Kind) (k c : ℕ)
       → get_elem? st.views id ≡ some v → v.active ≡ true → 0 < v.thread → c < n
-      → Bears n v.log (shows block) kind k c
+      → MayBear n v.log (shows block) kind k c
       → Rule (record {
         words = set st.words (spot n (Of OwnerWord c)) v.thread;
         homes = set st.homes c
             (some (Some block));
-        views = set st.views id (with_told (Did (Birth c kind k) v.thread (moves.Put c (shows block).1)) v);
+        views = set st.views id (with_told (Stepped (Birth c kind k) v.thread (moves.Put c (shows block).1)) v);
       })
   bearing st r id v block kind k c at active some_thread low bears =
       let t : ℕ = v.thread in
@@ -308,7 +308,7 @@ module _ {B : Type 0} (shows : B → ℕ × Contents) (n limit : ℕ) where
       let p : Contents = (shows block).1 in
       let h : Heap = world n limit r.run in
       let x : Cell = cell_at h c in
-      let later : Run = (t, Did s t (moves.Put c p)) ∷ r.run in
+      let later : Run = (t, Stepped s t (moves.Put c p)) ∷ r.run in
       let known : Known n limit h t v.log = knows shows n limit st r id v at active some_thread in
       let busy : (row_at h t).hand ≡ hands.Busy phases.Ready c = busy_hand phases.Ready c _
       (hand_there n limit h t v.log s known bears.own) in
@@ -355,11 +355,11 @@ module _ {B : Type 0} (shows : B → ℕ × Contents) (n limit : ℕ) where
       set_empty (xs ∷ lists) (Rattle.std.proofs.Common.suc c) = set_empty lists c
 
   pub bears_object : (id : ℕ) (v : View) (rest : List (ℕ × Option B)) (block : B) (kind : Kind) (k c : ℕ)
-      → v.active ≡ true → 0 < v.thread → c < n → Bears n v.log (shows block) kind k c
+      → v.active ≡ true → 0 < v.thread → c < n → MayBear n v.log (shows block) kind k c
       → Allows Rule n id (v, (c, Some block) ∷ rest) (spot n (Of OwnerWord c)) (λ there. v.thread)
-      (λ there me. me ≡ (with_told (Did (Birth c kind k) v.thread (moves.Put c (shows block).1)) v, rest))
+      (λ there me. me ≡ (with_told (Stepped (Birth c kind k) v.thread (moves.Put c (shows block).1)) v, rest))
   bears_object id v rest block kind k c active some_thread low bears st r deep at small = (
-    with_told (Did (Birth c kind k) v.thread (moves.Put c (shows block).1)) v,
+    with_told (Stepped (Birth c kind k) v.thread (moves.Put c (shows block).1)) v,
     gives,
     tt,
     bearing st r id v block kind k c at active some_thread low bears,
@@ -369,12 +369,12 @@ module _ {B : Type 0} (shows : B → ℕ × Contents) (n limit : ℕ) where
   -- ---- Free
 
   freeing : (st : Table (Option B) View) (r : Rule st) (id : ℕ) (v : View) (c there : ℕ)
-      → get_elem? st.views id ≡ some v → v.active ≡ true → 0 < v.thread → c < n → Carries n v.log (Free c) c
+      → get_elem? st.views id ≡ some v → v.active ≡ true → 0 < v.thread → c < n → MayCarry n v.log (Free c) c
       → get_or st.words (spot n (FreeWord (c / 64))) 0 ≡ there
       → Rule (record {
         words = set st.words (spot n (FreeWord (c / 64))) (bit_or there (2 ^ (c % 64)));
         homes = set st.homes c (some None);
-        views = set st.views id (with_told (Did (Free c) there moves.Nothing) v);
+        views = set st.views id (with_told (Stepped (Free c) there moves.Nothing) v);
       })
   freeing st r id v c there at active some_thread low carries is =
       let t : ℕ = v.thread in
@@ -382,7 +382,7 @@ module _ {B : Type 0} (shows : B → ℕ × Contents) (n limit : ℕ) where
       let h : Heap = world n limit r.run in
       let known : Known n limit h t v.log = knows shows n limit st r id v at active some_thread in
       let inside_is : c < length h.cells = omega (arith, known.cells, low) in
-      let shows_word : Shows h (FreeWord (c / 64)) there = sym is
+      let shows_word : WordShows h (FreeWord (c / 64)) there = sym is
       ∙ r.each_word (FreeWord (c / 64)) (free_inside n c low) in
       let now : (cell_at (stepped h t s c) c).owner ≡ owners.Free = ap (λ (y : Cell). y.owner)
       (read_cell h t s c inside_is) in
@@ -407,12 +407,12 @@ module _ {B : Type 0} (shows : B → ℕ × Contents) (n limit : ℕ) where
       })
 
   pub frees_cell : (id : ℕ) (v : View) (rest : List (ℕ × Option B)) (c : ℕ) → v.active ≡ true → 0 < v.thread → c < n
-      → Carries n v.log (Free c) c
+      → MayCarry n v.log (Free c) c
       → Allows Rule n id (v, (c, None) ∷ rest) (spot n (FreeWord (c / 64))) (λ there. bit_or there (2 ^ (c % 64)))
-      (λ there me. me ≡ (with_told (Did (Free c) there moves.Nothing) v, rest))
+      (λ there me. me ≡ (with_told (Stepped (Free c) there moves.Nothing) v, rest))
   frees_cell id v rest c active some_thread low carries st r deep at small =
       let there : ℕ = get_or st.words (spot n (FreeWord (c / 64))) 0 in (
-        with_told (Did (Free c) there moves.Nothing) v,
+        with_told (Stepped (Free c) there moves.Nothing) v,
         gives,
         tt,
         freeing st r id v c there at active some_thread low

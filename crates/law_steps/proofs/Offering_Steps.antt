@@ -24,12 +24,12 @@ use Rattle.law_world.proofs.Asking.{mine}
 use Rattle.law_world.proofs.Reached.{reached_sound}
 use Rattle.law_known.specs.declared.word.Field.TheVariants.{Shared}
 use Rattle.law_known.specs.declared.word.Word.TheVariants.{Of}
-use Rattle.law_known.specs.Items.{Part, Shows, shared_word, raised}
+use Rattle.law_known.specs.Items.{Part, WordShows, shared_word, raised}
 use Rattle.law_known.proofs.Owned_Law.{counted_off}
 use Rattle.law_rule.specs.declared.contents.Contents.{Contents}
 use Rattle.law_rule.specs.declared.told.Moved.TheVariants as moves
-use Rattle.law_rule.specs.declared.told.Told.{Told}
-use Rattle.law_rule.specs.declared.told.Told.TheVariants.{Did}
+use Rattle.law_rule.specs.declared.told.LogItem.{LogItem}
+use Rattle.law_rule.specs.declared.told.LogItem.TheVariants.{Stepped}
 use Rattle.law_rule.specs.declared.view.View.{View}
 use Rattle.law_rule.specs.Layout.{spot}
 use Rattle.law_rule.specs.Rule.{with_told, Kept}
@@ -62,8 +62,8 @@ module _ {B : Type 0} (shows : B → ℕ × Contents) (n limit : ℕ) where
   abbrev Rule : Table (Option B) View → Type 0
   Rule = Kept shows n limit
 
-  offered : (h : Heap) (t : ℕ) (log : List Told) (c there : ℕ) → 0 < t → Known n limit h t log → Offers n log c
-      → Shows h (Of Shared c) there → IsPlain n h t (Offer c) (Of Shared c) (bit_or there 2) there
+  offered : (h : Heap) (t : ℕ) (log : List LogItem) (c there : ℕ) → 0 < t → Known n limit h t log → Offers n log c
+      → WordShows h (Of Shared c) there → IsPlain n h t (Offer c) (Of Shared c) (bit_or there 2) there
   offered h t log c there some_thread known offers shown =
       let s : Step = Offer c in
       let x : Cell = cell_at h c in
@@ -96,7 +96,7 @@ module _ {B : Type 0} (shows : B → ℕ × Contents) (n limit : ℕ) where
   pub offers_own : (id : ℕ) (v : View) (slots : List (ℕ × Option B)) (c : ℕ) → v.active ≡ true → 0 < v.thread → c < n
       → Offers n v.log c
       → Allows Rule n id (v, slots) (spot n (Of Shared c)) (λ there. bit_or there 2)
-      (λ there me. me ≡ (with_told (Did (Offer c) there moves.Nothing) v, slots))
+      (λ there me. me ≡ (with_told (Stepped (Offer c) there moves.Nothing) v, slots))
   offers_own id v slots c active some_thread low offers =
       plain_step shows n limit id v slots (Offer c) (Of Shared c) (λ there. bit_or there 2) (λ there. there) active
       some_thread low

@@ -16,11 +16,12 @@ use Rattle.law_world.specs.Steps.{thread_may, target_at, cell_after, after_targe
 use Rattle.law_world.specs.Steps.{takes_block, worklist_with}
 use Rattle.law_world.proofs.Changes.{read_here, read_there}
 use Rattle.law_known.specs.declared.word.Word.{Word}
-use Rattle.law_known.specs.Items.{IsWord, Shows, ToldBy, IsTold, meets_closed, told_at, found, found_at, works_on}
+use Rattle.law_known.specs.Items.{IsWord, WordShows, ToldBy, IsNumberFound, meets_closed, told_at, found, found_at}
+use Rattle.law_known.specs.Items.{works_on}
 use Rattle.law_known.proofs.Words_Law.{kept_by}
 use Rattle.law_rule.specs.declared.contents.Contents.{Contents}
 use Rattle.law_rule.specs.declared.told.Moved.TheVariants as moves
-use Rattle.law_rule.specs.declared.told.Told.TheVariants.{Did, Lost}
+use Rattle.law_rule.specs.declared.told.LogItem.TheVariants.{Stepped, Lost}
 use Rattle.law_rule.specs.declared.view.View.{View}
 use Rattle.law_rule.specs.Layout.{spot}
 use Rattle.law_rule.specs.Logs.{world, puts, takes, takes_of}
@@ -84,8 +85,8 @@ stays_off h t s d = record { free = λ is. is; lives = λ is. is; mutex = λ is.
 pub record IsPlain (n : ℕ) (h : Heap) (t : ℕ) (s : Step) (w : Word) (written number : ℕ) : Type 0 where
   pub may : thread_may h t s ≡ true
   pub word : works_on h t s (target_at h t s) ≡ w
-  pub shown : Shows (moved_on h t s) w written
-  pub told : IsTold h t s number
+  pub shown : WordShows (moved_on h t s) w written
+  pub told : IsNumberFound h t s number
   pub finds_none : found h t s ≡ []
   pub puts_none : puts h t s ≡ None
   pub takes_none : takes h t s ≡ None
@@ -96,7 +97,7 @@ pub record PlainOn (h : Heap) (t : ℕ) (s : Step) (c : ℕ) (w : Word) (written
   pub may : thread_may h t s ≡ true
   pub target : target_at h t s ≡ Some c
   pub word : works_on h t s (Some c) ≡ w
-  pub shown : Shows (stepped h t s c) w written
+  pub shown : WordShows (stepped h t s c) w written
   pub told : ToldBy (meets_closed h s) (told_at h t s (Some c)) number
   pub finds_none : found_at h s (Some c) ≡ []
   pub puts_none : puts h t s ≡ None
@@ -110,7 +111,7 @@ plain_on n h t s c w written number on =
     record {
       may = on.may;
       word = ap (works_on h t s) on.target ∙ on.word;
-      shown = subst (λ o. Shows (after_target h t s o) w written) back on.shown;
+      shown = subst (λ o. WordShows (after_target h t s o) w written) back on.shown;
       told = subst (λ o. ToldBy (meets_closed h s) (told_at h t s o) number) back on.told;
       finds_none = ap (found_at h s) on.target ∙ on.finds_none;
       puts_none = on.puts_none;
@@ -132,7 +133,7 @@ module _ {B : Type 0} (shows : B → ℕ × Contents) (n limit : ℕ) where
         words = set st.words (spot n w) written;
         homes = st.homes;
         views = set st.views id
-            (with_told (Did s number moves.Nothing) v);
+            (with_told (Stepped s number moves.Nothing) v);
       })
   plainly st r id v s w written number at active some_thread is plain = does shows n limit st r id v s w written number
       moves.Nothing st.homes at active
@@ -147,18 +148,18 @@ module _ {B : Type 0} (shows : B → ℕ × Contents) (n limit : ℕ) where
         moves = (plain.puts_none, plain.takes_none);
       }) r.deep
       (λ d low. home_stays shows st.homes (world n limit r.run) (moved_on (world n limit r.run) v.thread s) r.run
-      ((v.thread, Did s number moves.Nothing) ∷ r.run) d (plain.stays d low) refl (r.each_home d low))
+      ((v.thread, Stepped s number moves.Nothing) ∷ r.run) d (plain.stays d low) refl (r.each_home d low))
 
   -- what the log says is enough for the event, whatever number is found
   pub plain_step : (id : ℕ) (v : View) (slots : List (ℕ × Option B)) (s : Step) (w : Word) (written number : ℕ → ℕ)
       → v.active ≡ true → 0 < v.thread → IsWord n w
-      → ((h : Heap) (there : ℕ) → Known n limit h v.thread v.log → Shows h w there → there < 2 ^ 64
+      → ((h : Heap) (there : ℕ) → Known n limit h v.thread v.log → WordShows h w there → there < 2 ^ 64
       → IsPlain n h v.thread s w (written there) (number there))
       → Allows Rule n id (v, slots) (spot n w) written
-      (λ there me. me ≡ (with_told (Did s (number there) moves.Nothing) v, slots))
+      (λ there me. me ≡ (with_told (Stepped s (number there) moves.Nothing) v, slots))
   plain_step id v slots s w written number active some_thread is plain st r deep at small =
       let there : ℕ = get_or st.words (spot n w) 0 in (
-        with_told (Did s (number there) moves.Nothing) v,
+        with_told (Stepped s (number there) moves.Nothing) v,
         keeps,
         tt,
         plainly st r id v s w (written there) (number there) at active some_thread is
@@ -170,10 +171,10 @@ module _ {B : Type 0} (shows : B → ℕ × Contents) (n limit : ℕ) where
   -- a compare-exchange: it makes the event where it finds the number that it expects, and else is a note
   pub exchange_step : (id : ℕ) (v : View) (slots : List (ℕ × Option B)) (s : Step) (w : Word) (old new : ℕ)
       → v.active ≡ true → 0 < v.thread → IsWord n w
-      → ((h : Heap) → Known n limit h v.thread v.log → Shows h w old → IsPlain n h v.thread s w new old)
+      → ((h : Heap) → Known n limit h v.thread v.log → WordShows h w old → IsPlain n h v.thread s w new old)
       → Allows Rule n id (v, slots) (spot n w) (λ there. either (there == old) new there)
       (λ there me. me ≡ (
-        (if there == old then with_told (Did s old moves.Nothing) v else with_told
+        (if there == old then with_told (Stepped s old moves.Nothing) v else with_told
             (Lost w there) v),
         slots,
       ))
@@ -181,18 +182,18 @@ module _ {B : Type 0} (shows : B → ℕ × Contents) (n limit : ℕ) where
       let there : ℕ = get_or st.words (spot n w) 0 in
       elim (cases_eq there old) [
         | inl same ↦ (
-          with_told (Did s old moves.Nothing) v,
+          with_told (Stepped s old moves.Nothing) v,
           keeps,
           tt,
           subst (λ b. Rule (record {
             words = set st.words (spot n w) (either b new there);
             homes = st.homes;
-            views = set st.views id (with_told (Did s old moves.Nothing) v);
+            views = set st.views id (with_told (Stepped s old moves.Nothing) v);
           })) (sym (eq-eqb there old same))
               (plainly st r id v s w new old at active some_thread is
               (plain (world n limit r.run) (knows shows n limit st r id v at active some_thread)
-              (subst (Shows (world n limit r.run) w) same (r.each_word w is)))),
-          sym (ap (λ b. ((if b then with_told (Did s old moves.Nothing) v else with_told (Lost w there) v), slots))
+              (subst (WordShows (world n limit r.run) w) same (r.each_word w is)))),
+          sym (ap (λ b. ((if b then with_told (Stepped s old moves.Nothing) v else with_told (Lost w there) v), slots))
               (eq-eqb there old same)),
         )
         | inr other ↦ (
@@ -205,7 +206,7 @@ module _ {B : Type 0} (shows : B → ℕ × Contents) (n limit : ℕ) where
             views = set st.views id (with_told (Lost w there) v);
           })) (sym (ne_eqb there old other))
               (unmoved shows n limit st r id v w (Lost w there) at active is lost),
-          sym (ap (λ b. ((if b then with_told (Did s old moves.Nothing) v else with_told (Lost w there) v), slots))
+          sym (ap (λ b. ((if b then with_told (Stepped s old moves.Nothing) v else with_told (Lost w there) v), slots))
               (ne_eqb there old other)),
         )
       ]

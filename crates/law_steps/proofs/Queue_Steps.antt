@@ -32,19 +32,19 @@ use Rattle.law_world.proofs.Changes.{read_here}
 use Rattle.law_world.proofs.Reached.{reached_sound}
 use Rattle.law_known.specs.declared.word.Word.{Word}
 use Rattle.law_known.specs.declared.word.Word.TheVariants.{Queue, NotifyWord}
-use Rattle.law_known.specs.Items.{IsWord, Shows, ShowsQueue, ToldBy, meets_closed, told_at, found_at, works_on}
+use Rattle.law_known.specs.Items.{IsWord, WordShows, ShowsQueue, ToldBy, meets_closed, told_at, found_at, works_on}
 use Rattle.law_known.specs.Items.{closing_bit}
 use Rattle.law_known.proofs.Items_Own.{next_open, drains_open}
 use Rattle.law_known.proofs.Queued_Law.{queue_bits}
 use Rattle.law_rule.specs.declared.contents.Contents.{Contents}
 use Rattle.law_rule.specs.declared.told.Moved.TheVariants as moves
-use Rattle.law_rule.specs.declared.told.Told.{Told}
-use Rattle.law_rule.specs.declared.told.Told.TheVariants.{Did}
+use Rattle.law_rule.specs.declared.told.LogItem.{LogItem}
+use Rattle.law_rule.specs.declared.told.LogItem.TheVariants.{Stepped}
 use Rattle.law_rule.specs.declared.view.View.{View}
 use Rattle.law_rule.specs.Layout.{spot}
 use Rattle.law_rule.specs.Logs.{puts, takes_of}
 use Rattle.law_rule.specs.Rule.{with_told, Kept}
-use Rattle.law_steps.specs.Owing.{Allowed, Closes, Tells}
+use Rattle.law_steps.specs.Owing.{MayStep, MayClose, MayNudge}
 use Rattle.law_steps.specs.Taking.{AreQueued}
 use Rattle.law_rule.proofs.Own_Logs.{stands_registered}
 use Rattle.law_rule.proofs.Knowing.{Known, is_enabled, known_edition, hand_there}
@@ -56,7 +56,7 @@ record PlainOff (h : Heap) (t : ℕ) (s : Step) (w : Word) (written number : ℕ
   may : thread_may h t s ≡ true
   target : target_at h t s ≡ None
   word : works_on h t s None ≡ w
-  shown : Shows (kept_cells h t s) w written
+  shown : WordShows (kept_cells h t s) w written
   told : ToldBy (meets_closed h s) (told_at h t s None) number
   puts_none : puts h t s ≡ None
 
@@ -67,7 +67,7 @@ plain_off n h t s w written number off =
     record {
       may = off.may;
       word = ap (works_on h t s) off.target ∙ off.word;
-      shown = subst (λ o. Shows (after_target h t s o) w written) back off.shown;
+      shown = subst (λ o. WordShows (after_target h t s o) w written) back off.shown;
       told = subst (λ o. ToldBy (meets_closed h s) (told_at h t s o) number) back off.told;
       finds_none = ap (found_at h s) off.target;
       puts_none = off.puts_none;
@@ -78,7 +78,7 @@ plain_off n h t s w written number off =
 
 -- what an open queue word of a registered thread shows
 open_shows : (h : Heap) (t k there : ℕ) → is_registered h t ≡ true → is_closed (row_at h t).stage k ≡ false
-    → Shows h (Queue t k) there → there ≡ word_at (queue_at h t) k
+    → WordShows h (Queue t k) there → there ≡ word_at (queue_at h t) k
 open_shows h t k there registered open_word shown =
     subst (λ closed. ToldBy closed (word_at (queue_at h t) k) there) open_word
     (subst (λ reg. ShowsQueue reg (is_closed (row_at h t).stage k) (word_at (queue_at h t) k) there) registered shown)
@@ -90,7 +90,7 @@ told_open h t k there open_word is = omega (arith, is, ap closing_bit open_word)
 -- the number of a queue word after a step on it
 queue_shows : (new : Heap) (t k written : ℕ) (closed : Bool) (bits : ℕ) → is_registered new t ≡ true
     → is_closed (row_at new t).stage k ≡ closed → word_at (queue_at new t) k ≡ bits → ToldBy closed bits written
-    → Shows new (Queue t k) written
+    → WordShows new (Queue t k) written
 queue_shows new t k written closed bits registered stage queue said =
     subst (λ reg. ShowsQueue reg (is_closed (row_at new t).stage k) (word_at (queue_at new t) k) written)
     (sym registered)
@@ -124,8 +124,8 @@ module _ {B : Type 0} (shows : B → ℕ × Contents) (n limit : ℕ) where
   Rule = Kept shows n limit
 
   -- an open word of the thread's own shows its bits, and these are cells
-  bits_shown : (h : Heap) (t : ℕ) (log : List Told) (k there : ℕ) → 0 < t → Known n limit h t log
-      → is_closed (row_at h t).stage k ≡ false → Shows h (Queue t k) there → AreQueued n k there
+  bits_shown : (h : Heap) (t : ℕ) (log : List LogItem) (k there : ℕ) → 0 < t → Known n limit h t log
+      → is_closed (row_at h t).stage k ≡ false → WordShows h (Queue t k) there → AreQueued n k there
   bits_shown h t log k there some_thread known open_word shown i on =
       let is : there ≡ word_at (queue_at h t) k = open_shows h t k there (stands_registered h t known.stood some_thread)
       open_word shown in
@@ -134,14 +134,15 @@ module _ {B : Type 0} (shows : B → ℕ × Contents) (n limit : ℕ) where
 
   -- ---- Drain
 
-  drained_open : (h : Heap) (t : ℕ) (log : List Told) (k : ℕ) → 0 < t → Known n limit h t log → Allowed n log (Drain k)
+  drained_open : (h : Heap) (t : ℕ) (log : List LogItem) (k : ℕ) → 0 < t → Known n limit h t log
+      → MayStep n log (Drain k)
       → is_closed (row_at h t).stage k ≡ false
   drained_open h t log k some_thread known allowed = drains_open (row_at h t).stage k
       (may_parts h t (Drain k) (is_enabled n limit h t log (Drain k) some_thread known allowed.own refl refl
       refl)).stage
 
-  drained : (h : Heap) (t : ℕ) (log : List Told) (k there : ℕ) → 0 < t → k < words_for n → Known n limit h t log
-      → Allowed n log (Drain k) → Shows h (Queue t k) there
+  drained : (h : Heap) (t : ℕ) (log : List LogItem) (k there : ℕ) → 0 < t → k < words_for n → Known n limit h t log
+      → MayStep n log (Drain k) → WordShows h (Queue t k) there
       → IsPlain n h t (Drain k) (Queue t k) 0 there
   drained h t log k there some_thread inside known allowed shown =
       let s : Step = Drain k in
@@ -173,13 +174,13 @@ module _ {B : Type 0} (shows : B → ℕ × Contents) (n limit : ℕ) where
       })
 
   pub drains : (id : ℕ) (v : View) (slots : List (ℕ × Option B)) (k : ℕ) → v.active ≡ true → 0 < v.thread
-      → v.thread ≤ MOST_THREADS → k < words_for n → Allowed n v.log (Drain k)
+      → v.thread ≤ MOST_THREADS → k < words_for n → MayStep n v.log (Drain k)
       → Allows Rule n id (v, slots) (spot n (Queue v.thread k)) (λ there. 0)
-      (λ there me. (me ≡ (with_told (Did (Drain k) there moves.Nothing) v, slots)) × AreQueued n k there)
+      (λ there me. (me ≡ (with_told (Stepped (Drain k) there moves.Nothing) v, slots)) × AreQueued n k there)
   drains id v slots k active some_thread few inside allowed =
       let is : IsWord n (Queue v.thread k) = (omega (arith, few), inside) in
       tells_found shows n limit (AreQueued n k) id v slots (Queue v.thread k) (λ there. 0)
-      (λ there me. me ≡ (with_told (Did (Drain k) there moves.Nothing) v, slots)) active some_thread is
+      (λ there me. me ≡ (with_told (Stepped (Drain k) there moves.Nothing) v, slots)) active some_thread is
       (λ h there known shown. bits_shown h v.thread v.log k there some_thread known
       (drained_open h v.thread v.log k some_thread known allowed) shown)
       (plain_step shows n limit id v slots (Drain k) (Queue v.thread k) (λ there. 0) (λ there. there) active
@@ -189,7 +190,7 @@ module _ {B : Type 0} (shows : B → ℕ × Contents) (n limit : ℕ) where
   -- ---- Close
 
   -- what it still owns is dead: an active thread counts nothing of it, and one that is closing has handed over the rest
-  owned_dead : (h : Heap) (t : ℕ) (log : List Told) (k c : ℕ) → Known n limit h t log → Closes n log k
+  owned_dead : (h : Heap) (t : ℕ) (log : List LogItem) (k c : ℕ) → Known n limit h t log → MayClose n log k
       → (not (is_owned_by t (cell_at h c).owner) || is_marked (worklist_at h t) c) ≡ true
   owned_dead h t log k c known closes = elim (cases_Bool (is_owned_by t (cell_at h c).owner)) [
     | inr apart ↦ ap (λ b. not b || is_marked (worklist_at h t) c) apart
@@ -210,7 +211,8 @@ module _ {B : Type 0} (shows : B → ℕ × Contents) (n limit : ℕ) where
       nobody_thread : owners.Nobody ≡ owners.Thread t → ⊥
       nobody_thread bad = absurd (cc)
 
-      none_local : (h : Heap) (t : ℕ) (log : List Told) (k c : ℕ) → Known n limit h t log → Closes n log k → IsSound h
+      none_local : (h : Heap) (t : ℕ) (log : List LogItem) (k c : ℕ) → Known n limit h t log → MayClose n log k
+          → IsSound h
           → FIRST_MORTAL ≤ c → (cell_at h c).owner ≡ owners.Thread t → c < length h.cells → (cell_at h c).local ≡ 0
       none_local h t log k c known closes sound mortal owner low =
           elim (cases_Bool (is_active (row_at h t).stage)) [
@@ -224,27 +226,27 @@ module _ {B : Type 0} (shows : B → ℕ × Contents) (n limit : ℕ) where
                 (ap (λ e. rests e (row_at h t).stage) (known_edition n limit h t log known) ∙ ap not off)
           ]
 
-  all_owned : (h : Heap) (t : ℕ) (log : List Told) (k : ℕ) → Known n limit h t log → Closes n log k → (m : ℕ)
+  all_owned : (h : Heap) (t : ℕ) (log : List LogItem) (k : ℕ) → Known n limit h t log → MayClose n log k → (m : ℕ)
       → owned_are_marked t h.cells (worklist_at h t) m ≡ true
   all_owned h t log k known closes zero = refl
   all_owned h t log k known closes (suc m) =
       both_true (all_owned h t log k known closes m) (owned_dead h t log k m known closes)
 
-  may_close : (h : Heap) (t : ℕ) (log : List Told) (k : ℕ) → 0 < t → Known n limit h t log → Closes n log k
+  may_close : (h : Heap) (t : ℕ) (log : List LogItem) (k : ℕ) → 0 < t → Known n limit h t log → MayClose n log k
       → thread_may h t (Close k) ≡ true
   may_close h t log k some_thread known closes =
       is_enabled n limit h t log (Close k) some_thread known closes.own refl
       (subst (λ e. may_leave e t h.cells (worklist_at h t) ≡ true) (sym (known_edition n limit h t log known))
       (all_owned h t log k known closes (length h.cells))) refl
 
-  closed_open : (h : Heap) (t : ℕ) (log : List Told) (k : ℕ) → 0 < t → Known n limit h t log → Closes n log k
+  closed_open : (h : Heap) (t : ℕ) (log : List LogItem) (k : ℕ) → 0 < t → Known n limit h t log → MayClose n log k
       → is_closed (row_at h t).stage k ≡ false
   closed_open h t log k some_thread known allowed =
       let parts : May h t (Close k) = may_parts h t (Close k) (may_close h t log k some_thread known allowed) in
       next_open (row_at h t).stage k (and_parts _ _ (and_parts _ _ (and_parts _ _ parts.own).0).0).1
 
-  closed : (h : Heap) (t : ℕ) (log : List Told) (k there : ℕ) → 0 < t → k < words_for n → Known n limit h t log
-      → Closes n log k → Shows h (Queue t k) there
+  closed : (h : Heap) (t : ℕ) (log : List LogItem) (k there : ℕ) → 0 < t → k < words_for n → Known n limit h t log
+      → MayClose n log k → WordShows h (Queue t k) there
       → IsPlain n h t (Close k) (Queue t k) (bit_or there 9223372036854775808) there
   closed h t log k there some_thread inside known allowed shown =
       let s : Step = Close k in
@@ -273,14 +275,14 @@ module _ {B : Type 0} (shows : B → ℕ × Contents) (n limit : ℕ) where
       })
 
   pub closes : (id : ℕ) (v : View) (slots : List (ℕ × Option B)) (k : ℕ) → v.active ≡ true → 0 < v.thread
-      → v.thread ≤ MOST_THREADS → k < words_for n → Closes n v.log k
+      → v.thread ≤ MOST_THREADS → k < words_for n → MayClose n v.log k
       → Allows Rule n id (v, slots) (spot n (Queue v.thread k)) (λ there. bit_or there 9223372036854775808)
-      (λ there me. (me ≡ (with_told (Did (Close k) there moves.Nothing) v, slots)) × AreQueued n k there)
+      (λ there me. (me ≡ (with_told (Stepped (Close k) there moves.Nothing) v, slots)) × AreQueued n k there)
   closes id v slots k active some_thread few inside allowed =
       let is : IsWord n (Queue v.thread k) = (omega (arith, few), inside) in
       tells_found shows n limit (AreQueued n k) id v slots (Queue v.thread k)
       (λ there. bit_or there 9223372036854775808)
-      (λ there me. me ≡ (with_told (Did (Close k) there moves.Nothing) v, slots)) active some_thread is
+      (λ there me. me ≡ (with_told (Stepped (Close k) there moves.Nothing) v, slots)) active some_thread is
       (λ h there known shown. bits_shown h v.thread v.log k there some_thread known
       (closed_open h v.thread v.log k some_thread known allowed) shown)
       (plain_step shows n limit id v slots (Close k) (Queue v.thread k) (λ there. bit_or there 9223372036854775808)
@@ -289,8 +291,8 @@ module _ {B : Type 0} (shows : B → ℕ × Contents) (n limit : ℕ) where
 
   -- ---- Reopen
 
-  reopened : (h : Heap) (t : ℕ) (log : List Told) (k there : ℕ) → 0 < t → k < words_for n → Known n limit h t log
-      → Allowed n log (Reopen k) → Shows h (Queue t k) there
+  reopened : (h : Heap) (t : ℕ) (log : List LogItem) (k there : ℕ) → 0 < t → k < words_for n → Known n limit h t log
+      → MayStep n log (Reopen k) → WordShows h (Queue t k) there
       → IsPlain n h t (Reopen k) (Queue t k) 0 0
   reopened h t log k there some_thread inside known allowed shown =
       let s : Step = Reopen k in
@@ -320,9 +322,9 @@ module _ {B : Type 0} (shows : B → ℕ × Contents) (n limit : ℕ) where
       })
 
   pub reopens : (id : ℕ) (v : View) (slots : List (ℕ × Option B)) (k : ℕ) → v.active ≡ true → 0 < v.thread
-      → v.thread ≤ MOST_THREADS → k < words_for n → Allowed n v.log (Reopen k)
+      → v.thread ≤ MOST_THREADS → k < words_for n → MayStep n v.log (Reopen k)
       → Allows Rule n id (v, slots) (spot n (Queue v.thread k)) (λ there. 0)
-      (λ there me. me ≡ (with_told (Did (Reopen k) 0 moves.Nothing) v, slots))
+      (λ there me. me ≡ (with_told (Stepped (Reopen k) 0 moves.Nothing) v, slots))
   reopens id v slots k active some_thread few inside allowed =
       plain_step shows n limit id v slots (Reopen k) (Queue v.thread k) (λ there. 0) (λ there. 0) active some_thread
       (omega (arith, few), inside)
@@ -330,8 +332,8 @@ module _ {B : Type 0} (shows : B → ℕ × Contents) (n limit : ℕ) where
 
   -- ---- Nudge and Wake
 
-  nudged : (h : Heap) (t : ℕ) (log : List Told) (q k there : ℕ) → 0 < t → Known n limit h t log → Tells n log q k
-      → Shows h (NotifyWord q) there
+  nudged : (h : Heap) (t : ℕ) (log : List LogItem) (q k there : ℕ) → 0 < t → Known n limit h t log → MayNudge n log q k
+      → WordShows h (NotifyWord q) there
       → IsPlain n h t (Nudge q k) (NotifyWord q) (bit_or there (2 ^ (k / 32))) there
   nudged h t log q k there some_thread known tells shown =
       let s : Step = Nudge q k in
@@ -350,16 +352,16 @@ module _ {B : Type 0} (shows : B → ℕ × Contents) (n limit : ℕ) where
       })
 
   pub nudges : (id : ℕ) (v : View) (slots : List (ℕ × Option B)) (q k : ℕ) → v.active ≡ true → 0 < v.thread
-      → Tells n v.log q k
+      → MayNudge n v.log q k
       → Allows Rule n id (v, slots) (spot n (NotifyWord q)) (λ there. bit_or there (2 ^ (k / 32)))
-      (λ there me. me ≡ (with_told (Did (Nudge q k) there moves.Nothing) v, slots))
+      (λ there me. me ≡ (with_told (Stepped (Nudge q k) there moves.Nothing) v, slots))
   nudges id v slots q k active some_thread tells =
       plain_step shows n limit id v slots (Nudge q k) (NotifyWord q) (λ there. bit_or there (2 ^ (k / 32)))
       (λ there. there) active some_thread (omega (arith, tells.few))
       (λ h there known shown small. nudged h v.thread v.log q k there some_thread known tells shown)
 
-  woken : (h : Heap) (t : ℕ) (log : List Told) (there : ℕ) → 0 < t → Known n limit h t log → Allowed n log Wake
-      → Shows h (NotifyWord t) there → IsPlain n h t Wake (NotifyWord t) 0 there
+  woken : (h : Heap) (t : ℕ) (log : List LogItem) (there : ℕ) → 0 < t → Known n limit h t log → MayStep n log Wake
+      → WordShows h (NotifyWord t) there → IsPlain n h t Wake (NotifyWord t) 0 there
   woken h t log there some_thread known allowed shown =
       let sound : IsSound h = reached_sound h known.reached in
       let may : thread_may h t Wake ≡ true = is_enabled n limit h t log Wake some_thread known allowed.own refl
@@ -375,9 +377,9 @@ module _ {B : Type 0} (shows : B → ℕ × Contents) (n limit : ℕ) where
       })
 
   pub wakes : (id : ℕ) (v : View) (slots : List (ℕ × Option B)) → v.active ≡ true → 0 < v.thread
-      → v.thread ≤ MOST_THREADS → Allowed n v.log Wake
+      → v.thread ≤ MOST_THREADS → MayStep n v.log Wake
       → Allows Rule n id (v, slots) (spot n (NotifyWord v.thread)) (λ there. 0)
-      (λ there me. me ≡ (with_told (Did Wake there moves.Nothing) v, slots))
+      (λ there me. me ≡ (with_told (Stepped Wake there moves.Nothing) v, slots))
   wakes id v slots active some_thread few allowed =
       plain_step shows n limit id v slots Wake (NotifyWord v.thread) (λ there. 0) (λ there. there) active some_thread
       (omega (arith, few))

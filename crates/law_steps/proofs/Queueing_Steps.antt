@@ -24,19 +24,19 @@ use Rattle.law_world.specs.Sound.{IsSound}
 use Rattle.law_world.specs.Steps.{cell_after, stepped, is_closed, is_shut, queues_with}
 use Rattle.law_world.proofs.Naming.{busy_hand}
 use Rattle.law_world.proofs.Reached.{reached_sound}
-use Rattle.law_lasting.specs.Staying.{Lasts, Keeps}
+use Rattle.law_lasting.specs.Staying.{Lasts, LivesOn}
 use Rattle.law_lasting.proofs.Lasting.{live_owner, keeping_lasts}
 use Rattle.law_lasting.proofs.Progress.{inside}
 use Rattle.law_lasting.proofs.Ranges_Law.{same_rows}
 use Rattle.law_known.specs.declared.word.Field.TheVariants.{Owner}
 use Rattle.law_known.specs.declared.word.Word.TheVariants.{Of, Queue}
-use Rattle.law_known.specs.Items.{Shows, ShowsQueue, ToldBy, spelled, closing_bit}
+use Rattle.law_known.specs.Items.{WordShows, ShowsQueue, ToldBy, spelled, closing_bit}
 use Rattle.law_known.proofs.Owners_Law.{thread_spelled}
 use Rattle.law_known.proofs.Words_Law.{kept_by}
 use Rattle.law_rule.specs.declared.contents.Contents.{Contents}
 use Rattle.law_rule.specs.declared.told.Moved.TheVariants as moves
-use Rattle.law_rule.specs.declared.told.Told.{Told}
-use Rattle.law_rule.specs.declared.told.Told.TheVariants.{Did}
+use Rattle.law_rule.specs.declared.told.LogItem.{LogItem}
+use Rattle.law_rule.specs.declared.told.LogItem.TheVariants.{Stepped}
 use Rattle.law_rule.specs.declared.view.View.{View}
 use Rattle.law_rule.specs.Layout.{spot}
 use Rattle.law_rule.specs.Rule.{with_told, Kept}
@@ -53,7 +53,7 @@ use Rattle.law_rule.proofs.Noting.{part_hand, hand_in, has_in_hand, owner_told}
 -- the thread has the object, which thread q bore
 record BornBy (h : Heap) (t c q : ℕ) : Type 0 where
   kind : Kind
-  keeps : Keeps h t c kind q 0
+  keeps : LivesOn h t c kind q 0
 
 born_lasts : (t c q : ℕ) → Lasts t (λ h. BornBy h t c q)
 born_lasts t c q h e reached ok others born =
@@ -61,7 +61,7 @@ born_lasts t c q h e reached ok others born =
 
 -- its owner is its bearer
 noted_bearer : (h : Heap) (t c q : ℕ) → IsReached h → (row_at h t).hand ≡ hands.Busy phases.Asked c
-    → Shows h (Of Owner c) q → 0 < q → q ≤ MOST_THREADS → BornBy h t c q
+    → WordShows h (Of Owner c) q → 0 < q → q ≤ MOST_THREADS → BornBy h t c q
 noted_bearer h t c q reached busy found some_thread few =
     let sound : IsSound h = reached_sound h reached in
     let mortal : FIRST_MORTAL ≤ c = (sound.hands t c phases.Asked busy).mortal in
@@ -79,7 +79,7 @@ noted_bearer h t c q reached busy found some_thread few =
       };
     }
 
-born_now : (n limit : ℕ) (h : Heap) (t : ℕ) (log : List Told) (c q : ℕ) → 0 < t → Known n limit h t log
+born_now : (n limit : ℕ) (h : Heap) (t : ℕ) (log : List LogItem) (c q : ℕ) → 0 < t → Known n limit h t log
     → Enqueues n log c q → BornBy h t c q
 born_now n limit h t log c q some_thread known asks =
     let busy : (part_seen n log).row.hand ≡ hands.Busy phases.Asked c = busy_hand phases.Asked c _
@@ -108,7 +108,7 @@ has_word h c sound mortal live low =
 
 -- what is found in it
 word_found : (h : Heap) (c there : ℕ) → is_registered h (cell_at h c).bearer ≡ true
-    → Shows h (Queue (cell_at h c).bearer (c / 32)) there
+    → WordShows h (Queue (cell_at h c).bearer (c / 32)) there
     → ToldBy (is_shut h c) (word_at (queue_at h (cell_at h c).bearer) (c / 32)) there
 word_found h c there registered shown =
     subst (λ b. ShowsQueue b (is_shut h c) (word_at (queue_at h (cell_at h c).bearer) (c / 32)) there) registered shown
@@ -134,7 +134,7 @@ word_after h u c queues low inside =
 -- a closed word stays one, whatever bits are set in it
 word_shown : (h : Heap) (t c there : ℕ) → HasWord h (cell_at h c).bearer c
     → ToldBy (is_shut h c) (word_at (queue_at h (cell_at h c).bearer) (c / 32)) there
-    → Shows (stepped h t (Enqueue c) c) (Queue (cell_at h c).bearer (c / 32)) (bit_or there (2 ^ (c % 32)))
+    → WordShows (stepped h t (Enqueue c) c) (Queue (cell_at h c).bearer (c / 32)) (bit_or there (2 ^ (c % 32)))
 word_shown h t c there has found =
     subst (λ b. ShowsQueue b (is_closed (row_at new u).stage (c / 32)) (word_at (queue_at new u) (c / 32)) after_bit)
     (sym (ap (λ m. nat_lt 0 u && nat_lt u m) (same_rows h t (Enqueue c) (Some c)) ∙ has.registered))
@@ -160,8 +160,8 @@ word_shown h t c there has found =
 
 -- ---- the step
 
-enqueued : (n limit : ℕ) (h : Heap) (t : ℕ) (log : List Told) (c q there : ℕ) → 0 < t → Known n limit h t log
-    → Enqueues n log c q → Shows h (Queue q (c / 32)) there
+enqueued : (n limit : ℕ) (h : Heap) (t : ℕ) (log : List LogItem) (c q there : ℕ) → 0 < t → Known n limit h t log
+    → Enqueues n log c q → WordShows h (Queue q (c / 32)) there
     → IsPlain n h t (Enqueue c) (Queue q (c / 32)) (bit_or there (2 ^ (c % 32))) there
 enqueued n limit h t log c q there some_thread known asks shown =
     let s : Step = Enqueue c in
@@ -171,13 +171,13 @@ enqueued n limit h t log c q there some_thread known asks shown =
     let bearer : x.bearer ≡ q = now.keeps.same_bearer in
     let has : HasWord h x.bearer c = has_word h c (reached_sound h known.reached) now.keeps.mortal now.keeps.live low in
     let found : ToldBy (is_shut h c) (word_at (queue_at h x.bearer) (c / 32)) there =
-    word_found h c there has.registered (subst (λ b. Shows h (Queue b (c / 32)) there) (sym bearer) shown) in
+    word_found h c there has.registered (subst (λ b. WordShows h (Queue b (c / 32)) there) (sym bearer) shown) in
     plain_on n h t s c (Queue q (c / 32)) (bit_or there (2 ^ (c % 32))) there (record {
       may = is_enabled n limit h t log s some_thread known asks.own refl refl
           (fits_cell n limit h t log s c known refl low refl);
       target = refl;
       word = ap (λ b. Queue b (c / 32)) bearer;
-      shown = subst (λ b. Shows (stepped h t s c) (Queue b (c / 32)) (bit_or there (2 ^ (c % 32)))) bearer
+      shown = subst (λ b. WordShows (stepped h t s c) (Queue b (c / 32)) (bit_or there (2 ^ (c % 32)))) bearer
           (word_shown h t c there has found);
       told = word_told h c there found;
       finds_none = refl;
@@ -194,7 +194,7 @@ module _ {B : Type 0} (shows : B → ℕ × Contents) (n limit : ℕ) where
   pub enqueues : (id : ℕ) (v : View) (slots : List (ℕ × Option B)) (c q : ℕ) → v.active ≡ true → 0 < v.thread → c < n
       → Enqueues n v.log c q
       → Allows Rule n id (v, slots) (spot n (Queue q (c / 32))) (λ there. bit_or there (2 ^ (c % 32)))
-      (λ there me. me ≡ (with_told (Did (Enqueue c) there moves.Nothing) v, slots))
+      (λ there me. me ≡ (with_told (Stepped (Enqueue c) there moves.Nothing) v, slots))
   enqueues id v slots c q active some_thread low asks =
       let few : q < MOST_THREADS + 1 = omega (arith, asks.thread) in
       let inside_is : c / 32 < words_for n = omega (arith, low) in

@@ -28,7 +28,7 @@ use Rattle.law_known.specs.declared.word.Word.{Word}
 use Rattle.law_known.specs.declared.word.Field.TheVariants.{Owner, Local, Shared, Mutex}
 use Rattle.law_known.specs.declared.word.Word.TheVariants.{Of, Queue, NotifyWord, FreeWord}
 use Rattle.law_known.proofs.Free_Law.{shown_longer}
-use Rattle.law_known.specs.Items.{Shows, ShowsQueue, ToldBy, events_of, own, is_used}
+use Rattle.law_known.specs.Items.{WordShows, ShowsQueue, ToldBy, events_of, own, is_used}
 use Rattle.law_known.specs.Root.{rows_of}
 use Rattle.law_known.specs.Free_Words.{ShowsOwner}
 use Rattle.law_known.proofs.Items_Tells.{used_is}
@@ -39,15 +39,16 @@ use Rattle.law_known.proofs.Items_Runs.{events_run}
 use Rattle.law_known.proofs.Root_Law.{rows_are_told, next_number_ok}
 use Rattle.law_rule.specs.declared.contents.Contents.{Contents}
 use Rattle.law_rule.specs.declared.told.Moved.TheVariants as moves
-use Rattle.law_rule.specs.declared.told.Told.{Told}
-use Rattle.law_rule.specs.declared.told.Told.TheVariants.{Did}
+use Rattle.law_rule.specs.declared.told.LogItem.{LogItem}
+use Rattle.law_rule.specs.declared.told.LogItem.TheVariants.{Stepped}
 use Rattle.law_rule.specs.declared.view.View.{View}
 use Rattle.law_rule.specs.Layout.{spot}
 use Rattle.law_rule.specs.Logs.{log_items, Run, items_of, begins, own_of, world}
 use Rattle.law_rule.specs.Homes.{HomeShown}
 use Rattle.law_rule.specs.Rule.{stands, log_in, Fits, StandsOnce, Seated, Kept}
 use Rattle.law_rule.specs.Seen.{part_seen}
-use Rattle.law_steps.specs.Joining.{next_thread, is_again, registering, starting, gathering, spent, Registers, Leaves}
+use Rattle.law_steps.specs.Joining.{next_thread, is_again, registering, starting, gathering, spent, MayRegister}
+use Rattle.law_steps.specs.Joining.{HasLeft}
 use Rattle.law_rule.proofs.Own_Logs.{own_items, own_more, own_same, stands_registered, stands_ungathered}
 use Rattle.law_rule.proofs.Growing.{at_inside}
 use Rattle.law_rule.proofs.Once.{once_calm, once_started, once_gathered, once_else}
@@ -103,7 +104,7 @@ gathered_inside h w out = elim (cases_lt w (length h.gathered)) [
 ]
 
 -- each word shows what it showed
-shown_registered : (n : ℕ) (h : Heap) (w : Word) (m : ℕ) → IsSound h → Shows h w m → Shows (registered h) w m
+shown_registered : (n : ℕ) (h : Heap) (w : Word) (m : ℕ) → IsSound h → WordShows h w m → WordShows (registered h) w m
 shown_registered n h (Of Owner c) m sound shown = shown_longer (length h.rows) (length (registered h).rows)
     (cell_at h c).owner m (omega (arith, length-push h.rows new_row)) shown
 shown_registered n h (Of Local c) m sound shown = shown
@@ -166,8 +167,8 @@ again_stands h u sound vacated =
     (ap not (read_here h.gathered u false false (omega (arith, vacated.inside, sound.shaped.gathered))))
 
 -- each word shows what it showed: the queue words of the number are closed, before and after
-shown_again : (n : ℕ) (h : Heap) (u : ℕ) (w : Word) (m : ℕ) → IsSound h → Vacated h u → Shows h w m
-    → Shows (registered_again h u) w m
+shown_again : (n : ℕ) (h : Heap) (u : ℕ) (w : Word) (m : ℕ) → IsSound h → Vacated h u → WordShows h w m
+    → WordShows (registered_again h u) w m
 shown_again n h u (Of Owner c) m sound vacated shown =
     subst (λ k. ShowsOwner k (cell_at h c).owner m) (sym (length-set h.rows u again_row)) shown
 shown_again n h u (Of Local c) m sound vacated shown = shown
@@ -215,7 +216,7 @@ record Enters (n : ℕ) (h : Heap) (u : ℕ) (w : Heap) : Type 0 where
   before : (t : ℕ) → t ≢ u → stands w t ≡ stands h t
   now : stands w u ≡ true
   off : stands h u ≡ false
-  shown : (word : Word) (m : ℕ) → Shows h word m → Shows w word m
+  shown : (word : Word) (m : ℕ) → WordShows h word m → WordShows w word m
   stays : (c : ℕ) → Stays h w c
   gathered : (t : ℕ) → is_gathered w t ≡ true → (is_gathered h t ≡ true) × (t ≢ u)
 
@@ -274,7 +275,7 @@ enters n h u sound ok = elim (registers h u sound ok) [
 same_stood : (h : Heap) (u t : ℕ) → t ≢ u → stands (gathered_in h u) t ≡ stands h t
 same_stood h u t other = ap (λ b. (t == 0) || (is_registered h t && not b)) (read_there h.gathered u t true false other)
 
-shown_gathered : (h : Heap) (u : ℕ) (w : Word) (m : ℕ) → Shows h w m → Shows (gathered_in h u) w m
+shown_gathered : (h : Heap) (u : ℕ) (w : Word) (m : ℕ) → WordShows h w m → WordShows (gathered_in h u) w m
 shown_gathered h u (Of Owner c) m shown = shown
 shown_gathered h u (Of Local c) m shown = shown
 shown_gathered h u (Of Shared c) m shown = shown
@@ -305,14 +306,14 @@ module _ {B : Type 0} (shows : B → ℕ × Contents) (n limit : ℕ) where
       (events_run (start_of n limit) (items_of r.run) r.legal.items)
 
   -- the root's log is what the root did
-  root_log : (s : Table) (r : Rule s) (id : ℕ) (v : View) → get_elem? s.views id ≡ some v → Registers v
+  root_log : (s : Table) (r : Rule s) (id : ℕ) (v : View) → get_elem? s.views id ≡ some v → MayRegister v
       → own 0 (items_of r.run) ≡ log_items v.log
   root_log s r id v at registers =
       let fits : Fits (world n limit r.run) r.run r.seat id v = r.each_seat id v at registers.active in
       own_items 0 r.run ∙ ap log_items (ap (λ t. own_of t r.run) (sym registers.root) ∙ fits.log)
 
   -- so it tells which number is the next
-  next_may : (s : Table) (r : Rule s) (id : ℕ) (v : View) → get_elem? s.views id ≡ some v → Registers v
+  next_may : (s : Table) (r : Rule s) (id : ℕ) (v : View) → get_elem? s.views id ≡ some v → MayRegister v
       → root_may (world n limit r.run) (Register (next_thread v)) ≡ true
   next_may s r id v at registers =
       let h : Heap = world n limit r.run in
@@ -323,7 +324,7 @@ module _ {B : Type 0} (shows : B → ℕ × Contents) (n limit : ℕ) where
       (le-leb _ _ registers.few)
 
   -- and whether it was used before
-  again_is : (s : Table) (r : Rule s) (id : ℕ) (v : View) → get_elem? s.views id ≡ some v → Registers v
+  again_is : (s : Table) (r : Rule s) (id : ℕ) (v : View) → get_elem? s.views id ≡ some v → MayRegister v
       → 0 < next_thread v → is_used (next_thread v) (items_of r.run) ≡ is_again v
   again_is s r id v at registers positive =
       let h : Heap = world n limit r.run in
@@ -336,11 +337,11 @@ module _ {B : Type 0} (shows : B → ℕ × Contents) (n limit : ℕ) where
   with_seat seat u j t = if t == u then j else seat t
 
   -- Register: the new thread has the new seat
-  pub splits : (id : ℕ) (v : View) → Registers v → Splits Rule id v (registering v) (starting v)
+  pub splits : (id : ℕ) (v : View) → MayRegister v → Splits Rule id v (registering v) (starting v)
   splits id v registers s r at =
       let h : Heap = world n limit r.run in
       let u : ℕ = next_thread v in
-      let x : Told = Did (Register u) 0 moves.Nothing in
+      let x : LogItem = Stepped (Register u) 0 moves.Nothing in
       let later : Run = (0, x) ∷ r.run in
       let sound : IsSound h = reached_sound h (reached s r) in
       let ok : root_may h (Register u) ≡ true = next_may s r id v at registers in
@@ -357,7 +358,7 @@ module _ {B : Type 0} (shows : B → ℕ × Contents) (n limit : ℕ) where
         legal = record { items = (r.legal.items, (ok, refl, refl)); moved = (r.legal.moved, (refl, refl)) };
         wide = r.wide;
         deep = r.deep;
-        each_word = λ word inside. subst (λ z. Shows z word (get_or s.words (spot n word) 0)) (sym leads)
+        each_word = λ word inside. subst (λ z. WordShows z word (get_or s.words (spot n word) 0)) (sym leads)
             (e.shown word (get_or s.words (spot n word) 0) (r.each_word word inside));
         each_home = λ c low. subst (λ z. HomeShown shows s.homes z later c) (sym leads)
             (home_stays shows s.homes h w r.run later c (e.stays c) refl (r.each_home c low));
@@ -387,17 +388,18 @@ module _ {B : Type 0} (shows : B → ℕ × Contents) (n limit : ℕ) where
     where
       start_fits : (s : Table) (r : Rule s) (v : View) (u : ℕ) (w : Heap) → Enters n (world n limit r.run) u w
           → u ≡ next_thread v → is_used (next_thread v) (items_of r.run) ≡ is_again v
-          → Fits w ((0, Did (Register u) 0 moves.Nothing) ∷ r.run)
+          → Fits w ((0, Stepped (Register u) 0 moves.Nothing) ∷ r.run)
           (with_seat r.seat u (length s.views)) (length s.views) (starting v)
       start_fits s r v u w e next used = record {
         here = ap (with_seat r.seat u (length s.views)) (sym next) ∙ ap (λ b. if b then length s.views else r.seat u)
             (eq-eqb u u refl);
         there = ap (stands w) (sym next) ∙ e.now;
-        log = ap (λ t. own_of t ((0, Did (Register u) 0 moves.Nothing) ∷ r.run)) (sym next)
-            ∙ ap (λ b. if b then begins (is_used u (items_of r.run)) (Did (Register u) 0 moves.Nothing) else (if 0 ==
-            u then Did (Register u) 0 moves.Nothing ∷ own_of u r.run else own_of u r.run)) (eq-eqb u u refl)
-            ∙ ap (λ t. begins (is_used t (items_of r.run)) (Did (Register t) 0 moves.Nothing)) next
-            ∙ ap (λ b. begins b (Did (Register (next_thread v)) 0 moves.Nothing)) used;
+        log = ap (λ t. own_of t ((0, Stepped (Register u) 0 moves.Nothing) ∷ r.run)) (sym next)
+            ∙ ap (λ b. if b then begins (is_used u (items_of r.run)) (Stepped (Register u) 0 moves.Nothing) else
+            (if 0 ==
+            u then Stepped (Register u) 0 moves.Nothing ∷ own_of u r.run else own_of u r.run)) (eq-eqb u u refl)
+            ∙ ap (λ t. begins (is_used t (items_of r.run)) (Stepped (Register t) 0 moves.Nothing)) next
+            ∙ ap (λ b. begins b (Stepped (Register (next_thread v)) 0 moves.Nothing)) used;
         gathered = λ root. absurd (omega (arith, root, sym next, e.some));
         lives = λ root. absurd (omega (arith, root, sym next, e.some));
       }
@@ -405,7 +407,7 @@ module _ {B : Type 0} (shows : B → ℕ × Contents) (n limit : ℕ) where
       thread_fits : (s : Table) (r : Rule s) (j : ℕ) (z : View) (u id : ℕ) (w : Heap)
           → Enters n (world n limit r.run) u w → r.seat 0 ≡ id → j ≢ id
           → Fits (world n limit r.run) r.run r.seat j z
-          → Fits w ((0, Did (Register u) 0 moves.Nothing) ∷ r.run) (with_seat r.seat u (length s.views)) j z
+          → Fits w ((0, Stepped (Register u) 0 moves.Nothing) ∷ r.run) (with_seat r.seat u (length s.views)) j z
       thread_fits s r j z u id w e root_here other fits =
           let apart : z.thread ≢ u = λ same. true≢false (sym fits.there ∙ ap (stands (world n limit r.run)) same
           ∙ e.off) in
@@ -413,38 +415,38 @@ module _ {B : Type 0} (shows : B → ℕ × Contents) (n limit : ℕ) where
           record {
             here = ap (λ b. if b then length s.views else r.seat z.thread) (ne_eqb z.thread u apart) ∙ fits.here;
             there = e.before z.thread apart ∙ fits.there;
-            log = own_same 0 z.thread (Did (Register u) 0 moves.Nothing) r.run
+            log = own_same 0 z.thread (Stepped (Register u) 0 moves.Nothing) r.run
                 (ne_eqb u z.thread (λ back. apart (sym back))) not_root ∙ fits.log;
             gathered = λ root. absurd (not_root (sym root));
             lives = λ root. absurd (not_root (sym root));
           }
 
-      root_fits : (s : Table) (r : Rule s) (id : ℕ) (v : View) (u : ℕ) (w : Heap) → Registers v
+      root_fits : (s : Table) (r : Rule s) (id : ℕ) (v : View) (u : ℕ) (w : Heap) → MayRegister v
           → Enters n (world n limit r.run) u w
           → Fits (world n limit r.run) r.run r.seat id v
-          → Fits w ((0, Did (Register u) 0 moves.Nothing) ∷ r.run)
+          → Fits w ((0, Stepped (Register u) 0 moves.Nothing) ∷ r.run)
           (with_seat r.seat u (length s.views)) id
-          (Rattle.law_rule.specs.Rule.with_told (Did (Register u) 0 moves.Nothing) v)
+          (Rattle.law_rule.specs.Rule.with_told (Stepped (Register u) 0 moves.Nothing) v)
       root_fits s r id v u w registers e fits =
           let h : Heap = world n limit r.run in
           let apart : v.thread ≢ u = λ same. omega (arith, registers.root, same, e.some) in
           record {
             here = ap (λ b. if b then length s.views else r.seat v.thread) (ne_eqb v.thread u apart) ∙ fits.here;
             there = e.before v.thread apart ∙ fits.there;
-            log = subst (λ t. own_of v.thread ((t, Did (Register u) 0 moves.Nothing) ∷ r.run) ≡ Did
+            log = subst (λ t. own_of v.thread ((t, Stepped (Register u) 0 moves.Nothing) ∷ r.run) ≡ Stepped
                 (Register u) 0 moves.Nothing ∷ v.log) registers.root
-                (own_more v.thread (Did (Register u) 0 moves.Nothing) r.run
+                (own_more v.thread (Stepped (Register u) 0 moves.Nothing) r.run
                 (ne_eqb u v.thread (λ back. apart (sym back)))
-                ∙ ap (λ log. Did (Register u) 0 moves.Nothing ∷ log) fits.log);
+                ∙ ap (λ log. Stepped (Register u) 0 moves.Nothing ∷ log) fits.log);
             gathered = λ root q low out.
                 let old = e.gathered q out in
-                fits.gathered root q low old.0 ∙ ap Some (sym (own_same 0 q (Did (Register u) 0 moves.Nothing) r.run
+                fits.gathered root q low old.0 ∙ ap Some (sym (own_same 0 q (Stepped (Register u) 0 moves.Nothing) r.run
                 (ne_eqb u q (λ back. old.1 (sym back))) (λ zero_is. omega (arith, zero_is, low))));
             lives = λ root. fits.lives root;
           }
 
       seated : (s : Table) (r : Rule s) (id : ℕ) (v : View) (t u : ℕ) (w : Heap) → get_elem? s.views id ≡ some v
-          → Registers v → Enters n (world n limit r.run) u w → u ≡ next_thread v
+          → MayRegister v → Enters n (world n limit r.run) u w → u ≡ next_thread v
           → stands w t ≡ true
           → Seated (set s.views id (registering v) ++ starting v ∷ []) t (with_seat r.seat u (length s.views) t)
       seated s r id v t u w at registers e next there = elim (cases_eq t u) [
@@ -484,7 +486,7 @@ module _ {B : Type 0} (shows : B → ℕ × Contents) (n limit : ℕ) where
       ]
 
   -- Gather: the root's seat takes in that of a thread that has left
-  gather_may : (s : Table) (r : Rule s) (id : ℕ) (w : View) → get_elem? s.views id ≡ some w → Leaves n w
+  gather_may : (s : Table) (r : Rule s) (id : ℕ) (w : View) → get_elem? s.views id ≡ some w → HasLeft n w
       → root_may (world n limit r.run) (Gather w.thread) ≡ true
   gather_may s r id w at leaves =
       let h : Heap = world n limit r.run in
@@ -498,12 +500,12 @@ module _ {B : Type 0} (shows : B → ℕ × Contents) (n limit : ℕ) where
       (ap is_blank known.part.popped_is ∙ leaves.popped))
       (ap is_unmarked known.part.work_is ∙ leaves.worklist)
 
-  pub joins : (id : ℕ) (v : View) (other : ℕ) (w : View) → v.active ≡ true → v.thread ≡ 0 → Leaves n w
+  pub joins : (id : ℕ) (v : View) (other : ℕ) (w : View) → v.active ≡ true → v.thread ≡ 0 → HasLeft n w
       → Joins Rule id v other w (gathering v w) spent
   joins id v other w active root leaves s r at apart_seats there_other =
       let h : Heap = world n limit r.run in
       let u : ℕ = w.thread in
-      let x : Told = Did (Gather u) 0 moves.Nothing in
+      let x : LogItem = Stepped (Gather u) 0 moves.Nothing in
       let later : Run = (0, x) ∷ r.run in
       let at_other : get_elem? s.views other ≡ some w = sym (set_else s.views id other (gathering v w) apart_seats)
       ∙ there_other in
@@ -549,12 +551,12 @@ module _ {B : Type 0} (shows : B → ℕ × Contents) (n limit : ℕ) where
       root_joined : (s : Table) (r : Rule s) (id other : ℕ) (v w : View) → v.thread ≡ 0 → 0 < w.thread
           → w.thread < length (world n limit r.run).rows → IsSound (world n limit r.run)
           → Fits (world n limit r.run) r.run r.seat id v → Fits (world n limit r.run) r.run r.seat other w
-          → Fits (gathered_in (world n limit r.run) w.thread) ((0, Did (Gather w.thread) 0 moves.Nothing) ∷ r.run)
+          → Fits (gathered_in (world n limit r.run) w.thread) ((0, Stepped (Gather w.thread) 0 moves.Nothing) ∷ r.run)
           r.seat id (gathering v w)
       root_joined s r id other v w root some_thread low sound fits his =
           let h : Heap = world n limit r.run in
           let u : ℕ = w.thread in
-          let x : Told = Did (Gather u) 0 moves.Nothing in
+          let x : LogItem = Stepped (Gather u) 0 moves.Nothing in
           record {
             here = fits.here;
             there = same_stood h u v.thread (λ e. omega (arith, root, e, some_thread)) ∙ fits.there;
@@ -568,22 +570,22 @@ module _ {B : Type 0} (shows : B → ℕ × Contents) (n limit : ℕ) where
                   ∙ fits.gathered root q low_q (sym (read_there h.gathered u q true false (λ e. apart (sym e))) ∙ out)
                   ∙ ap Some (sym (own_same 0 q x r.run refl (λ e. omega (arith, e, low_q))))
             ];
-            lives = λ at_root. ap (λ (log : List Told). (u, log) ∷ v.gathered) (sym his.log)
-                ∙ ap (λ (lives : List (ℕ × List Told)). (u, own_of u r.run) ∷ lives) (fits.lives root);
+            lives = λ at_root. ap (λ (log : List LogItem). (u, log) ∷ v.gathered) (sym his.log)
+                ∙ ap (λ (lives : List (ℕ × List LogItem)). (u, own_of u r.run) ∷ lives) (fits.lives root);
           }
 
       thread_joined : (s : Table) (r : Rule s) (id other j : ℕ) (z v w : View) → v.thread ≡ 0
           → Fits (world n limit r.run) r.run r.seat id v → Fits (world n limit r.run) r.run r.seat other w → j ≢ id
           → j ≢ other
           → Fits (world n limit r.run) r.run r.seat j z → Fits (gathered_in (world n limit r.run) w.thread)
-          ((0, Did (Gather w.thread) 0 moves.Nothing) ∷ r.run) r.seat j z
+          ((0, Stepped (Gather w.thread) 0 moves.Nothing) ∷ r.run) r.seat j z
       thread_joined s r id other j z v w root fits his not_mine not_his thread =
           let not_root : 0 ≢ z.thread = λ e. not_mine (sym thread.here ∙ ap r.seat (sym e ∙ sym root) ∙ fits.here) in
           record {
             here = thread.here;
             there = same_stood (world n limit r.run) w.thread z.thread
                 (λ e. not_his (sym thread.here ∙ ap r.seat e ∙ his.here)) ∙ thread.there;
-            log = own_same 0 z.thread (Did (Gather w.thread) 0 moves.Nothing) r.run refl not_root ∙ thread.log;
+            log = own_same 0 z.thread (Stepped (Gather w.thread) 0 moves.Nothing) r.run refl not_root ∙ thread.log;
             gathered = λ zero_is. absurd (not_root (sym zero_is));
             lives = λ zero_is. absurd (not_root (sym zero_is));
           }

@@ -31,18 +31,18 @@ use Rattle.law_lasting.proofs.Lasting.{held_live, live_owner}
 use Rattle.law_lasting.proofs.Progress.{inside}
 use Rattle.law_known.specs.declared.word.Field.TheVariants.{Shared}
 use Rattle.law_known.specs.declared.word.Word.TheVariants.{Of}
-use Rattle.law_known.specs.Items.{Shows, shared_word, raised}
+use Rattle.law_known.specs.Items.{WordShows, shared_word, raised}
 use Rattle.law_known.specs.Counts.{own_count}
 use Rattle.law_known.proofs.Counts_Law.{uncounted, counted}
 use Rattle.law_rule.specs.declared.contents.Contents.{Contents}
 use Rattle.law_rule.specs.declared.told.Moved.TheVariants as moves
-use Rattle.law_rule.specs.declared.told.Told.{Told}
-use Rattle.law_rule.specs.declared.told.Told.TheVariants.{Did, Lost}
+use Rattle.law_rule.specs.declared.told.LogItem.{LogItem}
+use Rattle.law_rule.specs.declared.told.LogItem.TheVariants.{Stepped, Lost}
 use Rattle.law_rule.specs.declared.view.View.{View}
 use Rattle.law_rule.specs.Layout.{spot}
 use Rattle.law_rule.specs.Rule.{with_told, Kept}
 use Rattle.law_rule.specs.Seen.{counts_seen}
-use Rattle.law_steps.specs.Owing.{RaisesShared, Releases}
+use Rattle.law_steps.specs.Owing.{MayRaiseShared, MayRelease}
 use Rattle.law_rule.proofs.Knowing.{Known, is_enabled, meant_there, hand_there}
 use Rattle.law_steps.proofs.Local_Steps.{mortal_cell, fits_cell, read_cell}
 use Rattle.law_steps.proofs.Numbers.{word_up, word_down, bits_two}
@@ -57,14 +57,14 @@ pub record HeldCell (h : Heap) (c : ℕ) : Type 0 where
   pub low : c < length h.cells
   pub live : lives (cell_at h c).owner ≡ true
 
-pub held_cell : (n limit : ℕ) (h : Heap) (t : ℕ) (log : List Told) (c : ℕ) → Known n limit h t log → 1 ≤ held h c
+pub held_cell : (n limit : ℕ) (h : Heap) (t : ℕ) (log : List LogItem) (c : ℕ) → Known n limit h t log → 1 ≤ held h c
     → HeldCell h c
 held_cell n limit h t log c known holds =
     let live : lives (cell_at h c).owner ≡ true = held_live h c (reached_sound h known.reached) holds in
     record { held_is = holds; low = inside h c (live_owner _ live); live = live }
 
 -- an object that isn't counted by its log
-pub not_his : (n limit : ℕ) (h : Heap) (t : ℕ) (log : List Told) (c : ℕ) → Known n limit h t log → FIRST_MORTAL ≤ c
+pub not_his : (n limit : ℕ) (h : Heap) (t : ℕ) (log : List LogItem) (c : ℕ) → Known n limit h t log → FIRST_MORTAL ≤ c
     → 1 ≤ held h c → (row_at h t).hand ≡ hands.Free
     → counts_seen n log c ≡ 0 → is_mine t (row_at h t).stage (cell_at h c) ≡ false
 not_his n limit h t log c known mortal holds free says = uncounted h t c known.reached mortal holds free
@@ -85,7 +85,7 @@ module _ {B : Type 0} (shows : B → ℕ × Contents) (n limit : ℕ) where
 
   -- ---- SharedUp
 
-  beyond : (h : Heap) (t : ℕ) (log : List Told) (c : ℕ) → Known n limit h t log → FIRST_MORTAL ≤ c → 1 ≤ held h c
+  beyond : (h : Heap) (t : ℕ) (log : List LogItem) (c : ℕ) → Known n limit h t log → FIRST_MORTAL ≤ c → 1 ≤ held h c
       → (row_at h t).hand ≡ hands.Free
       → (counts_seen n log c ≡ 0) ⊎ (limit ≤ counts_seen n log c) → counts_up_locally limit t (row_at h t).stage
       (cell_at h c) ≡ false
@@ -96,8 +96,8 @@ module _ {B : Type 0} (shows : B → ℕ × Contents) (n limit : ℕ) where
       let both = counted t (row_at h t).stage (cell_at h c) (omega (arith, is, full, known.options.counts)) in
       ap (λ b. b && nat_lt (cell_at h c).local limit) both.0 ∙ le-ltb _ _ (omega (arith, both.1, is, full))
 
-  shared_up : (h : Heap) (t : ℕ) (log : List Told) (source : Source) (k c there : ℕ) → 0 < t → Known n limit h t log
-      → RaisesShared n limit log source k c → Shows h (Of Shared c) there
+  shared_up : (h : Heap) (t : ℕ) (log : List LogItem) (source : Source) (k c there : ℕ) → 0 < t → Known n limit h t log
+      → MayRaiseShared n limit log source k c → WordShows h (Of Shared c) there
       → IsPlain n h t (SharedUp source k) (Of Shared c) ((there + 4) % 2 ^ 64) there
   shared_up h t log source k c there some_thread known raises shown =
       let s : Step = SharedUp source k in
@@ -126,9 +126,9 @@ module _ {B : Type 0} (shows : B → ℕ × Contents) (n limit : ℕ) where
       })
 
   pub counts_up_shared : (id : ℕ) (v : View) (slots : List (ℕ × Option B)) (source : Source) (k c : ℕ) → v.active ≡ true
-      → 0 < v.thread → c < n → RaisesShared n limit v.log source k c
+      → 0 < v.thread → c < n → MayRaiseShared n limit v.log source k c
       → Allows Rule n id (v, slots) (spot n (Of Shared c)) (λ there. (there + 4) % 2 ^ 64)
-      (λ there me. me ≡ (with_told (Did (SharedUp source k) there moves.Nothing) v, slots))
+      (λ there me. me ≡ (with_told (Stepped (SharedUp source k) there moves.Nothing) v, slots))
   counts_up_shared id v slots source k c active some_thread low raises =
       plain_step shows n limit id v slots (SharedUp source k) (Of Shared c) (λ there. (there + 4) % 2 ^ 64)
       (λ there. there) active some_thread low
@@ -153,9 +153,9 @@ module _ {B : Type 0} (shows : B → ℕ × Contents) (n limit : ℕ) where
       by_count (pos m) at = lt-ltb 0 m (omega (arith, is, few, high, ap raised at))
       by_count (Rattle.std.proofs.Common.negsuc m) at = absurd (omega (arith, is, few, high, ap raised at))
 
-  shared_down : (h : Heap) (t : ℕ) (log : List Told) (drop : Dropped) (c old : ℕ) → 0 < t → Known n limit h t log
-      → Releases n log (SharedDown drop) c → old % 4 ≡ 0 → 2 ^ 42 + 4 ≤ old
-      → Shows h (Of Shared c) old → IsPlain n h t (SharedDown drop) (Of Shared c) (old - 4) old
+  shared_down : (h : Heap) (t : ℕ) (log : List LogItem) (drop : Dropped) (c old : ℕ) → 0 < t → Known n limit h t log
+      → MayRelease n log (SharedDown drop) c → old % 4 ≡ 0 → 2 ^ 42 + 4 ≤ old
+      → WordShows h (Of Shared c) old → IsPlain n h t (SharedDown drop) (Of Shared c) (old - 4) old
   shared_down h t log drop c old some_thread known releases default high shown =
       let s : Step = SharedDown drop in
       let x : Cell = cell_at h c in
@@ -185,11 +185,11 @@ module _ {B : Type 0} (shows : B → ℕ × Contents) (n limit : ℕ) where
       })
 
   pub counts_down_shared : (id : ℕ) (v : View) (slots : List (ℕ × Option B)) (drop : Dropped) (c old : ℕ)
-      → v.active ≡ true → 0 < v.thread → c < n → Releases n v.log (SharedDown drop) c
+      → v.active ≡ true → 0 < v.thread → c < n → MayRelease n v.log (SharedDown drop) c
       → old % 4 ≡ 0 → 2 ^ 42 + 4 ≤ old
       → Allows Rule n id (v, slots) (spot n (Of Shared c)) (λ there. either (there == old) (old - 4) there)
       (λ there me. me ≡ (
-        (if there == old then with_told (Did (SharedDown drop) old moves.Nothing) v else with_told
+        (if there == old then with_told (Stepped (SharedDown drop) old moves.Nothing) v else with_told
             (Lost (Of Shared c) there) v),
         slots,
       ))
@@ -231,8 +231,8 @@ module _ {B : Type 0} (shows : B → ℕ × Contents) (n limit : ℕ) where
       by_test true = (refl, refl)
       by_test false = (refl, refl)
 
-  asks_for : (h : Heap) (t : ℕ) (log : List Told) (drop : Dropped) (c there : ℕ) → 0 < t → Known n limit h t log
-      → Releases n log (Ask drop) c → Shows h (Of Shared c) there
+  asks_for : (h : Heap) (t : ℕ) (log : List LogItem) (drop : Dropped) (c there : ℕ) → 0 < t → Known n limit h t log
+      → MayRelease n log (Ask drop) c → WordShows h (Of Shared c) there
       → IsPlain n h t (Ask drop) (Of Shared c) (bit_or there 2) there
   asks_for h t log drop c there some_thread known releases shown =
       let s : Step = Ask drop in
@@ -258,9 +258,9 @@ module _ {B : Type 0} (shows : B → ℕ × Contents) (n limit : ℕ) where
       })
 
   pub asks : (id : ℕ) (v : View) (slots : List (ℕ × Option B)) (drop : Dropped) (c : ℕ) → v.active ≡ true → 0 < v.thread
-      → c < n → Releases n v.log (Ask drop) c
+      → c < n → MayRelease n v.log (Ask drop) c
       → Allows Rule n id (v, slots) (spot n (Of Shared c)) (λ there. bit_or there 2)
-      (λ there me. me ≡ (with_told (Did (Ask drop) there moves.Nothing) v, slots))
+      (λ there me. me ≡ (with_told (Stepped (Ask drop) there moves.Nothing) v, slots))
   asks id v slots drop c active some_thread low releases =
       plain_step shows n limit id v slots (Ask drop) (Of Shared c) (λ there. bit_or there 2) (λ there. there) active
       some_thread low

@@ -22,20 +22,20 @@ use Rattle.law_lasting.proofs.Lasting.{live_owner}
 use Rattle.law_lasting.proofs.Ranges_Law.{entries_inside}
 use Rattle.law_lasting.proofs.Standing.{taken_unlocked}
 use Rattle.law_known.specs.declared.word.Word.{Word}
-use Rattle.law_known.specs.Items.{IsWord, Shows, ToldBy, meets_closed, told_at, finds, works_on, cell_told}
+use Rattle.law_known.specs.Items.{IsWord, WordShows, ToldBy, meets_closed, told_at, finds, works_on, cell_told}
 use Rattle.law_known.specs.Taken.{listed_at, taken_of}
 use Rattle.law_known.proofs.Taken_Law.{unmarked_unlisted}
 use Rattle.law_rule.specs.declared.contents.Contents.{Contents}
 use Rattle.law_rule.specs.declared.told.Moved.TheVariants as moves
-use Rattle.law_rule.specs.declared.told.Told.{Told}
-use Rattle.law_rule.specs.declared.told.Told.TheVariants.{Did}
+use Rattle.law_rule.specs.declared.told.LogItem.{LogItem}
+use Rattle.law_rule.specs.declared.told.LogItem.TheVariants.{Stepped}
 use Rattle.law_rule.specs.declared.view.View.{View}
 use Rattle.law_rule.specs.Layout.{spot}
 use Rattle.law_rule.specs.Logs.{log_items, Run, items_of, world, puts, takes_of, entries_in, contents_at}
 use Rattle.law_rule.specs.Homes.{LiesThere}
 use Rattle.law_rule.specs.Rule.{stands, with_told, Kept}
 use Rattle.law_rule.specs.Seen.{taken_seen}
-use Rattle.law_steps.specs.Taking.{AreCells, Ended}
+use Rattle.law_steps.specs.Taking.{AreCells, EndedObject}
 use Rattle.law_rule.proofs.Own_Logs.{own_items, stands_registered}
 use Rattle.law_rule.proofs.Homing.{home_out}
 use Rattle.law_rule.proofs.Stepping.{thread_enabled}
@@ -50,7 +50,7 @@ pub record EndsOn (h : Heap) (t : ℕ) (s : Step) (c : ℕ) (w : Word) (written 
   pub target : target_at h t s ≡ Some c
   pub low : c < length h.cells
   pub word : works_on h t s (Some c) ≡ w
-  pub shown : Shows (stepped h t s c) w written
+  pub shown : WordShows (stepped h t s c) w written
   pub told : ToldBy (meets_closed h s) (told_at h t s (Some c)) number
   pub puts_none : puts h t s ≡ None
   pub finds_taken : finds s (cell_at h c) ≡ takes_block s (cell_at h c)
@@ -91,7 +91,7 @@ taken_mark h t s c sound may low frees takes_it =
 -- ---- what the block is to its seat
 
 -- a cell that isn't on the thread's worklist is none of the dead blocks that its log tells
-pub unlisted_seen : (n limit : ℕ) (h : Heap) (t : ℕ) (log : List Told) (c : ℕ) → Known n limit h t log → 0 < t
+pub unlisted_seen : (n limit : ℕ) (h : Heap) (t : ℕ) (log : List LogItem) (c : ℕ) → Known n limit h t log → 0 < t
     → is_marked (worklist_at h t) c ≡ false → listed_at (taken_seen n log) c ≡ None
 unlisted_seen n limit h t log c known some_thread off =
     let run : Run = known.run in
@@ -102,14 +102,15 @@ unlisted_seen n limit h t log c known some_thread off =
     (ap (λ (z : Heap). is_marked (worklist_at z t) c) of_run ∙ off)
 
 -- entries that a cell has are cells of the heap
-pub found_cells : (n limit : ℕ) (h : Heap) (t : ℕ) (log : List Told) (c : ℕ) (entries : List ℕ) → Known n limit h t log
+pub found_cells : (n limit : ℕ) (h : Heap) (t : ℕ) (log : List LogItem) (c : ℕ) (entries : List ℕ)
+    → Known n limit h t log
     → entries ≡ entries_at h c → AreCells n entries
 found_cells n limit h t log c entries known are i d there =
     subst (λ cells. d < cells) known.cells
     (entries_inside h c i d known.reached (ap (λ (xs : List ℕ). slice_get xs i) (sym are) ∙ there))
 
 -- no cell has too many entries
-pub found_few : (n limit : ℕ) (h : Heap) (t : ℕ) (log : List Told) (c : ℕ) (entries : List ℕ) → Known n limit h t log
+pub found_few : (n limit : ℕ) (h : Heap) (t : ℕ) (log : List LogItem) (c : ℕ) (entries : List ℕ) → Known n limit h t log
     → entries ≡ entries_at h c → length entries ≤ MOST_ENTRIES
 found_few n limit h t log c entries known are = subst (λ xs. length xs ≤ MOST_ENTRIES) (sym are)
     (reached_entries h known.reached c)
@@ -131,7 +132,7 @@ module _ {B : Type 0} (shows : B → ℕ × Contents) (n limit : ℕ) where
         words = set st.words (spot n w) written;
         homes = set st.homes c none;
         views = set st.views id
-            (with_told (Did s number (moves.Found c (shows lies.block).1)) v);
+            (with_told (Stepped s number (moves.Found c (shows lies.block).1)) v);
       })
   taking st r id v s c w written number at active some_thread low is ends takes_it lies =
       let t : ℕ = v.thread in
@@ -157,7 +158,8 @@ module _ {B : Type 0} (shows : B → ℕ × Contents) (n limit : ℕ) where
         };
         elsewhere = λ d other. refl;
       })
-      (home_out shows (set st.homes c none) (stepped h t s c) ((t, Did s number (moves.Found c (shows lies.block).1))
+      (home_out shows (set st.homes c none) (stepped h t s c)
+      ((t, Stepped s number (moves.Found c (shows lies.block).1))
       ∷ r.run) c
       (λ free. live_owner (cell_at h c).owner ends.live
       (sym (ap (λ (x : Cell). x.owner) (read_here h.cells c (cell_after t s c (cell_at h c)) no_cell ends.low)
@@ -169,10 +171,10 @@ module _ {B : Type 0} (shows : B → ℕ × Contents) (n limit : ℕ) where
   -- the number that is told decides whether the block is taken
   pub end_step_as : (id : ℕ) (v : View) (slots : List (ℕ × Option B)) (s : Step) (c : ℕ) (w : Word)
       (written number : ℕ → ℕ) → v.active ≡ true → 0 < v.thread → c < n → IsWord n w
-      → ((h : Heap) (there : ℕ) → Known n limit h v.thread v.log → Shows h w there → there < 2 ^ 64
+      → ((h : Heap) (there : ℕ) → Known n limit h v.thread v.log → WordShows h w there → there < 2 ^ 64
       → EndsOn h v.thread s c w (written there) (number there))
       → Allows Rule n id (v, slots) (spot n w) written
-      (λ there me. Ended shows n v slots s c (number there) (takes_block s (cell_told s (number there))) me)
+      (λ there me. EndedObject shows n v slots s c (number there) (takes_block s (cell_told s (number there))) me)
   end_step_as id v slots s c w written number active some_thread low is ends st r deep at small =
       let t : ℕ = v.thread in
       let h : Heap = world n limit r.run in
@@ -182,12 +184,12 @@ module _ {B : Type 0} (shows : B → ℕ × Contents) (n limit : ℕ) where
       let e : EndsOn h t s c w (written found) there = ends h found known (r.each_word w is) small in
       elim (cases_Bool (takes_block s (cell_at h c))) [
         | inr off ↦ (
-          with_told (Did s there moves.Nothing) v,
+          with_told (Stepped s there moves.Nothing) v,
           keeps,
           tt,
           plainly shows n limit st r id v s w (written found) there at active some_thread is
               (plain_on n h t s c w (written found) there (not_taking h t s c w (written found) there e off)),
-          subst (λ b. Ended shows n v slots s c there b (with_told (Did s there moves.Nothing) v, slots))
+          subst (λ b. EndedObject shows n v slots s c there b (with_told (Stepped s there moves.Nothing) v, slots))
               (sym (e.number_tells ∙ off)) refl,
         )
         | inl on ↦
@@ -196,12 +198,12 @@ module _ {B : Type 0} (shows : B → ℕ × Contents) (n limit : ℕ) where
             let are : entries_in (shows lies.block).1 ≡ entries_at h c =
             ap entries_in lies.holds
             ∙ (contents_fit n limit r.run c r.options r.legal (record { live = e.live; off = e.unmarked })).entries in (
-              with_told (Did s there (moves.Found c (shows lies.block).1)) v,
+              with_told (Stepped s there (moves.Found c (shows lies.block).1)) v,
               takes c (Some lies.block),
               lies.there,
               taking st r id v s c w (written found) there at active some_thread low is e on lies,
-              subst (λ b. Ended shows n v slots s c there b
-                  (with_told (Did s there (moves.Found c (shows lies.block).1)) v, (c, Some lies.block) ∷ slots))
+              subst (λ b. EndedObject shows n v slots s c there b
+                  (with_told (Stepped s there (moves.Found c (shows lies.block).1)) v, (c, Some lies.block) ∷ slots))
                   (sym (e.number_tells ∙ on))
                   (record {
                     block = lies.block;
@@ -225,9 +227,9 @@ module _ {B : Type 0} (shows : B → ℕ × Contents) (n limit : ℕ) where
   -- the same of a step that is told the number that is found
   pub end_step : (id : ℕ) (v : View) (slots : List (ℕ × Option B)) (s : Step) (c : ℕ) (w : Word) (written : ℕ → ℕ)
       → v.active ≡ true → 0 < v.thread → c < n → IsWord n w
-      → ((h : Heap) (there : ℕ) → Known n limit h v.thread v.log → Shows h w there → there < 2 ^ 64
+      → ((h : Heap) (there : ℕ) → Known n limit h v.thread v.log → WordShows h w there → there < 2 ^ 64
       → EndsOn h v.thread s c w (written there) there)
       → Allows Rule n id (v, slots) (spot n w) written
-      (λ there me. Ended shows n v slots s c there (takes_block s (cell_told s there)) me)
+      (λ there me. EndedObject shows n v slots s c there (takes_block s (cell_told s there)) me)
   end_step id v slots s c w written active some_thread low is ends =
       end_step_as id v slots s c w written (λ there. there) active some_thread low is ends

@@ -5,9 +5,9 @@ use Rattle.atomic_table.specs.Table.{Me, Allows}
 use Rattle.atomic_table.proofs.Lists.{set_here}
 use Rattle.law_world.specs.Heap.{Heap}
 use Rattle.law_known.specs.declared.word.Word.{Word}
-use Rattle.law_known.specs.Items.{IsWord, Shows}
+use Rattle.law_known.specs.Items.{IsWord, WordShows}
 use Rattle.law_rule.specs.declared.contents.Contents.{Contents}
-use Rattle.law_rule.specs.declared.told.Told.{Told}
+use Rattle.law_rule.specs.declared.told.LogItem.{LogItem}
 use Rattle.law_rule.specs.declared.view.View.{View}
 use Rattle.law_rule.specs.Layout.{spot}
 use Rattle.law_rule.specs.Logs.{world}
@@ -18,7 +18,7 @@ use Rattle.law_rule.proofs.Knowing.{Known, knows}
 module _ {B : Type 0} (shows : B → ℕ × Contents) (n limit : ℕ) where
   pub tells_found : (P : ℕ → Type 0) (id : ℕ) (v : View) (slots : List (ℕ × Option B)) (w : Word) (f : ℕ → ℕ)
       (told : ℕ → Me (Option B) View → Type 0) → v.active ≡ true → 0 < v.thread → IsWord n w
-      → ((h : Heap) (there : ℕ) → Known n limit h v.thread v.log → Shows h w there → P there)
+      → ((h : Heap) (there : ℕ) → Known n limit h v.thread v.log → WordShows h w there → P there)
       → Allows (Kept shows n limit) n id (v, slots) (spot n w) f told
       → Allows (Kept shows n limit) n id (v, slots) (spot n w) f (λ there me. told there me × P there)
   tells_found P id v slots w f told active some_thread is says allowed st r deep at small =
@@ -34,10 +34,10 @@ module _ {B : Type 0} (shows : B → ℕ × Contents) (n limit : ℕ) where
         ),
       )
 
-  pub tells_after : (P : List Told → Type 0) (id : ℕ) (v : View) (slots : List (ℕ × Option B)) (w : Word) (f : ℕ → ℕ)
+  pub tells_after : (P : List LogItem → Type 0) (id : ℕ) (v : View) (slots : List (ℕ × Option B)) (w : Word) (f : ℕ → ℕ)
       (told : ℕ → Me (Option B) View → Type 0)
       → ((there : ℕ) (me : Me (Option B) View) → told there me → (me.0.active ≡ true) × (0 < me.0.thread))
-      → ((h : Heap) (t : ℕ) (log : List Told) → Known n limit h t log → P log)
+      → ((h : Heap) (t : ℕ) (log : List LogItem) → Known n limit h t log → P log)
       → Allows (Kept shows n limit) n id (v, slots) (spot n w) f told
       → Allows (Kept shows n limit) n id (v, slots) (spot n w) f (λ there me. told there me × P me.0.log)
   tells_after P id v slots w f told stays says allowed st r deep at small =

@@ -27,11 +27,11 @@ use Rattle.law_lasting.proofs.Telling.{hand_tells, popped_tells, popped_lasts}
 use Rattle.law_known.specs.declared.word.Field.TheVariants.{Owner, Shared}
 use Rattle.law_known.specs.declared.word.Word.TheVariants.{Of}
 use Rattle.law_known.specs.Free_Words.{ShowsOwner}
-use Rattle.law_known.specs.Items.{Shows}
+use Rattle.law_known.specs.Items.{WordShows}
 use Rattle.law_rule.specs.declared.contents.Contents.{Contents}
 use Rattle.law_rule.specs.declared.told.Moved.TheVariants as moves
-use Rattle.law_rule.specs.declared.told.Told.{Told}
-use Rattle.law_rule.specs.declared.told.Told.TheVariants.{Did}
+use Rattle.law_rule.specs.declared.told.LogItem.{LogItem}
+use Rattle.law_rule.specs.declared.told.LogItem.TheVariants.{Stepped}
 use Rattle.law_rule.specs.declared.view.View.{View}
 use Rattle.law_rule.specs.Layout.{spot}
 use Rattle.law_rule.specs.Rule.{with_told, Kept}
@@ -60,7 +60,7 @@ hand_active h t c p sound busy owns = elim (cases_Bool (is_active (row_at h t).s
   | inr off ↦ absurd (true≢false (sym owns ∙ sym (ap is_active_hand busy) ∙ (sound.threads t).inactive_hand off))
 ]
 
-unties : (n limit : ℕ) (h : Heap) (t : ℕ) (log : List Told) (c : ℕ) → 0 < t → Known n limit h t log
+unties : (n limit : ℕ) (h : Heap) (t : ℕ) (log : List LogItem) (c : ℕ) → 0 < t → Known n limit h t log
     → own_may n (part_seen n log) (Untie c) ≡ true → MayUntie h t c
     → IsPlain n h t (Untie c) (Of Owner c) 0 0
 unties n limit h t log c some_thread known own ways =
@@ -86,7 +86,7 @@ unties n limit h t log c some_thread known own ways =
 
 -- ---- at count 0
 
-over_way : (n limit : ℕ) (h : Heap) (t : ℕ) (log : List Told) (c : ℕ) → Known n limit h t log → UntiesOver n log c
+over_way : (n limit : ℕ) (h : Heap) (t : ℕ) (log : List LogItem) (c : ℕ) → Known n limit h t log → UntiesOver n log c
     → MayUntie h t c
 over_way n limit h t log c known way =
     let busy : (row_at h t).hand ≡ hands.Busy phases.Over c = hand_in n limit h t log log (hands.Busy phases.Over c)
@@ -100,7 +100,7 @@ over_way n limit h t log c known way =
 
 -- ---- to be handed over
 
-offered_way : (n limit : ℕ) (h : Heap) (t : ℕ) (log : List Told) (c : ℕ) → Known n limit h t log
+offered_way : (n limit : ℕ) (h : Heap) (t : ℕ) (log : List LogItem) (c : ℕ) → Known n limit h t log
     → UntiesOffered n log c → MayUntie h t c
 offered_way n limit h t log c known way =
     let busy : (row_at h t).hand ≡ hands.Busy phases.Offered c =
@@ -124,7 +124,7 @@ own_popped_lasts t c h e reached ok others was =
     record { local = was.local; own = popped_lasts t c was.local h e reached ok others was.own }
 
 noted_unmerged : (h : Heap) (t c number : ℕ) → IsReached h → (row_at h t).hand ≡ hands.Free
-    → bit_of (popped_at h t) c ≡ 1 → Shows h (Of Shared c) number → number % 4 ≢ 3 → Popped h t c
+    → bit_of (popped_at h t) c ≡ 1 → WordShows h (Of Shared c) number → number % 4 ≢ 3 → Popped h t c
 noted_unmerged h t c number reached free bit found other = elim (popped_tells h t c reached free bit) [
   | inl merged ↦ absurd (unmerged_word (cell_at h c).count (cell_at h c).state number found other merged)
   | inr his ↦ record {
@@ -138,7 +138,7 @@ noted_unmerged h t c number reached free bit found other = elim (popped_tells h 
   }
 ]
 
-popped_way : (n limit : ℕ) (h : Heap) (t : ℕ) (log : List Told) (c number : ℕ) → 0 < t → Known n limit h t log
+popped_way : (n limit : ℕ) (h : Heap) (t : ℕ) (log : List LogItem) (c number : ℕ) → 0 < t → Known n limit h t log
     → UntiesPopped n log c number → MayUntie h t c
 popped_way n limit h t log c number some_thread known way =
     let bit : bit_of (part_seen n log).popped c ≡ 1 = eqb-true (bit_of (part_seen n log).popped c) 1
@@ -167,7 +167,7 @@ module _ {B : Type 0} (shows : B → ℕ × Contents) (n limit : ℕ) where
   pub unties_over : (id : ℕ) (v : View) (slots : List (ℕ × Option B)) (c : ℕ) → v.active ≡ true → 0 < v.thread → c < n
       → UntiesOver n v.log c
       → Allows Rule n id (v, slots) (spot n (Of Owner c)) (λ there. 0)
-      (λ there me. me ≡ (with_told (Did (Untie c) 0 moves.Nothing) v, slots))
+      (λ there me. me ≡ (with_told (Stepped (Untie c) 0 moves.Nothing) v, slots))
   unties_over id v slots c active some_thread low way =
       plain_step shows n limit id v slots (Untie c) (Of Owner c) (λ there. 0) (λ there. 0) active some_thread low
       (λ h there known shown small. unties n limit h v.thread v.log c some_thread known way.own
@@ -176,7 +176,7 @@ module _ {B : Type 0} (shows : B → ℕ × Contents) (n limit : ℕ) where
   pub unties_offered : (id : ℕ) (v : View) (slots : List (ℕ × Option B)) (c : ℕ) → v.active ≡ true → 0 < v.thread
       → c < n → UntiesOffered n v.log c
       → Allows Rule n id (v, slots) (spot n (Of Owner c)) (λ there. 0)
-      (λ there me. me ≡ (with_told (Did (Untie c) 0 moves.Nothing) v, slots))
+      (λ there me. me ≡ (with_told (Stepped (Untie c) 0 moves.Nothing) v, slots))
   unties_offered id v slots c active some_thread low way =
       plain_step shows n limit id v slots (Untie c) (Of Owner c) (λ there. 0) (λ there. 0) active some_thread low
       (λ h there known shown small. unties n limit h v.thread v.log c some_thread known way.own
@@ -185,7 +185,7 @@ module _ {B : Type 0} (shows : B → ℕ × Contents) (n limit : ℕ) where
   pub unties_popped : (id : ℕ) (v : View) (slots : List (ℕ × Option B)) (c number : ℕ) → v.active ≡ true → 0 < v.thread
       → c < n → UntiesPopped n v.log c number
       → Allows Rule n id (v, slots) (spot n (Of Owner c)) (λ there. 0)
-      (λ there me. me ≡ (with_told (Did (Untie c) 0 moves.Nothing) v, slots))
+      (λ there me. me ≡ (with_told (Stepped (Untie c) 0 moves.Nothing) v, slots))
   unties_popped id v slots c number active some_thread low way =
       plain_step shows n limit id v slots (Untie c) (Of Owner c) (λ there. 0) (λ there. 0) active some_thread low
       (λ h there known shown small. unties n limit h v.thread v.log c some_thread known way.own

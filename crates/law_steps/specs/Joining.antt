@@ -7,7 +7,7 @@ use Rattle.law_world.specs.Steps.{is_left, is_free_hand}
 use Rattle.law_known.specs.Start.{runs_in}
 use Rattle.law_known.specs.Root.{rows_of, registrations_of, next_number}
 use Rattle.law_rule.specs.declared.told.Moved.TheVariants as moves
-use Rattle.law_rule.specs.declared.told.Told.TheVariants.{Did}
+use Rattle.law_rule.specs.declared.told.LogItem.TheVariants.{Stepped}
 use Rattle.law_rule.specs.declared.view.View.{View}
 use Rattle.law_rule.specs.Logs.{log_items, begins}
 use Rattle.law_rule.specs.Rule.{with_told}
@@ -26,20 +26,20 @@ registrations v = registrations_of (log_items v.log)
 
 -- the root's view after it
 abbrev pub registering : View → View
-registering v = with_told (Did (Register (next_thread v)) 0 moves.Nothing) v
+registering v = with_told (Stepped (Register (next_thread v)) 0 moves.Nothing) v
 
 -- the new thread's
 abbrev pub starting : View → View
 starting v = record {
   active = true;
   thread = next_thread v;
-  log = begins (is_again v) (Did (Register (next_thread v)) 0 moves.Nothing);
+  log = begins (is_again v) (Stepped (Register (next_thread v)) 0 moves.Nothing);
   gathered = [];
 }
 
 -- the root's view with that of a thread that has left
 abbrev pub gathering : View → View → View
-gathering v w = record (with_told (Did (Gather w.thread) 0 moves.Nothing) v) {
+gathering v w = record (with_told (Stepped (Gather w.thread) 0 moves.Nothing) v) {
   gathered = (w.thread, w.log)
       ∷ v.gathered;
 }
@@ -49,14 +49,14 @@ abbrev pub spent : View
 spent = record { active = false; thread = 0; log = []; gathered = [] }
 
 -- the root's own, with a thread still to be had
-pub record Registers (v : View) : Type 0 where
+pub record MayRegister (v : View) : Type 0 where
   pub active : v.active ≡ true
   pub root : v.thread ≡ 0
   pub few : next_thread v ≤ MOST_THREADS
   pub more : registrations v < MOST_REGISTRATIONS
 
 -- a thread that has left and holds nothing
-pub record Leaves (n : ℕ) (w : View) : Type 0 where
+pub record HasLeft (n : ℕ) (w : View) : Type 0 where
   pub active : w.active ≡ true
   pub some_thread : 0 < w.thread
   pub left : is_left (part_seen n w.log).row.stage ≡ true

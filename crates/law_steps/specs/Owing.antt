@@ -18,14 +18,14 @@ use Rattle.law_known.specs.Items.{meant}
 use Rattle.law_known.specs.Owners_Seen.{has_seen_owner}
 use Rattle.brc_words.specs.declared.kind.Kind.{Kind}
 use Rattle.law_rule.specs.declared.contents.Contents.{Contents}
-use Rattle.law_rule.specs.declared.told.Told.{Told}
+use Rattle.law_rule.specs.declared.told.LogItem.{LogItem}
 use Rattle.law_rule.specs.Keys.{KeysGo}
 use Rattle.law_rule.specs.Logs.{kind_in, entries_in, log_items}
 use Rattle.law_rule.specs.Seen.{part_seen, counts_seen, risen_seen, contents_locked, own_may}
 use Rattle.law_rule.specs.Noted.{noted, newest_step}
 
 -- an own object whose count may rise
-pub record Raises (n limit : ℕ) (log : List Told) (source : Source) (k c count : ℕ) : Type 0 where
+pub record MayRaise (n limit : ℕ) (log : List LogItem) (source : Source) (k c count : ℕ) : Type 0 where
   pub own : own_may n (part_seen n log) (LocalUp source k) ≡ true
   pub cell : meant (part_seen n log) (LocalUp source k) ≡ Some c
   pub mortal : FIRST_MORTAL ≤ c
@@ -33,45 +33,45 @@ pub record Raises (n limit : ℕ) (log : List Told) (source : Source) (k c count
   pub some_count : 0 < count
   pub below : count < limit
 
-pub record RaisesImmortal (n : ℕ) (log : List Told) (source : Source) (k c : ℕ) : Type 0 where
+pub record MayRaiseImmortal (n : ℕ) (log : List LogItem) (source : Source) (k c : ℕ) : Type 0 where
   pub own : own_may n (part_seen n log) (LocalUp source k) ≡ true
   pub cell : meant (part_seen n log) (LocalUp source k) ≡ Some c
   pub immortal : c < FIRST_MORTAL
 
 -- an own object
-pub record Lowers (n : ℕ) (log : List Told) (drop : Dropped) (c count : ℕ) : Type 0 where
+pub record MayLower (n : ℕ) (log : List LogItem) (drop : Dropped) (c count : ℕ) : Type 0 where
   pub own : own_may n (part_seen n log) (LocalDown drop) ≡ true
   pub cell : meant (part_seen n log) (LocalDown drop) ≡ Some c
   pub mortal : FIRST_MORTAL ≤ c
   pub counted : counts_seen n log c ≡ count
   pub some_count : 0 < count
 
-pub record LowersImmortal (n : ℕ) (log : List Told) (drop : Dropped) (c : ℕ) : Type 0 where
+pub record MayLowerImmortal (n : ℕ) (log : List LogItem) (drop : Dropped) (c : ℕ) : Type 0 where
   pub own : own_may n (part_seen n log) (LocalDown drop) ≡ true
   pub cell : meant (part_seen n log) (LocalDown drop) ≡ Some c
   pub immortal : c < FIRST_MORTAL
 
 -- an object on whose local word the thread doesn't count, or has counted up to the limit
-pub record RaisesShared (n limit : ℕ) (log : List Told) (source : Source) (k c : ℕ) : Type 0 where
+pub record MayRaiseShared (n limit : ℕ) (log : List LogItem) (source : Source) (k c : ℕ) : Type 0 where
   pub own : own_may n (part_seen n log) (SharedUp source k) ≡ true
   pub cell : meant (part_seen n log) (SharedUp source k) ≡ Some c
   pub mortal : FIRST_MORTAL ≤ c
   pub counted : (counts_seen n log c ≡ 0) ⊎ (limit ≤ counts_seen n log c)
 
 -- a reference to an object on whose local word the thread doesn't count
-pub record Releases (n : ℕ) (log : List Told) (s : Step) (c : ℕ) : Type 0 where
+pub record MayRelease (n : ℕ) (log : List LogItem) (s : Step) (c : ℕ) : Type 0 where
   pub own : own_may n (part_seen n log) s ≡ true
   pub cell : meant (part_seen n log) s ≡ Some c
   pub mortal : FIRST_MORTAL ≤ c
   pub counted : counts_seen n log c ≡ 0
 
 -- the thread's own part allows a step on the cell in its hand, or on one that it names itself
-pub record Carries (n : ℕ) (log : List Told) (s : Step) (c : ℕ) : Type 0 where
+pub record MayCarry (n : ℕ) (log : List LogItem) (s : Step) (c : ℕ) : Type 0 where
   pub own : own_may n (part_seen n log) s ≡ true
   pub cell : meant (part_seen n log) s ≡ Some c
 
 -- a reference to an object that the thread has seen queued or merged
-pub record EndsRisen (n : ℕ) (log : List Told) (drop : Dropped) (c : ℕ) : Type 0 where
+pub record EndsRisen (n : ℕ) (log : List LogItem) (drop : Dropped) (c : ℕ) : Type 0 where
   pub own : own_may n (part_seen n log) (LastDown (lasts.Dropped drop)) ≡ true
   pub cell : meant (part_seen n log) (LastDown (lasts.Dropped drop)) ≡ Some c
   pub mortal : FIRST_MORTAL ≤ c
@@ -79,12 +79,12 @@ pub record EndsRisen (n : ℕ) (log : List Told) (drop : Dropped) (c : ℕ) : Ty
   pub risen : risen_seen n log drop c ≡ true
 
 -- a mortal cell to make an object in
-pub record Claims (n : ℕ) (log : List Told) (c : ℕ) : Type 0 where
+pub record MayClaimCell (n : ℕ) (log : List LogItem) (c : ℕ) : Type 0 where
   pub own : own_may n (part_seen n log) (Claim c) ≡ true
   pub mortal : FIRST_MORTAL ≤ c
 
 -- a block that is put home as a new object of the cell
-pub record Bears (n : ℕ) (log : List Told) (block : ℕ × Contents) (kind : Kind) (k c : ℕ) : Type 0 where
+pub record MayBear (n : ℕ) (log : List LogItem) (block : ℕ × Contents) (kind : Kind) (k c : ℕ) : Type 0 where
   pub own : own_may n (part_seen n log) (Birth c kind k) ≡ true
   pub of_cell : block.0 ≡ c
   pub kind_is : kind_in block.1 ≡ kind
@@ -92,7 +92,7 @@ pub record Bears (n : ℕ) (log : List Told) (block : ℕ × Contents) (kind : K
 
 -- The block of the locked object, changed as the unlock says: it is of the kind that the locking found, and has the
 -- entries and the keys that the change makes of those found; where nothing changes it is as it was found.
-pub record Unlocks (n : ℕ) (log : List Told) (block : ℕ × Contents) (found : Contents) (change : Change)
+pub record MayUnlock (n : ℕ) (log : List LogItem) (block : ℕ × Contents) (found : Contents) (change : Change)
     (c : ℕ) : Type 0 where
   pub own : own_may n (part_seen n log) (Unlock change) ≡ true
   pub cell : meant (part_seen n log) (Unlock change) ≡ Some c
@@ -105,17 +105,17 @@ pub record Unlocks (n : ℕ) (log : List Told) (block : ℕ × Contents) (found 
   pub kept : is_keep change ≡ true → block.1 ≡ found
 
 -- the thread's own part allows a step on a word that is no cell's
-pub record Allowed (n : ℕ) (log : List Told) (s : Step) : Type 0 where
+pub record MayStep (n : ℕ) (log : List LogItem) (s : Step) : Type 0 where
   pub own : own_may n (part_seen n log) s ≡ true
 
 -- The next queue word. A thread that closes the first counts nothing any more: what it still owns is dead, and its own
 -- to take apart.
-pub record Closes (n : ℕ) (log : List Told) (k : ℕ) : Type 0 where
+pub record MayClose (n : ℕ) (log : List LogItem) (k : ℕ) : Type 0 where
   pub own : own_may n (part_seen n log) (Close k) ≡ true
   pub none : (c : ℕ) → FIRST_MORTAL ≤ c → c < n → counts_seen n log c ≡ 0
 
 -- a thread that was found as an owner, and one of its queue words
-pub record Tells (n : ℕ) (log : List Told) (q k : ℕ) : Type 0 where
+pub record MayNudge (n : ℕ) (log : List LogItem) (q k : ℕ) : Type 0 where
   pub own : own_may n (part_seen n log) (Nudge q k) ≡ true
   pub seen : has_seen_owner (log_items log) q ≡ true
   pub some_thread : 0 < q
@@ -125,39 +125,39 @@ pub record Tells (n : ℕ) (log : List Told) (q k : ℕ) : Type 0 where
 -- ---- steps by a note: a look at a word of the cell, and no step of the thread's own since
 
 -- a popped entry of an object that is noted as merged
-pub record EndsPopped (n : ℕ) (log : List Told) (c number : ℕ) : Type 0 where
+pub record EndsPopped (n : ℕ) (log : List LogItem) (c number : ℕ) : Type 0 where
   pub own : own_may n (part_seen n log) (LastDown (lasts.Popped c)) ≡ true
   pub found : noted Shared c log ≡ Some number
   pub merged : number % 4 ≡ 3
 
 -- a popped entry of an object that the thread has just merged
-pub record EndsAdded (n : ℕ) (log : List Told) (c : ℕ) : Type 0 where
+pub record EndsAdded (n : ℕ) (log : List LogItem) (c : ℕ) : Type 0 where
   pub own : own_may n (part_seen n log) (LastDown (lasts.Popped c)) ≡ true
   pub added : newest_step log ≡ Some (MergeAdd c)
 
 -- a popped entry, once the thread isn't active any more: what it owned it has handed over, so the object is merged
-pub record EndsLeft (n : ℕ) (log : List Told) (c : ℕ) : Type 0 where
+pub record EndsLeft (n : ℕ) (log : List LogItem) (c : ℕ) : Type 0 where
   pub own : own_may n (part_seen n log) (LastDown (lasts.Popped c)) ≡ true
   pub left : is_active (part_seen n log).row.stage ≡ false
 
 -- a reference that a closed queue word didn't take: the object's owner has handed it over
-pub record EndsShut (n : ℕ) (log : List Told) (c : ℕ) : Type 0 where
+pub record EndsShut (n : ℕ) (log : List LogItem) (c : ℕ) : Type 0 where
   pub own : own_may n (part_seen n log) (LastDown lasts.Hand) ≡ true
   pub hand : (part_seen n log).row.hand ≡ hands.Busy phases.Shut c
 
 -- a reference that was asked for, of an object that is noted as nobody's
-pub record EndsNobodys (n : ℕ) (log : List Told) (c : ℕ) : Type 0 where
+pub record EndsNobodys (n : ℕ) (log : List LogItem) (c : ℕ) : Type 0 where
   pub own : own_may n (part_seen n log) (LastDown lasts.Hand) ≡ true
   pub cell : meant (part_seen n log) (LastDown lasts.Hand) ≡ Some c
   pub found : noted Owner c log ≡ Some 0
 
 -- an own object whose count is 0, and which others counted or asked for
-pub record UntiesOver (n : ℕ) (log : List Told) (c : ℕ) : Type 0 where
+pub record UntiesOver (n : ℕ) (log : List LogItem) (c : ℕ) : Type 0 where
   pub own : own_may n (part_seen n log) (Untie c) ≡ true
   pub hand : (part_seen n log).row.hand ≡ hands.Busy phases.Over c
 
 -- An own object of which the thread has a count, to be handed over. That no thread has it to take apart, the count says.
-pub record Offers (n : ℕ) (log : List Told) (c : ℕ) : Type 0 where
+pub record Offers (n : ℕ) (log : List LogItem) (c : ℕ) : Type 0 where
   pub active : is_active (part_seen n log).row.stage ≡ true
   pub unlocked : (part_seen n log).row.locked ≡ None
   pub hand : (part_seen n log).row.hand ≡ hands.Free
@@ -165,12 +165,12 @@ pub record Offers (n : ℕ) (log : List Told) (c : ℕ) : Type 0 where
   pub some_count : 0 < counts_seen n log c
 
 -- an own object that the thread has offered
-pub record UntiesOffered (n : ℕ) (log : List Told) (c : ℕ) : Type 0 where
+pub record UntiesOffered (n : ℕ) (log : List LogItem) (c : ℕ) : Type 0 where
   pub own : own_may n (part_seen n log) (Untie c) ≡ true
   pub hand : (part_seen n log).row.hand ≡ hands.Busy phases.Offered c
 
 -- a popped entry of an object that is noted as not merged
-pub record UntiesPopped (n : ℕ) (log : List Told) (c number : ℕ) : Type 0 where
+pub record UntiesPopped (n : ℕ) (log : List LogItem) (c number : ℕ) : Type 0 where
   pub own : own_may n (part_seen n log) (Untie c) ≡ true
   pub active : is_active (part_seen n log).row.stage ≡ true
   pub hand : (part_seen n log).row.hand ≡ hands.Free
@@ -178,19 +178,19 @@ pub record UntiesPopped (n : ℕ) (log : List Told) (c number : ℕ) : Type 0 wh
   pub unmerged : number % 4 ≢ 3
 
 -- an object of which the thread has popped a reference and that it has made nobody's, with its local count as noted
-pub record AddsLocal (n : ℕ) (log : List Told) (c local : ℕ) : Type 0 where
+pub record AddsLocal (n : ℕ) (log : List LogItem) (c local : ℕ) : Type 0 where
   pub own : own_may n (part_seen n log) (MergeAdd c) ≡ true
   pub hand : (part_seen n log).row.hand ≡ hands.Busy phases.Popping c
   pub found : noted Local c log ≡ Some local
 
 -- an object that the thread hands over, with its local count as it is noted
-pub record Yields (n : ℕ) (log : List Told) (c local : ℕ) : Type 0 where
+pub record MayYield (n : ℕ) (log : List LogItem) (c local : ℕ) : Type 0 where
   pub own : own_may n (part_seen n log) (MergeAdd c) ≡ true
   pub hand : (part_seen n log).row.hand ≡ hands.Busy phases.Yielding c
   pub found : noted Local c log ≡ Some local
 
 -- an object that the thread has asked for, and that is noted as thread q's
-pub record Enqueues (n : ℕ) (log : List Told) (c q : ℕ) : Type 0 where
+pub record Enqueues (n : ℕ) (log : List LogItem) (c q : ℕ) : Type 0 where
   pub own : own_may n (part_seen n log) (Enqueue c) ≡ true
   pub found : noted Owner c log ≡ Some q
   pub owned : 0 < q

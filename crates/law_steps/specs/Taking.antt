@@ -11,7 +11,7 @@ use Rattle.law_known.specs.declared.word.Field.TheVariants.{Mutex}
 use Rattle.law_known.specs.declared.word.Word.TheVariants.{Of, FreeWord}
 use Rattle.law_rule.specs.declared.contents.Contents.{Contents}
 use Rattle.law_rule.specs.declared.told.Moved.TheVariants as moves
-use Rattle.law_rule.specs.declared.told.Told.TheVariants.{Did, Lost}
+use Rattle.law_rule.specs.declared.told.LogItem.TheVariants.{Stepped, Lost}
 use Rattle.law_rule.specs.declared.view.View.{View}
 use Rattle.law_rule.specs.Logs.{entries_in}
 use Rattle.law_rule.specs.Rule.{with_told}
@@ -40,19 +40,19 @@ pub record TookBlock {B : Type 0} (shows : B → ℕ × Contents) (n : ℕ) (v :
   pub fresh : listed_at (taken_seen n v.log) c ≡ None
   pub entries : AreCells n (entries_in (shows block).1)
   pub few : length (entries_in (shows block).1) ≤ MOST_ENTRIES
-  pub after_is : me ≡ (with_told (Did s number (moves.Found c (shows block).1)) v, (c, Some block) ∷ slots)
+  pub after_is : me ≡ (with_told (Stepped s number (moves.Found c (shows block).1)) v, (c, Some block) ∷ slots)
 
-abbrev pub Ended : {B : Type 0} → (B → ℕ × Contents) → ℕ → View → List (ℕ × Option B) → Step → ℕ → ℕ → Bool
+abbrev pub EndedObject : {B : Type 0} → (B → ℕ × Contents) → ℕ → View → List (ℕ × Option B) → Step → ℕ → ℕ → Bool
     → Me (Option B) View → Type 0
-Ended shows n v slots s c number false me = me ≡ (with_told (Did s number moves.Nothing) v, slots)
-Ended shows n v slots s c number true me = TookBlock shows n v slots s c number me
+EndedObject shows n v slots s c number false me = me ≡ (with_told (Stepped s number moves.Nothing) v, slots)
+EndedObject shows n v slots s c number true me = TookBlock shows n v slots s c number me
 
 -- The seat has the cell's empty slot now, and its log the free word as it was. The cell was none of the dead blocks
 -- that the seat had.
 pub record TookSlot {B : Type 0} (n : ℕ) (v : View) (slots : List (ℕ × Option B)) (c number : ℕ)
     (me : Me (Option B) View) : Type 0 where
   pub fresh : listed_at (taken_seen n v.log) c ≡ None
-  pub after_is : me ≡ (with_told (Did (Claim c) number moves.Nothing) v, (c, None) ∷ slots)
+  pub after_is : me ≡ (with_told (Stepped (Claim c) number moves.Nothing) v, (c, None) ∷ slots)
 
 -- The cell is the thread's to make an object in, and its empty slot is out with the seat; or it wasn't free, and the
 -- step is a note.
@@ -68,7 +68,7 @@ pub record TookLocked {B : Type 0} (shows : B → ℕ × Contents) (n : ℕ) (v 
   pub own : FindsOwn n v.log c (shows took.block).1
 
 -- The object is locked; or its mutex wasn't 0.
-abbrev pub Locked : {B : Type 0} → (B → ℕ × Contents) → ℕ → View → List (ℕ × Option B) → ℕ → ℕ → ℕ → Bool
+abbrev pub LockedOrBusy : {B : Type 0} → (B → ℕ × Contents) → ℕ → View → List (ℕ × Option B) → ℕ → ℕ → ℕ → Bool
     → Me (Option B) View → Type 0
-Locked shows n v slots k c number true me = TookLocked shows n v slots k c 0 me
-Locked shows n v slots k c number false me = me ≡ (with_told (Lost (Of Mutex c) number) v, slots)
+LockedOrBusy shows n v slots k c number true me = TookLocked shows n v slots k c 0 me
+LockedOrBusy shows n v slots k c number false me = me ≡ (with_told (Lost (Of Mutex c) number) v, slots)

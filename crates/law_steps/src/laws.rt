@@ -20,17 +20,19 @@ ghost use Rattle.law_known.specs.declared.word.Word.TheVariants as words;
 ghost use Rattle.law_known.specs.Items.{cell_told};
 ghost use Rattle.law_rule.specs.declared.contents.Contents.{Contents as contents};
 ghost use Rattle.law_rule.specs.declared.told.Moved.TheVariants as moves;
-ghost use Rattle.law_rule.specs.declared.told.Told.TheVariants as told;
+ghost use Rattle.law_rule.specs.declared.told.LogItem.TheVariants as told;
 ghost use Rattle.law_rule.specs.declared.view.View.{View as view};
 ghost use Rattle.law_rule.specs.Layout.{spot};
 ghost use Rattle.law_rule.specs.Rule.{with_told, Kept};
-ghost use Rattle.law_steps.specs.Owing.{Raises, RaisesImmortal, Lowers, LowersImmortal, RaisesShared, Releases};
-ghost use Rattle.law_steps.specs.Owing.{Carries, EndsRisen, Claims, Bears, Unlocks, Allowed, Tells, EndsPopped};
+ghost use Rattle.law_steps.specs.Owing.{MayRaise, MayRaiseImmortal, MayLower, MayLowerImmortal, MayRaiseShared};
+ghost use Rattle.law_steps.specs.Owing.{MayRelease};
+ghost use Rattle.law_steps.specs.Owing.{MayCarry, EndsRisen, MayClaimCell, MayBear, MayUnlock, MayStep, MayNudge};
+ghost use Rattle.law_steps.specs.Owing.{EndsPopped};
 ghost use Rattle.law_steps.specs.Owing.{EndsAdded, EndsLeft, EndsShut, EndsNobodys, UntiesOver, UntiesOffered};
 ghost use Rattle.law_steps.specs.Owing.{UntiesPopped};
-ghost use Rattle.law_steps.specs.Owing.{AddsLocal, Yields, Offers, Closes, Enqueues};
-ghost use Rattle.law_steps.specs.Taking.{AreQueued, CountsSome, Ended, Claimed, Locked};
-ghost use Rattle.law_steps.specs.Joining.{registering, starting, gathering, spent, Registers, Leaves};
+ghost use Rattle.law_steps.specs.Owing.{AddsLocal, MayYield, Offers, MayClose, Enqueues};
+ghost use Rattle.law_steps.specs.Taking.{AreQueued, CountsSome, EndedObject, Claimed, LockedOrBusy};
+ghost use Rattle.law_steps.specs.Joining.{registering, starting, gathering, spent, MayRegister, HasLeft};
 
 /// An owner counts by plain stores of the number that its log tells, without a look. An immortal's count is read, and
 /// stays.
@@ -38,24 +40,24 @@ ghost use Rattle.law_steps.specs.Joining.{registering, starting, gathering, spen
 pub fn owners_count<B>()
     ensures up { (shows : B → ℕ × contents) (n limit id : ℕ) (v : view) (slots : List (ℕ × Option B)) (source : source)
         (k c count : ℕ)
-        → v.active ≡ true → 0 < v.thread → c < n → Raises n limit v.log source k c count
+        → v.active ≡ true → 0 < v.thread → c < n → MayRaise n limit v.log source k c count
         → Allows (Kept shows n limit) n id (v, slots) (spot n (words.Of fields.Local c)) (λ there. count + 1)
-        (λ there me. me ≡ (with_told (told.Did (steps.LocalUp source k) (count + 1) moves.Nothing) v, slots)) }
+        (λ there me. me ≡ (with_told (told.Stepped (steps.LocalUp source k) (count + 1) moves.Nothing) v, slots)) }
     ensures down { (shows : B → ℕ × contents) (n limit id : ℕ) (v : view) (slots : List (ℕ × Option B)) (drop : dropped)
         (c count : ℕ)
-        → v.active ≡ true → 0 < v.thread → c < n → Lowers n v.log drop c count
+        → v.active ≡ true → 0 < v.thread → c < n → MayLower n v.log drop c count
         → Allows (Kept shows n limit) n id (v, slots) (spot n (words.Of fields.Local c)) (λ there. count - 1)
-        (λ there me. me ≡ (with_told (told.Did (steps.LocalDown drop) (count - 1) moves.Nothing) v, slots)) }
+        (λ there me. me ≡ (with_told (told.Stepped (steps.LocalDown drop) (count - 1) moves.Nothing) v, slots)) }
     ensures immortal_up { (shows : B → ℕ × contents) (n limit id : ℕ) (v : view) (slots : List (ℕ × Option B))
         (source : source) (k c : ℕ)
-        → v.active ≡ true → 0 < v.thread → c < n → RaisesImmortal n v.log source k c
+        → v.active ≡ true → 0 < v.thread → c < n → MayRaiseImmortal n v.log source k c
         → Allows (Kept shows n limit) n id (v, slots) (spot n (words.Of fields.Local c)) (λ there. there)
-        (λ there me. me ≡ (with_told (told.Did (steps.LocalUp source k) there moves.Nothing) v, slots)) }
+        (λ there me. me ≡ (with_told (told.Stepped (steps.LocalUp source k) there moves.Nothing) v, slots)) }
     ensures immortal_down { (shows : B → ℕ × contents) (n limit id : ℕ) (v : view) (slots : List (ℕ × Option B))
         (drop : dropped) (c : ℕ)
-        → v.active ≡ true → 0 < v.thread → c < n → LowersImmortal n v.log drop c
+        → v.active ≡ true → 0 < v.thread → c < n → MayLowerImmortal n v.log drop c
         → Allows (Kept shows n limit) n id (v, slots) (spot n (words.Of fields.Local c)) (λ there. there)
-        (λ there me. me ≡ (with_told (told.Did (steps.LocalDown drop) there moves.Nothing) v, slots)) }
+        (λ there me. me ≡ (with_told (told.Stepped (steps.LocalDown drop) there moves.Nothing) v, slots)) }
 {}
 
 /// Who doesn't own counts on the shared word: up by an addition of 4, down by a compare-exchange of a word that says
@@ -64,47 +66,47 @@ pub fn owners_count<B>()
 pub fn others_count<B>()
     ensures up { (shows : B → ℕ × contents) (n limit id : ℕ) (v : view) (slots : List (ℕ × Option B))
         (source : source) (k c : ℕ)
-        → v.active ≡ true → 0 < v.thread → c < n → RaisesShared n limit v.log source k c
+        → v.active ≡ true → 0 < v.thread → c < n → MayRaiseShared n limit v.log source k c
         → Allows (Kept shows n limit) n id (v, slots) (spot n (words.Of fields.Shared c))
         (λ there. (there + 4) % 2 ^ 64)
-        (λ there me. me ≡ (with_told (told.Did (steps.SharedUp source k) there moves.Nothing) v, slots)) }
+        (λ there me. me ≡ (with_told (told.Stepped (steps.SharedUp source k) there moves.Nothing) v, slots)) }
     ensures down { (shows : B → ℕ × contents) (n limit id : ℕ) (v : view) (slots : List (ℕ × Option B)) (drop : dropped)
         (c old : ℕ)
-        → v.active ≡ true → 0 < v.thread → c < n → Releases n v.log (steps.SharedDown drop) c
+        → v.active ≡ true → 0 < v.thread → c < n → MayRelease n v.log (steps.SharedDown drop) c
         → old % 4 ≡ 0 → 2 ^ 42 + 4 ≤ old
         → Allows (Kept shows n limit) n id (v, slots) (spot n (words.Of fields.Shared c))
         (λ there. either (there == old) (old - 4) there)
         (λ there me. me ≡ (
-          (if there == old then with_told (told.Did (steps.SharedDown drop) old moves.Nothing) v
+          (if there == old then with_told (told.Stepped (steps.SharedDown drop) old moves.Nothing) v
               else with_told (told.Lost (words.Of fields.Shared c) there) v),
           slots,
         )) }
     ensures ask { (shows : B → ℕ × contents) (n limit id : ℕ) (v : view) (slots : List (ℕ × Option B))
         (drop : dropped) (c : ℕ)
-        → v.active ≡ true → 0 < v.thread → c < n → Releases n v.log (steps.Ask drop) c
+        → v.active ≡ true → 0 < v.thread → c < n → MayRelease n v.log (steps.Ask drop) c
         → Allows (Kept shows n limit) n id (v, slots) (spot n (words.Of fields.Shared c)) (λ there. bit_or there 2)
-        (λ there me. me ≡ (with_told (told.Did (steps.Ask drop) there moves.Nothing) v, slots)) }
+        (λ there me. me ≡ (with_told (told.Stepped (steps.Ask drop) there moves.Nothing) v, slots)) }
 {}
 
 /// An object ends where the number found says so: the seat then has its block, with the contents that were in it.
 #[tactic(auto, using(crate::proofs::Ending_Steps::ends_at_zero, crate::proofs::Ending_Steps::merges_at_zero, crate::proofs::Ending_Steps::counts_last))]
 pub fn objects_end<B>()
     ensures see_zero { (shows : B → ℕ × contents) (n limit id : ℕ) (v : view) (slots : List (ℕ × Option B)) (c : ℕ)
-        → v.active ≡ true → 0 < v.thread → c < n → Carries n v.log (steps.SeeZero c) c
+        → v.active ≡ true → 0 < v.thread → c < n → MayCarry n v.log (steps.SeeZero c) c
         → Allows (Kept shows n limit) n id (v, slots) (spot n (words.Of fields.Shared c)) (λ there. there)
-        (λ there me. Ended shows n v slots (steps.SeeZero c) c there
+        (λ there me. EndedObject shows n v slots (steps.SeeZero c) c there
         (takes_block (steps.SeeZero c) (cell_told (steps.SeeZero c) there)) me) }
     ensures merge_zero { (shows : B → ℕ × contents) (n limit id : ℕ) (v : view) (slots : List (ℕ × Option B)) (c : ℕ)
-        → v.active ≡ true → 0 < v.thread → c < n → Carries n v.log (steps.MergeZero c) c
+        → v.active ≡ true → 0 < v.thread → c < n → MayCarry n v.log (steps.MergeZero c) c
         → Allows (Kept shows n limit) n id (v, slots) (spot n (words.Of fields.Shared c)) (λ there. bit_or there 3)
-        (λ there me. Ended shows n v slots (steps.MergeZero c) c there
+        (λ there me. EndedObject shows n v slots (steps.MergeZero c) c there
         (takes_block (steps.MergeZero c) (cell_told (steps.MergeZero c) there)) me) }
     ensures last_down { (shows : B → ℕ × contents) (n limit id : ℕ) (v : view) (slots : List (ℕ × Option B))
         (drop : dropped) (c : ℕ)
         → v.active ≡ true → 0 < v.thread → c < n → EndsRisen n v.log drop c
         → Allows (Kept shows n limit) n id (v, slots) (spot n (words.Of fields.Shared c))
         (λ there. (there + (2 ^ 64 - 4)) % 2 ^ 64)
-        (λ there me. Ended shows n v slots (steps.LastDown (lasts.Dropped drop)) c there
+        (λ there me. EndedObject shows n v slots (steps.LastDown (lasts.Dropped drop)) c there
         (takes_block (steps.LastDown (lasts.Dropped drop))
         (cell_told (steps.LastDown (lasts.Dropped drop)) there)) me) }
 {}
@@ -115,33 +117,33 @@ pub fn objects_end<B>()
 #[tactic(auto, using(crate::proofs::Making_Steps::claims_cell, crate::proofs::Making_Steps::sets_local, crate::proofs::Making_Steps::sets_shared, crate::proofs::Making_Steps::bears_object, crate::proofs::Making_Steps::frees_cell))]
 pub fn cells_are_used_again<B>()
     ensures claim { (shows : B → ℕ × contents) (n limit id : ℕ) (v : view) (slots : List (ℕ × Option B)) (c : ℕ)
-        → v.active ≡ true → 0 < v.thread → c < n → Claims n v.log c
+        → v.active ≡ true → 0 < v.thread → c < n → MayClaimCell n v.log c
         → Allows (Kept shows n limit) n id (v, slots) (spot n (words.FreeWord (c / 64)))
         (λ there. bit_and there (2 ^ 64 - 1 - 2 ^ (c % 64)))
         (λ there me. Claimed n v slots c there (bit_at there (c % 64) == 1) me) }
     ensures init_local { (shows : B → ℕ × contents) (n limit id : ℕ) (v : view) (slots : List (ℕ × Option B)) (c : ℕ)
-        → v.active ≡ true → 0 < v.thread → c < n → Carries n v.log (steps.InitLocal c) c
+        → v.active ≡ true → 0 < v.thread → c < n → MayCarry n v.log (steps.InitLocal c) c
         → Allows (Kept shows n limit) n id (v, slots) (spot n (words.Of fields.Local c)) (λ there. 1)
-        (λ there me. me ≡ (with_told (told.Did (steps.InitLocal c) 1 moves.Nothing) v, slots)) }
+        (λ there me. me ≡ (with_told (told.Stepped (steps.InitLocal c) 1 moves.Nothing) v, slots)) }
     ensures init_shared { (shows : B → ℕ × contents) (n limit id : ℕ) (v : view) (slots : List (ℕ × Option B)) (c : ℕ)
-        → v.active ≡ true → 0 < v.thread → c < n → Carries n v.log (steps.InitShared c) c
+        → v.active ≡ true → 0 < v.thread → c < n → MayCarry n v.log (steps.InitShared c) c
         → Allows (Kept shows n limit) n id (v, slots) (spot n (words.Of fields.Shared c)) (λ there. 2 ^ 42)
-        (λ there me. me ≡ (with_told (told.Did (steps.InitShared c) (2 ^ 42) moves.Nothing) v, slots)) }
+        (λ there me. me ≡ (with_told (told.Stepped (steps.InitShared c) (2 ^ 42) moves.Nothing) v, slots)) }
     ensures birth { (shows : B → ℕ × contents) (n limit id : ℕ) (v : view) (rest : List (ℕ × Option B)) (block : B)
         (kind : kind) (k c : ℕ)
-        → v.active ≡ true → 0 < v.thread → c < n → Bears n v.log (shows block) kind k c
+        → v.active ≡ true → 0 < v.thread → c < n → MayBear n v.log (shows block) kind k c
         → Allows (Kept shows n limit) n id (v, (c, Some block) ∷ rest) (spot n (words.Of fields.Owner c))
         (λ there. v.thread)
         (λ there me. me ≡ (
-          with_told (told.Did (steps.Birth c kind k) v.thread (moves.Put c (shows block).1))
+          with_told (told.Stepped (steps.Birth c kind k) v.thread (moves.Put c (shows block).1))
               v,
           rest,
         )) }
     ensures free { (shows : B → ℕ × contents) (n limit id : ℕ) (v : view) (rest : List (ℕ × Option B)) (c : ℕ)
-        → v.active ≡ true → 0 < v.thread → c < n → Carries n v.log (steps.Free c) c
+        → v.active ≡ true → 0 < v.thread → c < n → MayCarry n v.log (steps.Free c) c
         → Allows (Kept shows n limit) n id (v, (c, None) ∷ rest) (spot n (words.FreeWord (c / 64)))
         (λ there. bit_or there (2 ^ (c % 64)))
-        (λ there me. me ≡ (with_told (told.Did (steps.Free c) there moves.Nothing) v, rest)) }
+        (λ there me. me ≡ (with_told (told.Stepped (steps.Free c) there moves.Nothing) v, rest)) }
 {}
 
 /// A lock is taken by a compare-exchange of 0, with the block and the contents that were put home last; its unlocking
@@ -149,15 +151,15 @@ pub fn cells_are_used_again<B>()
 #[tactic(auto, using(crate::proofs::Locking_Steps::locks_cell, crate::proofs::Locking_Steps::unlocks_cell))]
 pub fn objects_are_locked<B>()
     ensures lock { (shows : B → ℕ × contents) (n limit id : ℕ) (v : view) (slots : List (ℕ × Option B)) (k c : ℕ)
-        → v.active ≡ true → 0 < v.thread → c < n → Carries n v.log (steps.Lock k) c
+        → v.active ≡ true → 0 < v.thread → c < n → MayCarry n v.log (steps.Lock k) c
         → Allows (Kept shows n limit) n id (v, slots) (spot n (words.Of fields.Mutex c))
         (λ there. either (there == 0) v.thread there)
-        (λ there me. Locked shows n v slots k c there (there == 0) me) }
+        (λ there me. LockedOrBusy shows n v slots k c there (there == 0) me) }
     ensures unlock { (shows : B → ℕ × contents) (n limit id : ℕ) (v : view) (rest : List (ℕ × Option B)) (block : B)
         (found : contents) (change : change) (c : ℕ)
-        → v.active ≡ true → 0 < v.thread → c < n → Unlocks n v.log (shows block) found change c
+        → v.active ≡ true → 0 < v.thread → c < n → MayUnlock n v.log (shows block) found change c
         → Allows (Kept shows n limit) n id (v, (c, Some block) ∷ rest) (spot n (words.Of fields.Mutex c)) (λ there. 0)
-        (λ there me. me ≡ (with_told (told.Did (steps.Unlock change) 0 (moves.Put c (shows block).1)) v, rest)) }
+        (λ there me. me ≡ (with_told (told.Stepped (steps.Unlock change) 0 (moves.Put c (shows block).1)) v, rest)) }
 {}
 
 /// A thread takes the bits of its own queue words, which are cells of the heap, closes them, opens them again where its
@@ -165,37 +167,39 @@ pub fn objects_are_locked<B>()
 #[tactic(auto, using(crate::proofs::Queue_Steps::drains, crate::proofs::Queue_Steps::closes, crate::proofs::Queue_Steps::reopens, crate::proofs::Queue_Steps::nudges, crate::proofs::Queue_Steps::wakes))]
 pub fn queues_are_drained<B>()
     ensures drain { (shows : B → ℕ × contents) (n limit id : ℕ) (v : view) (slots : List (ℕ × Option B)) (k : ℕ)
-        → v.active ≡ true → 0 < v.thread → v.thread ≤ MOST_THREADS → k < words_for n → Allowed n v.log (steps.Drain k)
+        → v.active ≡ true → 0 < v.thread → v.thread ≤ MOST_THREADS → k < words_for n → MayStep n v.log (steps.Drain k)
         → Allows (Kept shows n limit) n id (v, slots) (spot n (words.Queue v.thread k)) (λ there. 0)
-        (λ there me. (me ≡ (with_told (told.Did (steps.Drain k) there moves.Nothing) v, slots)) × AreQueued n k there) }
+        (λ there me. (me ≡ (with_told (told.Stepped (steps.Drain k) there moves.Nothing) v, slots))
+        × AreQueued n k there) }
     ensures close { (shows : B → ℕ × contents) (n limit id : ℕ) (v : view) (slots : List (ℕ × Option B)) (k : ℕ)
-        → v.active ≡ true → 0 < v.thread → v.thread ≤ MOST_THREADS → k < words_for n → Closes n v.log k
+        → v.active ≡ true → 0 < v.thread → v.thread ≤ MOST_THREADS → k < words_for n → MayClose n v.log k
         → Allows (Kept shows n limit) n id (v, slots) (spot n (words.Queue v.thread k))
         (λ there. bit_or there 9223372036854775808)
-        (λ there me. (me ≡ (with_told (told.Did (steps.Close k) there moves.Nothing) v, slots)) × AreQueued n k there) }
+        (λ there me. (me ≡ (with_told (told.Stepped (steps.Close k) there moves.Nothing) v, slots))
+        × AreQueued n k there) }
     ensures reopen { (shows : B → ℕ × contents) (n limit id : ℕ) (v : view) (slots : List (ℕ × Option B)) (k : ℕ)
-        → v.active ≡ true → 0 < v.thread → v.thread ≤ MOST_THREADS → k < words_for n → Allowed n v.log (steps.Reopen k)
+        → v.active ≡ true → 0 < v.thread → v.thread ≤ MOST_THREADS → k < words_for n → MayStep n v.log (steps.Reopen k)
         → Allows (Kept shows n limit) n id (v, slots) (spot n (words.Queue v.thread k)) (λ there. 0)
-        (λ there me. me ≡ (with_told (told.Did (steps.Reopen k) 0 moves.Nothing) v, slots)) }
+        (λ there me. me ≡ (with_told (told.Stepped (steps.Reopen k) 0 moves.Nothing) v, slots)) }
     ensures nudge { (shows : B → ℕ × contents) (n limit id : ℕ) (v : view) (slots : List (ℕ × Option B)) (q k : ℕ)
-        → v.active ≡ true → 0 < v.thread → Tells n v.log q k
+        → v.active ≡ true → 0 < v.thread → MayNudge n v.log q k
         → Allows (Kept shows n limit) n id (v, slots) (spot n (words.NotifyWord q))
         (λ there. bit_or there (2 ^ (k / 32)))
-        (λ there me. me ≡ (with_told (told.Did (steps.Nudge q k) there moves.Nothing) v, slots)) }
+        (λ there me. me ≡ (with_told (told.Stepped (steps.Nudge q k) there moves.Nothing) v, slots)) }
     ensures wake { (shows : B → ℕ × contents) (n limit id : ℕ) (v : view) (slots : List (ℕ × Option B))
-        → v.active ≡ true → 0 < v.thread → v.thread ≤ MOST_THREADS → Allowed n v.log steps.Wake
+        → v.active ≡ true → 0 < v.thread → v.thread ≤ MOST_THREADS → MayStep n v.log steps.Wake
         → Allows (Kept shows n limit) n id (v, slots) (spot n (words.NotifyWord v.thread)) (λ there. 0)
-        (λ there me. me ≡ (with_told (told.Did steps.Wake there moves.Nothing) v, slots)) }
+        (λ there me. me ≡ (with_told (told.Stepped steps.Wake there moves.Nothing) v, slots)) }
 {}
 
 /// A registered thread's seat is split off the root's; that of a thread that has left is joined to it, and its log is
 /// kept.
 #[tactic(auto, using(crate::proofs::Root_Steps::splits, crate::proofs::Root_Steps::joins))]
 pub fn threads_come_and_go<B>()
-    ensures register { (shows : B → ℕ × contents) (n limit id : ℕ) (v : view) → Registers v
+    ensures register { (shows : B → ℕ × contents) (n limit id : ℕ) (v : view) → MayRegister v
         → Splits (Kept shows n limit) id v (registering v) (starting v) }
     ensures gather { (shows : B → ℕ × contents) (n limit id : ℕ) (v : view) (other : ℕ) (w : view)
-        → v.active ≡ true → v.thread ≡ 0 → Leaves n w
+        → v.active ≡ true → v.thread ≡ 0 → HasLeft n w
         → Joins (Kept shows n limit) id v other w (gathering v w) spent }
 {}
 
@@ -208,31 +212,31 @@ pub fn queued_references_end<B>()
         → v.active ≡ true → 0 < v.thread → c < n → EndsPopped n v.log c number
         → Allows (Kept shows n limit) n id (v, slots) (spot n (words.Of fields.Shared c))
         (λ there. (there + (2 ^ 64 - 4)) % 2 ^ 64)
-        (λ there me. Ended shows n v slots (steps.LastDown (lasts.Popped c)) c there
+        (λ there me. EndedObject shows n v slots (steps.LastDown (lasts.Popped c)) c there
         (takes_block (steps.LastDown (lasts.Popped c)) (cell_told (steps.LastDown (lasts.Popped c)) there)) me) }
     ensures added { (shows : B → ℕ × contents) (n limit id : ℕ) (v : view) (slots : List (ℕ × Option B)) (c : ℕ)
         → v.active ≡ true → 0 < v.thread → c < n → EndsAdded n v.log c
         → Allows (Kept shows n limit) n id (v, slots) (spot n (words.Of fields.Shared c))
         (λ there. (there + (2 ^ 64 - 4)) % 2 ^ 64)
-        (λ there me. Ended shows n v slots (steps.LastDown (lasts.Popped c)) c there
+        (λ there me. EndedObject shows n v slots (steps.LastDown (lasts.Popped c)) c there
         (takes_block (steps.LastDown (lasts.Popped c)) (cell_told (steps.LastDown (lasts.Popped c)) there)) me) }
     ensures left { (shows : B → ℕ × contents) (n limit id : ℕ) (v : view) (slots : List (ℕ × Option B)) (c : ℕ)
         → v.active ≡ true → 0 < v.thread → c < n → EndsLeft n v.log c
         → Allows (Kept shows n limit) n id (v, slots) (spot n (words.Of fields.Shared c))
         (λ there. (there + (2 ^ 64 - 4)) % 2 ^ 64)
-        (λ there me. Ended shows n v slots (steps.LastDown (lasts.Popped c)) c there
+        (λ there me. EndedObject shows n v slots (steps.LastDown (lasts.Popped c)) c there
         (takes_block (steps.LastDown (lasts.Popped c)) (cell_told (steps.LastDown (lasts.Popped c)) there)) me) }
     ensures shut { (shows : B → ℕ × contents) (n limit id : ℕ) (v : view) (slots : List (ℕ × Option B)) (c : ℕ)
         → v.active ≡ true → 0 < v.thread → c < n → EndsShut n v.log c
         → Allows (Kept shows n limit) n id (v, slots) (spot n (words.Of fields.Shared c))
         (λ there. (there + (2 ^ 64 - 4)) % 2 ^ 64)
-        (λ there me. Ended shows n v slots (steps.LastDown lasts.Hand) c there
+        (λ there me. EndedObject shows n v slots (steps.LastDown lasts.Hand) c there
         (takes_block (steps.LastDown lasts.Hand) (cell_told (steps.LastDown lasts.Hand) there)) me) }
     ensures nobodys { (shows : B → ℕ × contents) (n limit id : ℕ) (v : view) (slots : List (ℕ × Option B)) (c : ℕ)
         → v.active ≡ true → 0 < v.thread → c < n → EndsNobodys n v.log c
         → Allows (Kept shows n limit) n id (v, slots) (spot n (words.Of fields.Shared c))
         (λ there. (there + (2 ^ 64 - 4)) % 2 ^ 64)
-        (λ there me. Ended shows n v slots (steps.LastDown lasts.Hand) c there
+        (λ there me. EndedObject shows n v slots (steps.LastDown lasts.Hand) c there
         (takes_block (steps.LastDown lasts.Hand) (cell_told (steps.LastDown lasts.Hand) there)) me) }
 {}
 
@@ -242,7 +246,7 @@ pub fn objects_are_offered<B>()
     ensures { (shows : B → ℕ × contents) (n limit id : ℕ) (v : view) (slots : List (ℕ × Option B)) (c : ℕ)
         → v.active ≡ true → 0 < v.thread → c < n → Offers n v.log c
         → Allows (Kept shows n limit) n id (v, slots) (spot n (words.Of fields.Shared c)) (λ there. bit_or there 2)
-        (λ there me. me ≡ (with_told (told.Did (steps.Offer c) there moves.Nothing) v, slots)) }
+        (λ there me. me ≡ (with_told (told.Stepped (steps.Offer c) there moves.Nothing) v, slots)) }
 {}
 
 /// Who merges an object first stores that it is nobody's: at local count 0, to hand it over, or for a popped entry; and
@@ -252,29 +256,29 @@ pub fn objects_are_merged<B>()
     ensures over { (shows : B → ℕ × contents) (n limit id : ℕ) (v : view) (slots : List (ℕ × Option B)) (c : ℕ)
         → v.active ≡ true → 0 < v.thread → c < n → UntiesOver n v.log c
         → Allows (Kept shows n limit) n id (v, slots) (spot n (words.Of fields.Owner c)) (λ there. 0)
-        (λ there me. me ≡ (with_told (told.Did (steps.Untie c) 0 moves.Nothing) v, slots)) }
+        (λ there me. me ≡ (with_told (told.Stepped (steps.Untie c) 0 moves.Nothing) v, slots)) }
     ensures offered { (shows : B → ℕ × contents) (n limit id : ℕ) (v : view) (slots : List (ℕ × Option B)) (c : ℕ)
         → v.active ≡ true → 0 < v.thread → c < n → UntiesOffered n v.log c
         → Allows (Kept shows n limit) n id (v, slots) (spot n (words.Of fields.Owner c)) (λ there. 0)
-        (λ there me. me ≡ (with_told (told.Did (steps.Untie c) 0 moves.Nothing) v, slots)) }
+        (λ there me. me ≡ (with_told (told.Stepped (steps.Untie c) 0 moves.Nothing) v, slots)) }
     ensures popped { (shows : B → ℕ × contents) (n limit id : ℕ) (v : view) (slots : List (ℕ × Option B)) (c number : ℕ)
         → v.active ≡ true → 0 < v.thread → c < n → UntiesPopped n v.log c number
         → Allows (Kept shows n limit) n id (v, slots) (spot n (words.Of fields.Owner c)) (λ there. 0)
-        (λ there me. me ≡ (with_told (told.Did (steps.Untie c) 0 moves.Nothing) v, slots)) }
+        (λ there me. me ≡ (with_told (told.Stepped (steps.Untie c) 0 moves.Nothing) v, slots)) }
     ensures add { (shows : B → ℕ × contents) (n limit id : ℕ) (v : view) (slots : List (ℕ × Option B)) (c local : ℕ)
         → v.active ≡ true → 0 < v.thread → c < n → AddsLocal n v.log c local
         → Allows (Kept shows n limit) n id (v, slots) (spot n (words.Of fields.Shared c))
         (λ there. (there + (local * 4 + 1)) % 2 ^ 64)
         (λ there me. (me ≡ (
-          with_told (told.Did (steps.MergeAdd c) ((there + (local * 4 + 1)) % 2 ^ 64) moves.Nothing)
+          with_told (told.Stepped (steps.MergeAdd c) ((there + (local * 4 + 1)) % 2 ^ 64) moves.Nothing)
               v,
           slots,
         )) × CountsSome ((there + (local * 4 + 1)) % 2 ^ 64)) }
     ensures yields { (shows : B → ℕ × contents) (n limit id : ℕ) (v : view) (slots : List (ℕ × Option B)) (c local : ℕ)
-        → v.active ≡ true → 0 < v.thread → c < n → Yields n v.log c local
+        → v.active ≡ true → 0 < v.thread → c < n → MayYield n v.log c local
         → Allows (Kept shows n limit) n id (v, slots) (spot n (words.Of fields.Shared c))
         (λ there. (there + (local * 4 + 1)) % 2 ^ 64)
-        (λ there me. Ended shows n v slots (steps.MergeAdd c) c ((there + (local * 4 + 1)) % 2 ^ 64)
+        (λ there me. EndedObject shows n v slots (steps.MergeAdd c) c ((there + (local * 4 + 1)) % 2 ^ 64)
         (takes_block (steps.MergeAdd c) (cell_told (steps.MergeAdd c) ((there + (local * 4 + 1)) % 2 ^ 64))) me) }
 {}
 
@@ -285,5 +289,5 @@ pub fn asked_references_are_queued<B>()
         → v.active ≡ true → 0 < v.thread → c < n → Enqueues n v.log c q
         → Allows (Kept shows n limit) n id (v, slots) (spot n (words.Queue q (c / 32)))
         (λ there. bit_or there (2 ^ (c % 32)))
-        (λ there me. me ≡ (with_told (told.Did (steps.Enqueue c) there moves.Nothing) v, slots)) }
+        (λ there me. me ≡ (with_told (told.Stepped (steps.Enqueue c) there moves.Nothing) v, slots)) }
 {}

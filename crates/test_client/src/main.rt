@@ -20,7 +20,7 @@ fn works(rt: &impl Wait, alloc: Global, frame: &mut Frame<'_>) -> Option<()>
         return None;
     };
     if let Err(handed) = list_push(rt, frame, &list, number) {
-        frame.release(handed.back); // a refused call hands back what it took
+        frame.release(handed.value); // a refused call hands back what it took
         frame.release(list);
         return None;
     }
@@ -29,12 +29,12 @@ fn works(rt: &impl Wait, alloc: Global, frame: &mut Frame<'_>) -> Option<()>
 }
 
 fn main(rt: HostRuntime) -> io::Result<()> {
-    let Ok((heap, mut root)) = Heap::new(rt.alloc(), Options::USUAL) else {
+    let Ok((heap, mut root)) = Heap::new(rt.alloc(), Options::DEFAULT) else {
         return println!(rt; "no heap can be had");
     };
     if let Ok(mut mutator) = root.register(rt.alloc(), &heap) {
         let _done = works(&rt, rt.alloc(), mutator.frame());
-        let _ledger = mutator.end(&rt, &mut root, &heap);
+        let _ledger = mutator.settle_and_join(&rt, &mut root, &heap);
     }
     match close_or_end(rt.alloc(), heap, root) {
         Ok(report) => println!(rt; "made {}, left {}", report.ledger.allocs, report.live),

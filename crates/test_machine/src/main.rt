@@ -135,7 +135,7 @@ fn ends(rt: &HostRuntime, heap: Heap, root: Root) -> io::Result<()>
 }
 
 fn main(rt: HostRuntime) -> io::Result<()> {
-    let Ok((heap, mut root)) = Heap::new(rt.alloc(), Options::USUAL) else {
+    let Ok((heap, mut root)) = Heap::new(rt.alloc(), Options::DEFAULT) else {
         return println!(rt; "no heap can be had");
     };
     let mut told = None;
@@ -145,7 +145,7 @@ fn main(rt: HostRuntime) -> io::Result<()> {
         let worked = two_work(&rt, rt.alloc(), &heap, &mut root);
         let ended = runs(&rt, rt.alloc(), &mut first, &ENDS, &nobody);
         let _cleared = first.clear_globals(); // where a program ended early, the mailbox is there still
-        let _ledger = first.end(&rt, &mut root, &heap);
+        let _ledger = first.settle_and_join(&rt, &mut root, &heap);
         told = Some((opened, worked, ended));
     }
     let said = println!(rt; "{told:?}");

@@ -26,7 +26,7 @@ fn shows(rt: &HostRuntime, closed: Result<Report<Global>, NoReport>) -> io::Resu
 }
 
 fn main(rt: HostRuntime) -> io::Result<()> {
-    let Ok((heap, mut root)) = Heap::new(rt.alloc(), Options::USUAL) else {
+    let Ok((heap, mut root)) = Heap::new(rt.alloc(), Options::DEFAULT) else {
         return println!(rt; "no heap can be had");
     };
     let opened = opens_all(&rt, rt.alloc(), &heap, &mut root);

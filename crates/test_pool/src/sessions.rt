@@ -28,7 +28,7 @@ fn writes(
     match list_push(rt, frame, session, number) {
         Ok(()) => Some(()),
         Err(handed) => {
-            frame.release(handed.back); // a refused call hands back what it took
+            frame.release(handed.value); // a refused call hands back what it took
             None
         }
     }
@@ -78,7 +78,7 @@ pub(crate) fn opens(
             Some(())
         }
         Err(handed) => {
-            frame.release(handed.back.1);
+            frame.release(handed.value.1);
             None
         }
     }
@@ -137,7 +137,7 @@ pub(crate) fn opens_all(rt: &impl Wait, alloc: Global, heap: &Heap, root: &mut R
         }
         Err(_) => false,
     };
-    let _ledger = first.end(rt, root, heap);
+    let _ledger = first.settle_and_join(rt, root, heap);
     opened
 }
 
@@ -150,6 +150,6 @@ pub(crate) fn ends_all(rt: &impl Wait, alloc: Global, heap: &Heap, root: &mut Ro
         return false;
     };
     let cleared = last.clear_globals().is_ok();
-    let _ledger = last.end(rt, root, heap);
+    let _ledger = last.settle_and_join(rt, root, heap);
     cleared
 }

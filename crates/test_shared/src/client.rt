@@ -62,7 +62,7 @@ impl Client {
             desk,
             number: _number,
         } = self;
-        let retired = mutator.retire(rt);
+        let retired = mutator.settle_and_leave(rt);
         gathers(rt, &desk, retired)
     }
 }

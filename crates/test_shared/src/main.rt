@@ -30,7 +30,7 @@ fn shows(rt: &HostRuntime, closed: Result<Report<Global>, Stays>) -> io::Result<
 }
 
 fn main(rt: HostRuntime) -> io::Result<()> {
-    let Ok(shared) = Shared::new(rt.alloc(), Options::USUAL) else {
+    let Ok(shared) = Shared::new(rt.alloc(), Options::DEFAULT) else {
         return println!(rt; "no heap can be had");
     };
     let Some(shared) = shows_refusals(&rt, rt.alloc(), shared)? else {

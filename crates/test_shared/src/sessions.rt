@@ -28,7 +28,7 @@ fn writes(
     match list_push(rt, frame, session, number) {
         Ok(()) => Some(()),
         Err(handed) => {
-            frame.release(handed.back);
+            frame.release(handed.value);
             None
         }
     }
@@ -70,7 +70,7 @@ pub(crate) fn opens(
             Some(())
         }
         Err(handed) => {
-            frame.release(handed.back.1);
+            frame.release(handed.value.1);
             None
         }
     }

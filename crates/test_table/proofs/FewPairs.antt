@@ -2,7 +2,7 @@
 use Rattle.std.proofs.Common.{◌≡◌, ℕ, ℤ, pos, List, [], ◌∷◌, Some, ap, ◌∙◌, arith, length, slice_get}
 use Rattle.brc_words.specs.declared.key.Key.{Key}
 use Rattle.brc_words.specs.declared.key.Key.TheVariants as keys
-use Rattle.brc_block.specs.Row.{Row}
+use Rattle.brc_block.specs.Row.{RowSeen}
 use Rattle.brc_block.specs.declared.payload.Payload.TheVariants as payloads
 use Rattle.brc_table.specs.Shown.{contents_of}
 use Rattle.test_table.specs.Parts.{with_entry, with_entries}
@@ -19,7 +19,7 @@ two_items (v ∷ vs) x y long first second =
     let here : v ≡ x = cc in
     ap (λ w. w ∷ vs) here ∙ ap (λ ws. x ∷ ws) (one_item vs y (omega (arith, long)) second)
 
-module _ {A : Type 0} (pairs : Row (Key A × ℕ)) (cell : ℕ) where
+module _ {A : Type 0} (pairs : RowSeen (Key A × ℕ)) (cell : ℕ) where
   pub shows_one : (key : ℤ) → length pairs.items ≡ 1 → slice_get pairs.items 0 ≡ Some (keys.Int key, cell)
       → contents_of (payloads.Dict pairs) ≡ with_entry key cell
   shows_one key long there =

@@ -4,13 +4,13 @@ use Rattle.std.proofs.Common.{ap, subst}
 use Rattle.brc_block.specs.declared.payload.Payload.{Payload}
 use Rattle.law.specs.world.Lists.{is_marked}
 use Rattle.law.proofs.world.Changes.{read_here}
-use Rattle.law.specs.rule.declared.told.Told.{Told}
+use Rattle.law.specs.rule.declared.told.LogItem.{LogItem}
 use Rattle.law.specs.rule.Seen.{part_seen}
 use Rattle.brc_table.specs.Moving.{is_there}
 use Rattle.brc_biased.proofs.Marking.{marks_wide}
 
 module _ {A : Type 0} where
-  pub marked_after : (n : ℕ) (before log : List Told) (c : ℕ) (block : Option (ℕ × Payload A))
+  pub marked_after : (n : ℕ) (before log : List LogItem) (c : ℕ) (block : Option (ℕ × Payload A))
       → (part_seen n log).worklist
       ≡ (if is_there block then set (part_seen n before).worklist c true else (part_seen n before).worklist) → c < n
       → IfSome block (λ there. is_marked (part_seen n log).worklist c ≡ true)

@@ -7,7 +7,7 @@ use Rattle.law.specs.world.declared.row.Stage.TheVariants as stages
 use Rattle.law.specs.world.Lists.{is_bare, is_unmarked}
 use Rattle.law.specs.world.Steps.{is_free_hand}
 use Rattle.law.specs.known.Items.{Part}
-use Rattle.law.specs.rule.declared.told.Told.{Told}
+use Rattle.law.specs.rule.declared.told.LogItem.{LogItem}
 use Rattle.law.specs.rule.Seen.{part_seen, counts_seen}
 
 -- an active thread with an empty frame and a free hand; it has nothing locked, popped or to be taken apart
@@ -20,7 +20,7 @@ pub record HoldsNothing (part : Part) : Type 0 where
   pub popped : part.popped ≡ replicate 16 0
 
 -- it counts no object on its own
-abbrev pub CountsNone : List Told → Type 0
+abbrev pub CountsNone : List LogItem → Type 0
 CountsNone log = (c : ℕ) → FIRST_MORTAL ≤ c → c < 512 → counts_seen 512 log c ≡ 0
 
 -- the stage with the words below this one closed
@@ -49,5 +49,5 @@ abbrev pub opening_at : ℕ → Part → Part
 opening_at word part = record part { row = record part.row { stage = opened_below word } }
 
 -- a thread's part is that of one that has done nothing
-abbrev pub IsAsNew : List Told → Type 0
+abbrev pub IsAsNew : List LogItem → Type 0
 IsAsNew log = part_seen 512 log ≡ part_seen 512 []

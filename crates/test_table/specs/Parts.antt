@@ -20,13 +20,13 @@ use Rattle.law.specs.rule.declared.contents.PlainKey.TheVariants as plain
 use Rattle.law.specs.rule.declared.contents.Contents.{Contents}
 use Rattle.law.specs.rule.declared.contents.Contents.TheVariants as contents
 use Rattle.law.specs.rule.declared.told.Moved.TheVariants as moves
-use Rattle.law.specs.rule.declared.told.Told.{Told}
-use Rattle.law.specs.rule.declared.told.Told.TheVariants.{Did, Saw}
+use Rattle.law.specs.rule.declared.told.LogItem.{LogItem}
+use Rattle.law.specs.rule.declared.told.LogItem.TheVariants.{Stepped, Loaded}
 use Rattle.law.specs.rule.Opening.{first_view}
 use Rattle.law.specs.rule.Seen.{part_seen}
 use Rattle.law.specs.steps.Joining.{registering}
 use Rattle.brc_table.specs.Seated.{TableSeen, SeatSeen, RootSeen, Continues}
-use Rattle.brc_biased.specs.Standing.{Stands}
+use Rattle.brc_biased.specs.Standing.{MayCountDown}
 use Rattle.test_table.specs.declared.globals.Held.{Held}
 use Rattle.test_table.specs.declared.globals.Held.TheVariants as held
 
@@ -51,57 +51,57 @@ HasTwo root = root.view ≡ registering (registering first_view)
 
 module _ {A : Type 0} where
   -- a seat of this table of 512 cells, with this log and no block out
-  abbrev pub StandsAt : List Told → TableSeen → SeatSeen A → Type 0
+  abbrev pub StandsAt : List LogItem → TableSeen → SeatSeen A → Type 0
   StandsAt log table seat = (table.cells ≡ 512) × (seat.table ≡ table.table) × (seat.log ≡ log) × (seat.slots ≡ [])
 
   -- the same thread's seat later, with this log and no block out
-  abbrev pub Went : List Told → SeatSeen A → SeatSeen A → Type 0
+  abbrev pub Went : List LogItem → SeatSeen A → SeatSeen A → Type 0
   Went log old new = (new.log ≡ log) × (new.slots ≡ []) × Continues old new
 
 -- ---- what a thread does more than once, from any log
 
 -- it has the globals in this place
-abbrev pub globals_log : ℕ → List Told → List Told
-globals_log place log = Did (LocalUp (sources.Immortal 265) place) 4294967295 moves.Nothing ∷ log
+abbrev pub globals_log : ℕ → List LogItem → List LogItem
+globals_log place log = Stepped (LocalUp (sources.Immortal 265) place) 4294967295 moves.Nothing ∷ log
 
 -- it has locked the globals, which it has in this place, and found these in them
-abbrev pub locked_log : ℕ → Held → List Told → List Told
-locked_log place from log = Did (Lock place) 0 (moves.Found 265 (globals_with from)) ∷ log
+abbrev pub locked_log : ℕ → Held → List LogItem → List LogItem
+locked_log place from log = Stepped (Lock place) 0 (moves.Found 265 (globals_with from)) ∷ log
 
 -- and has unlocked them with those
-abbrev pub changed_log : ℕ → Held → Held → Change → List Told → List Told
+abbrev pub changed_log : ℕ → Held → Held → Change → List LogItem → List LogItem
 changed_log place from to change log =
-    Did (Unlock change) 0 (moves.Put 265 (globals_with to)) ∷ locked_log place from log
+    Stepped (Unlock change) 0 (moves.Put 265 (globals_with to)) ∷ locked_log place from log
 
 -- it has counted the list that is in place 1 up, in another place, where it found this shared word
-abbrev pub more_log : ℕ → ℕ → List Told → List Told
-more_log place shared log = Did (SharedUp (sources.Frame 1) place) shared moves.Nothing ∷ log
+abbrev pub more_log : ℕ → ℕ → List LogItem → List LogItem
+more_log place shared log = Stepped (SharedUp (sources.Frame 1) place) shared moves.Nothing ∷ log
 
 -- it has asked for the list, where it found this shared word and thread 1 as the owner
-abbrev pub asked_log : ℕ → List Told → List Told
+abbrev pub asked_log : ℕ → List LogItem → List LogItem
 asked_log shared log =
-    Saw (words.Of fields.Owner 266) 1 ∷ Did (Ask (dropped.Frame 1)) shared moves.Nothing ∷ log
+    Loaded (words.Of fields.Owner 266) 1 ∷ Stepped (Ask (dropped.Frame 1)) shared moves.Nothing ∷ log
 
 -- and the reference is the first entry in that owner's queue word
-abbrev pub enqueued_log : ℕ → List Told → List Told
-enqueued_log shared log = Did (Enqueue 266) 0 moves.Nothing ∷ asked_log shared log
+abbrev pub enqueued_log : ℕ → List LogItem → List LogItem
+enqueued_log shared log = Stepped (Enqueue 266) 0 moves.Nothing ∷ asked_log shared log
 
 -- it has seen the list with this shared word
-abbrev pub seen_log : ℕ → List Told → List Told
-seen_log shared log = Saw (words.Of fields.Shared 266) shared ∷ log
+abbrev pub seen_log : ℕ → List LogItem → List LogItem
+seen_log shared log = Loaded (words.Of fields.Shared 266) shared ∷ log
 
 -- then it has made it nobody's, has seen so many references of the owner's own, and has added these to the shared word
-abbrev pub added_log : ℕ → ℕ → List Told → List Told
+abbrev pub added_log : ℕ → ℕ → List LogItem → List LogItem
 added_log shared local log =
-    Did (MergeAdd 266) ((shared + (local * 4 + 1)) % 2 ^ 64) moves.Nothing
-    ∷ Saw (words.Of fields.Local 266) local
-    ∷ Did (Untie 266) 0 moves.Nothing
+    Stepped (MergeAdd 266) ((shared + (local * 4 + 1)) % 2 ^ 64) moves.Nothing
+    ∷ Loaded (words.Of fields.Local 266) local
+    ∷ Stepped (Untie 266) 0 moves.Nothing
     ∷ seen_log shared log
 
 -- the list is one of the cells that an active thread has popped, and its hand is free for it
-pub record HasPopped (n : ℕ) (log : List Told) : Type 0 where
+pub record HasPopped (n : ℕ) (log : List LogItem) : Type 0 where
   pub active : is_active (part_seen n log).row.stage ≡ true
-  pub stands : Stands n log hands.Free
+  pub stands : MayCountDown n log hands.Free
   pub popped : bit_of (part_seen n log).popped 266 ≡ 1
 
 -- a merged list with one reference has this shared word
@@ -117,71 +117,71 @@ pub record MayFree (part : Part) : Type 0 where
 -- ---- the owner
 
 -- it has made an object, and has it in place 0
-abbrev pub made_log : Kind → Contents → ℕ → List Told
+abbrev pub made_log : Kind → Contents → ℕ → List LogItem
 made_log kind contents thread =
-    Did (Birth 266 kind 0) thread (moves.Put 266 contents)
-    ∷ Did (InitShared 266) 4398046511104 moves.Nothing
-    ∷ Did (InitLocal 266) 1 moves.Nothing
-    ∷ Did (Claim 266) 18446744073709550592 moves.Nothing
+    Stepped (Birth 266 kind 0) thread (moves.Put 266 contents)
+    ∷ Stepped (InitShared 266) 4398046511104 moves.Nothing
+    ∷ Stepped (InitLocal 266) 1 moves.Nothing
+    ∷ Stepped (Claim 266) 18446744073709550592 moves.Nothing
     ∷ []
 
 -- that is the number 7
-abbrev pub seven_log : ℕ → List Told
+abbrev pub seven_log : ℕ → List LogItem
 seven_log thread = made_log kinds.Int (contents.Int (pos 7)) thread
 
 -- or the list
-abbrev pub born_log : ℕ → List Told
+abbrev pub born_log : ℕ → List LogItem
 born_log thread = made_log kinds.List (contents.«List» []) thread
 
 -- it has the globals in place 1, and has put the list into them
-abbrev pub shared_log : ℕ → List Told
+abbrev pub shared_log : ℕ → List LogItem
 shared_log thread =
     changed_log 1 held.Nothing (held.One (pos 1) 266) (changes.Put 0) (globals_log 1 (born_log thread))
 
 -- and has let the globals go, so that it has nothing any more
-abbrev pub given_log : ℕ → List Told
-given_log thread = Did (LocalDown (dropped.Frame 1)) 4294967295 moves.Nothing ∷ shared_log thread
+abbrev pub given_log : ℕ → List LogItem
+given_log thread = Stepped (LocalDown (dropped.Frame 1)) 4294967295 moves.Nothing ∷ shared_log thread
 
 -- and has handed the list over, for which another one has asked
-abbrev pub handed_log : ℕ → List Told
+abbrev pub handed_log : ℕ → List LogItem
 handed_log thread =
-    Did (MergeAdd 266) 4398046511111 moves.Nothing
-    ∷ Saw (words.Of fields.Local 266) 1
-    ∷ Did (Untie 266) 0 moves.Nothing
-    ∷ Did (Offer 266) 4398046511106 moves.Nothing
+    Stepped (MergeAdd 266) 4398046511111 moves.Nothing
+    ∷ Loaded (words.Of fields.Local 266) 1
+    ∷ Stepped (Untie 266) 0 moves.Nothing
+    ∷ Stepped (Offer 266) 4398046511106 moves.Nothing
     ∷ given_log thread
 
 -- it has taken the list out again
-abbrev pub taken_back_log : ℕ → List Told
+abbrev pub taken_back_log : ℕ → List LogItem
 taken_back_log thread =
     changed_log 1 (held.One (pos 1) 266) held.Nothing (changes.Take 0 0) (shared_log thread)
 
 -- and has let it go, and merged it, where others had counted it
-abbrev pub merged_log : ℕ → ℕ → List Told
+abbrev pub merged_log : ℕ → ℕ → List LogItem
 merged_log thread number =
-    Did (MergeZero 266) number moves.Nothing
-    ∷ Did (Untie 266) 0 moves.Nothing
-    ∷ Did (SeeZero 266) number moves.Nothing
-    ∷ Did (LocalDown (dropped.Frame 0)) 0 moves.Nothing
+    Stepped (MergeZero 266) number moves.Nothing
+    ∷ Stepped (Untie 266) 0 moves.Nothing
+    ∷ Stepped (SeeZero 266) number moves.Nothing
+    ∷ Stepped (LocalDown (dropped.Frame 0)) 0 moves.Nothing
     ∷ taken_back_log thread
 
 -- it has the list in places 0 and 1, and the globals in place 2
-abbrev pub kept_log : ℕ → List Told
-kept_log thread = globals_log 2 (Did (LocalUp (sources.Frame 0) 1) 2 moves.Nothing ∷ born_log thread)
+abbrev pub kept_log : ℕ → List LogItem
+kept_log thread = globals_log 2 (Stepped (LocalUp (sources.Frame 0) 1) 2 moves.Nothing ∷ born_log thread)
 
 -- and has put the second reference into them
-abbrev pub shared_twice_log : ℕ → List Told
+abbrev pub shared_twice_log : ℕ → List LogItem
 shared_twice_log thread = changed_log 2 held.Nothing (held.One (pos 1) 266) (changes.Put 1) (kept_log thread)
 
 -- ---- another thread, which has the globals in place 0
 
 -- it has found the list there, and has counted it up, in place 1
-abbrev pub counted_log : List Told
+abbrev pub counted_log : List LogItem
 counted_log =
-    Did (Unlock changes.Keep) 0 (moves.Put 265 (with_entry (pos 1) 266))
-    ∷ Did (SharedUp (sources.Entry 0) 1) 4398046511104 moves.Nothing
+    Stepped (Unlock changes.Keep) 0 (moves.Put 265 (with_entry (pos 1) 266))
+    ∷ Stepped (SharedUp (sources.Entry 0) 1) 4398046511104 moves.Nothing
     ∷ locked_log 0 (held.One (pos 1) 266) (globals_log 0 [])
 
 -- it has taken the first reference out that was there, in place 1
-abbrev pub taken_log : Held → Held → List Told
+abbrev pub taken_log : Held → Held → List LogItem
 taken_log from to = changed_log 0 from to (changes.Take 0 1) (globals_log 0 [])

@@ -5,12 +5,12 @@ ghost use Rattle.law.specs.world.Heap.{words_for};
 ghost use Rattle.law.specs.world.declared.event.Dropped.TheVariants as drops;
 ghost use Rattle.brc_table.specs.Seated.{Continues};
 ghost use Rattle.brc_biased.specs.Counter.{first_count};
-ghost use Rattle.brc_biased.specs.Standing.{Holds};
+ghost use Rattle.brc_biased.specs.Standing.{MayDrop};
 ghost use Rattle.test_table.specs.Parts.{seven_log};
 
 use crate::comparing::is;
 use crate::helpers::{alive, ends, opened};
-use brc_biased::{Counter, Home, first_counts, no_bits};
+use brc_biased::{Counter, HasTable, first_counts, no_bits};
 use brc_block::{Block, Payload};
 use brc_words::Kind;
 use law::world::{Dropped, Source};
@@ -40,7 +40,7 @@ fn bits_of<A: Allocator>(rt: &impl Abort, alloc: A, cells: u32) -> Vec<u64, A>
 
 /// The reference in this place is the last to the number: it goes, the number's memory comes back, and its cell is
 /// free.
-fn last_goes<H: Home<A>, A: Allocator>(
+fn last_goes<H: HasTable<A>, A: Allocator>(
     rt: &impl Abort,
     counter: &mut Counter<H, A>,
     place: u32,
@@ -49,7 +49,7 @@ fn last_goes<H: Home<A>, A: Allocator>(
 )
     requires inside { cell < counter.old.heap.cells }
     requires slots { counter.old.seat.slots ≡ [] }
-    requires holds { Holds counter.old.heap.cells counter.old.seat.log (drops.Frame place) cell }
+    requires holds { MayDrop counter.old.heap.cells counter.old.seat.log (drops.Frame place) cell }
     ensures heap { counter.new.heap ≡ counter.old.heap }
     ensures slots { counter.new.seat.slots ≡ [] }
     ensures seat { Continues counter.old.seat counter.new.seat }
@@ -67,14 +67,18 @@ fn last_goes<H: Home<A>, A: Allocator>(
 
 /// What an owner does that has done nothing but make the number 7, at cell 266 and in place 0.
 trait OfOwner {
-    fn run<R: Abort, H: Home<Global>>(&self, rt: &R, counter: &mut Counter<H, Global>)
+    fn run<R: Abort, H: HasTable<Global>>(&self, rt: &R, counter: &mut Counter<H, Global>)
         requires cells { counter.old.heap.cells ≡ 512 }
         requires made { counter.old.seat.log ≡ seven_log counter.old.seat.thread }
         requires slots { counter.old.seat.slots ≡ [] };
 }
 
 /// It makes the number.
-fn makes_seven<H: Home<Global>>(rt: &impl Abort, alloc: Global, counter: &mut Counter<H, Global>)
+fn makes_seven<H: HasTable<Global>>(
+    rt: &impl Abort,
+    alloc: Global,
+    counter: &mut Counter<H, Global>,
+)
     requires cells { counter.old.heap.cells ≡ 512 }
     requires new { (counter.old.seat.log ≡ []) × (counter.old.seat.slots ≡ []) }
     ensures heap { counter.new.heap ≡ counter.old.heap }
@@ -114,7 +118,7 @@ fn for_owner<R: Abort + AllocGlobal>(rt: &R, local_limit: u32, run: &impl OfOwne
 struct CountsToTheEnd;
 
 impl OfOwner for CountsToTheEnd {
-    fn run<R: Abort, H: Home<Global>>(&self, rt: &R, counter: &mut Counter<H, Global>) {
+    fn run<R: Abort, H: HasTable<Global>>(&self, rt: &R, counter: &mut Counter<H, Global>) {
         assert!(rt; !counter.up(Source::Frame(0), 1, 266));
         alive(rt, counter.give_up(Dropped::Frame(0), 266, false));
         last_goes(rt, counter, 1, 266, 7);
@@ -130,7 +134,7 @@ fn an_owner_counts_to_the_end(rt: HostRuntime) {
 struct MergesAtItsLimit;
 
 impl OfOwner for MergesAtItsLimit {
-    fn run<R: Abort, H: Home<Global>>(&self, rt: &R, counter: &mut Counter<H, Global>) {
+    fn run<R: Abort, H: HasTable<Global>>(&self, rt: &R, counter: &mut Counter<H, Global>) {
         assert!(rt; !counter.up(Source::Frame(0), 1, 266));
         alive(rt, counter.give_up(Dropped::Frame(1), 266, false));
 

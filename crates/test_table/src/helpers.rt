@@ -11,8 +11,8 @@ ghost use Rattle.law.specs.rule.Opening.{first_view};
 ghost use Rattle.law.specs.rule.Seen.{part_seen};
 ghost use Rattle.law.specs.rule.declared.contents.Contents.TheVariants as contents;
 ghost use Rattle.law.specs.rule.declared.told.Moved.TheVariants as moves;
-ghost use Rattle.law.specs.rule.declared.told.Told.TheVariants as told;
-ghost use Rattle.law.specs.steps.Owing.{Carries, Claims};
+ghost use Rattle.law.specs.rule.declared.told.LogItem.TheVariants as told;
+ghost use Rattle.law.specs.steps.Owing.{MayCarry, MayClaimCell};
 ghost use Rattle.brc_table.specs.Seated.{Continues};
 ghost use Rattle.brc_table.specs.Shown.{contents_of};
 ghost use Rattle.test_table.specs.Parts.{HasTwo, globals_with};
@@ -20,7 +20,7 @@ ghost use Rattle.test_table.specs.Parts.{HasTwo, globals_with};
 use crate::comparing::is;
 use crate::ends::end_all;
 use crate::globals::{Held, shows};
-use brc_block::{Block, Cells, Entries, KeyRef, Pairs, Payload};
+use brc_block::{Block, CellList, Entries, KeyRef, Pairs, Payload};
 use brc_table::{HeapTable, RootSeat, ThreadSeat};
 use brc_words::{GLOBALS, Key};
 use std::alloc::Allocator;
@@ -66,7 +66,7 @@ pub(crate) fn a_list<A: Allocator + Copy>(rt: &impl Abort, alloc: A, cell: u32) 
     ensures cell { result.0 ≡ cell }
     ensures list { contents_of result.1 ≡ contents.«List» [] }
 {
-    match Block::new(alloc, cell, Payload::List(Cells::new(Vec::new(alloc)))) {
+    match Block::new(alloc, cell, Payload::List(CellList::new(Vec::new(alloc)))) {
         Ok(block) => block,
         Err((_, payload)) => {
             let _payload = payload;
@@ -84,8 +84,8 @@ pub(crate) fn claimed<A: Allocator>(
 )
     requires table { seat.old.table ≡ table.now.table }
     requires inside { cell < table.now.cells }
-    requires claims { Claims table.now.cells seat.old.log cell }
-    ensures told { seat.new.log ≡ told.Did (steps.Claim cell) 18446744073709550592 moves.Nothing ∷ seat.old.log }
+    requires claims { MayClaimCell table.now.cells seat.old.log cell }
+    ensures told { seat.new.log ≡ told.Stepped (steps.Claim cell) 18446744073709550592 moves.Nothing ∷ seat.old.log }
     ensures out { seat.new.slots ≡ (cell, None) ∷ seat.old.slots }
     ensures seat { Continues seat.old seat.new }
 {
@@ -105,10 +105,11 @@ pub(crate) fn locked<A: Allocator>(
 ) -> Block<A>
     requires table { seat.old.table ≡ table.now.table }
     requires inside { 265 < table.now.cells }
-    requires carries { Carries table.now.cells seat.old.log (steps.Lock place) 265 }
+    requires carries { MayCarry table.now.cells seat.old.log (steps.Lock place) 265 }
     ensures of_cell { result.0 ≡ 265 }
     ensures contents { contents_of result.1 ≡ globals_with held }
-    ensures told { seat.new.log ≡ told.Did (steps.Lock place) 0 (moves.Found 265 (globals_with held)) ∷ seat.old.log }
+    ensures told { seat.new.log ≡ told.Stepped (steps.Lock place) 0
+        (moves.Found 265 (globals_with held)) ∷ seat.old.log }
     ensures out { seat.new.slots ≡ (265, None) ∷ seat.old.slots }
     ensures seat { Continues seat.old seat.new }
 {
@@ -194,7 +195,7 @@ pub(crate) fn gone<A: Allocator>(
     requires hand { is_free_hand (part_seen table.now.cells seat.old.log).row.hand ≡ true }
     requires stage { stage_ok (part_seen table.now.cells seat.old.log).row.stage (steps.Free cell) ≡ true }
     requires lock { lock_ok (part_seen table.now.cells seat.old.log).row.locked (steps.Free cell) ≡ true }
-    ensures told { seat.new.log ≡ told.Did (steps.Free cell) 18446744073709549568 moves.Nothing ∷ seat.old.log }
+    ensures told { seat.new.log ≡ told.Stepped (steps.Free cell) 18446744073709549568 moves.Nothing ∷ seat.old.log }
     ensures slots { seat.new.slots ≡ [] }
     ensures seat { Continues seat.old seat.new }
 {

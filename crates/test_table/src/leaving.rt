@@ -4,7 +4,7 @@
 
 ghost use Rattle.std.specs.Prelude.{◌≡◌, [], pos};
 ghost use Rattle.law.specs.rule.Seen.{part_seen};
-ghost use Rattle.brc_table.specs.Seated.{Stays};
+ghost use Rattle.brc_table.specs.Seated.{IsSameSeat};
 ghost use Rattle.test_table.specs.declared.globals.Held.TheVariants as held;
 ghost use Rattle.test_table.specs.Leaving.{HoldsNothing, CountsNone, IsAsNew, left_with, opening_at};
 ghost use Rattle.test_table.specs.Parts.{StandsAt, Went, asked_log, given_log, handed_log, taken_log};
@@ -28,7 +28,7 @@ fn closes_all(rt: &impl Abort, table: &Table, seat: &mut Seat, bits: u64)
     requires cells { table.now.cells ≡ 512 }
     requires nothing { HoldsNothing (part_seen 512 seat.old.log) }
     requires none { CountsNone seat.old.log }
-    ensures seat { Stays seat.old seat.new }
+    ensures seat { IsSameSeat seat.old seat.new }
     ensures left { part_seen 512 seat.new.log ≡ left_with bits (part_seen 512 seat.old.log) }
 {
     for word in 0..16 {
@@ -43,7 +43,7 @@ fn opens_all(table: &Table, seat: &mut Seat)
     requires table { seat.old.table ≡ table.now.table }
     requires cells { table.now.cells ≡ 512 }
     requires opening { part_seen 512 seat.old.log ≡ opening_at 0 (part_seen 512 []) }
-    ensures seat { Stays seat.old seat.new }
+    ensures seat { IsSameSeat seat.old seat.new }
     ensures opened { IsAsNew seat.new.log }
 {
     for word in 0..16 {
@@ -76,7 +76,7 @@ fn leaves_what_is_asked_for(
 )
     requires first { StandsAt [] table.now one.old }
     requires second { StandsAt [] table.now two.old }
-    ensures first { Stays one.old one.new }
+    ensures first { IsSameSeat one.old one.new }
     ensures left { part_seen 512 one.new.log ≡ left_with 0 (part_seen 512 (handed_log one.old.thread)) }
     ensures second { Went (asked_log 4398046511104 (taken_log (held.One (pos 1) 266) held.Nothing)) two.old two.new }
 {

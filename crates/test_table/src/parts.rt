@@ -6,7 +6,8 @@ ghost use Rattle.law.specs.world.declared.event.Dropped.TheVariants as drops;
 ghost use Rattle.law.specs.world.declared.event.Source.TheVariants as sources;
 ghost use Rattle.law.specs.world.declared.event.Step.TheVariants as steps;
 ghost use Rattle.law.specs.rule.Seen.{part_seen};
-ghost use Rattle.law.specs.steps.Owing.{Carries, EndsRisen, Enqueues, RaisesImmortal, RaisesShared, Releases, Unlocks};
+ghost use Rattle.law.specs.steps.Owing.{MayCarry, EndsRisen, Enqueues, MayRaiseImmortal, MayRaiseShared, MayRelease};
+ghost use Rattle.law.specs.steps.Owing.{MayUnlock};
 ghost use Rattle.brc_table.specs.Seated.{Continues};
 ghost use Rattle.test_table.specs.declared.globals.Held.TheVariants as held;
 ghost use Rattle.test_table.specs.Parts.{StandsAt, Went, HasPopped, MayFree, globals_with, globals_log, locked_log};
@@ -29,7 +30,7 @@ use std::process::Abort;
 /// The thread has the globals in this place.
 fn has_globals(rt: &impl Abort, table: &Table, seat: &mut Seat, place: u32)
     requires stands { StandsAt seat.old.log table.now seat.old }
-    requires raises { RaisesImmortal 512 seat.old.log (sources.Immortal 265) place 265 }
+    requires raises { MayRaiseImmortal 512 seat.old.log (sources.Immortal 265) place 265 }
     ensures went { Went (globals_log place seat.old.log) seat.old seat.new }
 {
     let found = table.immortal_up(seat, Source::Immortal(265), place, 265);
@@ -49,8 +50,8 @@ pub(crate) fn changes_globals(
     change: Change,
 )
     requires stands { StandsAt seat.old.log table.now seat.old }
-    requires carries { Carries 512 seat.old.log (steps.Lock place) 265 }
-    requires unlocks { Unlocks 512 (locked_log place from seat.old.log) (265, globals_with to) (globals_with from)
+    requires carries { MayCarry 512 seat.old.log (steps.Lock place) 265 }
+    requires unlocks { MayUnlock 512 (locked_log place from seat.old.log) (265, globals_with to) (globals_with from)
         change 265 }
     ensures went { Went (changed_log place from to change seat.old.log) seat.old seat.new }
 {
@@ -72,7 +73,7 @@ pub(crate) fn lives(rt: &impl Abort, found: Found<Global>, wanted: u64)
 /// The thread counts the list that is in place 1 up, and has it in this place too: it finds this shared word.
 pub(crate) fn counts_more(rt: &impl Abort, table: &Table, seat: &mut Seat, place: u32, shared: u64)
     requires stands { StandsAt seat.old.log table.now seat.old }
-    requires raises { RaisesShared 512 table.now.local_limit seat.old.log (sources.Frame 1) place 266 }
+    requires raises { MayRaiseShared 512 table.now.local_limit seat.old.log (sources.Frame 1) place 266 }
     ensures went { Went (more_log place shared seat.old.log) seat.old seat.new }
 {
     let found = table.shared_up(seat, Source::Frame(1), place, 266);
@@ -82,7 +83,7 @@ pub(crate) fn counts_more(rt: &impl Abort, table: &Table, seat: &mut Seat, place
 /// The thread asks for the list that is in place 1: it finds this shared word, and that thread 1 is the owner.
 pub(crate) fn asks(rt: &impl Abort, table: &Table, seat: &mut Seat, shared: u64)
     requires stands { StandsAt seat.old.log table.now seat.old }
-    requires releases { Releases 512 seat.old.log (steps.Ask (drops.Frame 1)) 266 }
+    requires releases { MayRelease 512 seat.old.log (steps.Ask (drops.Frame 1)) 266 }
     ensures went { Went (asked_log shared seat.old.log) seat.old seat.new }
 {
     is(rt, table.ask(seat, Dropped::Frame(1), 266), shared);
@@ -92,7 +93,7 @@ pub(crate) fn asks(rt: &impl Abort, table: &Table, seat: &mut Seat, shared: u64)
 /// It asks, and hands its reference to the owner's queue, whose word has no entry.
 pub(crate) fn asks_and_enqueues(rt: &impl Abort, table: &Table, seat: &mut Seat, shared: u64)
     requires stands { StandsAt seat.old.log table.now seat.old }
-    requires releases { Releases 512 seat.old.log (steps.Ask (drops.Frame 1)) 266 }
+    requires releases { MayRelease 512 seat.old.log (steps.Ask (drops.Frame 1)) 266 }
     requires enqueues { Enqueues 512 (asked_log shared seat.old.log) 266 1 }
     ensures went { Went (enqueued_log shared seat.old.log) seat.old seat.new }
 {
@@ -239,7 +240,7 @@ pub(crate) fn takes_out(
     to: Held,
 )
     requires new { StandsAt [] table.now seat.old }
-    requires unlocks { Unlocks 512 (locked_log 0 from (globals_log 0 [])) (265, globals_with to) (globals_with from)
+    requires unlocks { MayUnlock 512 (locked_log 0 from (globals_log 0 [])) (265, globals_with to) (globals_with from)
         (changes.Take 0 1) 265 }
     ensures went { Went (taken_log from to) seat.old seat.new }
 {

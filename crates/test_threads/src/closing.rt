@@ -27,7 +27,7 @@ fn report_of<A: Allocator + Copy>(
     let (heap, mut root) = Heap::new(memories.ample, SIZES).ok()?;
     if let Ok(mut mutator) = root.register(memories.ample, &heap) {
         lives(rt, memories.ample, &mut mutator, life);
-        let _ledger = mutator.end(rt, &mut root, &heap);
+        let _ledger = mutator.settle_and_join(rt, &mut root, &heap);
     }
     close_or_end(memories.scarce, heap, root).ok()
 }
@@ -38,11 +38,11 @@ fn missing<A: Allocator + Copy>(rt: &impl Wait, alloc: A, ends: u32) -> Option<(
     let (heap, mut root) = Heap::new(alloc, SIZES).ok()?;
     for _ in 0..ends {
         if let Ok(mutator) = root.register(alloc, &heap) {
-            let _ledger = mutator.end(rt, &mut root, &heap);
+            let _ledger = mutator.settle_and_join(rt, &mut root, &heap);
         }
     }
     if let Ok(mutator) = root.register(alloc, &heap) {
-        let _retired = mutator.retire(rt);
+        let _retired = mutator.settle_and_leave(rt);
     }
     match close_or_end(alloc, heap, root) {
         Err(

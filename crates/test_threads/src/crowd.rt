@@ -42,7 +42,7 @@ fn shows_report(rt: &impl Print, report: Option<Report<Global>>) -> io::Result<(
 
 /// The crowd lives on one heap, and two threads on each of many others; what they counted is printed.
 pub(crate) fn says<R: AllocGlobal + Print + Threads + Wait + Sync>(rt: &R) -> io::Result<()> {
-    let Ok((heap, mut root)) = Heap::new(rt.alloc(), Options::USUAL) else {
+    let Ok((heap, mut root)) = Heap::new(rt.alloc(), Options::DEFAULT) else {
         return println!(rt; "no heap can be had");
     };
     let counted = all_live(rt, rt.alloc(), &heap, &mut root);

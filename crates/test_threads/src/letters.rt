@@ -36,7 +36,7 @@ pub(crate) fn says<R: AllocGlobal + Print + Threads + Wait + Sync, W: Write>(
     rt: &R,
     output: &mut W,
 ) -> io::Result<()> {
-    let Ok((heap, mut root)) = Heap::new(rt.alloc(), Options::USUAL) else {
+    let Ok((heap, mut root)) = Heap::new(rt.alloc(), Options::DEFAULT) else {
         return println!(rt; "no heap can be had");
     };
     let counted = all_live(rt, rt.alloc(), &heap, &mut root);

@@ -29,7 +29,7 @@ fn shares(rt: &impl Wait, alloc: Global, frame: &mut Frame, globals: &Handle)
     match dict_put(rt, frame, globals, Key::Int(LIST), list) {
         Ok(None) => {}
         Ok(Some(old)) => frame.release(old),
-        Err(handed) => frame.release(handed.back.1),
+        Err(handed) => frame.release(handed.value.1),
     }
 }
 
@@ -44,7 +44,7 @@ fn pushes(rt: &impl Wait, alloc: Global, frame: &mut Frame, list: &Handle, numbe
         return;
     };
     if let Err(handed) = list_push(rt, frame, list, number) {
-        frame.release(handed.back);
+        frame.release(handed.value);
     }
 }
 
@@ -102,7 +102,7 @@ where
 
 /// A heap is opened, the threads live on it, and their ledgers are printed.
 pub(crate) fn says<R: AllocGlobal + Print + Threads + Wait + Sync>(rt: &R) -> io::Result<()> {
-    let Ok((heap, mut root)) = Heap::new(rt.alloc(), Options::USUAL) else {
+    let Ok((heap, mut root)) = Heap::new(rt.alloc(), Options::DEFAULT) else {
         return println!(rt; "no heap can be had");
     };
     let mut ledgers = (None, None);
@@ -115,7 +115,7 @@ pub(crate) fn says<R: AllocGlobal + Print + Threads + Wait + Sync>(rt: &R) -> io
             }
             last.frame().release(globals);
         }
-        ledgers.1 = Some(last.end(rt, &mut root, &heap));
+        ledgers.1 = Some(last.settle_and_join(rt, &mut root, &heap));
     }
     give_back(take_apart(heap, root));
     println!(rt; "{ledgers:?}")

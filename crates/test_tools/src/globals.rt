@@ -3,7 +3,7 @@
 ghost use Rattle.brc_count.specs.Frames.{IsUnlocked};
 ghost use Rattle.test_tools.specs.Calls.{GainsOrKeeps, OwnsBoth, OwnsOne, Parts};
 
-use brc_count::biased::Home;
+use brc_count::biased::HasTable;
 use brc_count::{Frame, Handle};
 use brc_dicts::{dict_del, dict_put};
 use brc_words::{Fault, GLOBALS, Key};
@@ -11,7 +11,7 @@ use std::alloc::Allocator;
 use std::sync::Wait;
 
 /// The value goes into the dictionary: whether beside a new key. Else what has no place there is released.
-fn puts<H: Home<A>, A: Allocator + Copy>(
+fn puts<H: HasTable<A>, A: Allocator + Copy>(
     rt: &impl Wait,
     frame: &mut Frame<H, A>,
     dict: &Handle<A>,
@@ -28,14 +28,14 @@ fn puts<H: Home<A>, A: Allocator + Copy>(
             false
         }
         Err(handed) => {
-            frame.release(handed.back.1);
+            frame.release(handed.value.1);
             false
         }
     }
 }
 
 /// The value goes into the globals: whether it stands there now, beside a key that they hadn't.
-pub fn shares<H: Home<A>, A: Allocator + Copy>(
+pub fn shares<H: HasTable<A>, A: Allocator + Copy>(
     rt: &impl Wait,
     frame: &mut Frame<H, A>,
     key: i64,
@@ -54,7 +54,7 @@ pub fn shares<H: Home<A>, A: Allocator + Copy>(
 }
 
 /// A handle to what stands in the globals beside this key, which goes from there.
-pub fn fetches<H: Home<A>, A: Allocator>(
+pub fn fetches<H: HasTable<A>, A: Allocator>(
     rt: &impl Wait,
     frame: &mut Frame<H, A>,
     key: i64,

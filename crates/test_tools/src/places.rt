@@ -5,7 +5,7 @@ ghost use Rattle.test_tools.specs.Calls.{OwnsAll};
 
 use crate::memory::Pieces;
 use brc_count::Frame;
-use brc_count::biased::Home;
+use brc_count::biased::HasTable;
 use brc_handles::Handles;
 use brc_things::none;
 use brc_words::Fault;
@@ -13,7 +13,7 @@ use linked_list_allocator::LocalHeap;
 use std::alloc::{Allocator, Global};
 
 /// References to None until one is refused: why. None where a thousand were had, or one wasn't kept.
-fn fills<H: Home<A>, A: Allocator>(
+fn fills<H: HasTable<A>, A: Allocator>(
     frame: &mut Frame<H, A>,
     handles: &mut Handles<A>,
 ) -> Option<Fault>
@@ -36,7 +36,7 @@ fn fills<H: Home<A>, A: Allocator>(
 
 /// All memory that is left is taken, and the frame's places filled, until one is refused for want of memory: the memory.
 /// None where it came otherwise.
-pub fn starves<'h, H: Home<A>, A: Allocator>(
+pub fn starves<'h, H: HasTable<A>, A: Allocator>(
     alloc: Global,
     scarce: &'h LocalHeap,
     frame: &mut Frame<H, A>,

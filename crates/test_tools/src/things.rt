@@ -4,8 +4,8 @@ ghost use Rattle.brc_count.specs.Frames.{IsUnlocked};
 ghost use Rattle.test_tools.specs.Calls.{GainsOrKeeps};
 
 use crate::memory::Memories;
-use brc_count::biased::Home;
-use brc_count::{Frame, Handed, Handle};
+use brc_count::biased::HasTable;
+use brc_count::{Frame, HandedBack, Handle};
 use brc_things::{new_dict, new_int, new_list, new_mailbox, new_text, none, truth};
 use brc_words::{Fault, Text};
 use std::alloc::Allocator;
@@ -34,35 +34,35 @@ impl Thing {
 }
 
 /// A new text. The value that it is given is of ample memory, and comes back where the object is refused.
-fn tried_text<H: Home<A>, A: Allocator + Copy>(
+fn tried_text<H: HasTable<A>, A: Allocator + Copy>(
     memories: Memories<A>,
     frame: &mut Frame<H, A>,
     text: &str,
-) -> Result<Handle<A>, Handed<Option<Text<A>>>>
+) -> Result<Handle<A>, HandedBack<Option<Text<A>>>>
     requires unlocked { IsUnlocked frame.old }
     ensures { GainsOrKeeps frame.old frame.new result }
 {
     let Ok(text) = String::from_str(memories.ample, text) else {
-        return Err(Handed {
+        return Err(HandedBack {
             fault: Fault::OutOfMemory,
-            back: None,
+            value: None,
         });
     };
     match new_text(memories.scarce, frame, Text::new(text)) {
         Ok(handle) => Ok(handle),
-        Err(Handed { fault, back }) => Err(Handed {
+        Err(HandedBack { fault, value: back }) => Err(HandedBack {
             fault,
-            back: Some(back),
+            value: Some(back),
         }),
     }
 }
 
 /// The thing, made of scarce memory where it is made anew. A text that is refused comes back.
-pub fn tried<H: Home<A>, A: Allocator + Copy>(
+pub fn tried<H: HasTable<A>, A: Allocator + Copy>(
     memories: Memories<A>,
     frame: &mut Frame<H, A>,
     thing: Thing,
-) -> Result<Handle<A>, Handed<Option<Text<A>>>>
+) -> Result<Handle<A>, HandedBack<Option<Text<A>>>>
     requires unlocked { IsUnlocked frame.old }
     ensures { GainsOrKeeps frame.old frame.new result }
 {
@@ -76,11 +76,11 @@ pub fn tried<H: Home<A>, A: Allocator + Copy>(
         Thing::Dict => new_dict(alloc, frame),
         Thing::Mailbox => new_mailbox(alloc, frame),
     };
-    answer.map_err(|fault| Handed { fault, back: None })
+    answer.map_err(|fault| HandedBack { fault, value: None })
 }
 
 /// The thing.
-pub fn made<H: Home<A>, A: Allocator + Copy>(
+pub fn made<H: HasTable<A>, A: Allocator + Copy>(
     alloc: A,
     frame: &mut Frame<H, A>,
     thing: Thing,

@@ -30,7 +30,7 @@ fn gives(
             Some(())
         }
         Err(handed) => {
-            frame.release(handed.back);
+            frame.release(handed.value);
             None
         }
     }

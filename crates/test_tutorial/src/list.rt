@@ -25,7 +25,7 @@ pub(crate) fn pushes(
     match list_push(rt, frame, list, number) {
         Ok(()) => Some(()),
         Err(handed) => {
-            frame.release(handed.back); // a refused call hands back what it took
+            frame.release(handed.value); // a refused call hands back what it took
             None
         }
     }

@@ -52,7 +52,7 @@ fn begins(rt: &impl Wait, alloc: Global, heap: &Heap, root: &mut Root) -> Option
         return None;
     };
     let alone = works_alone(rt, alloc, &mut first);
-    let _ledger = first.end(rt, root, heap);
+    let _ledger = first.settle_and_join(rt, root, heap);
     Some(alone)
 }
 
@@ -63,12 +63,12 @@ fn ends(rt: &impl Wait, alloc: Global, heap: &Heap, root: &mut Root)
 {
     if let Ok(mut last) = root.register(alloc, heap) {
         let _cleared = last.clear_globals();
-        let _ledger = last.end(rt, root, heap);
+        let _ledger = last.settle_and_join(rt, root, heap);
     }
 }
 
 fn main(rt: HostRuntime) -> io::Result<()> {
-    let Ok((heap, mut root)) = Heap::new(rt.alloc(), Options::USUAL) else {
+    let Ok((heap, mut root)) = Heap::new(rt.alloc(), Options::DEFAULT) else {
         return println!(rt; "no heap can be had");
     };
     let alone = begins(&rt, rt.alloc(), &heap, &mut root);

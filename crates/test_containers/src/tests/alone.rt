@@ -10,7 +10,7 @@ use crate::tests::calls::{
 use crate::tests::guards::{ToLock, Way, puts_a_pair};
 use crate::tests::objects::{entries, number_of};
 use crate::tests::threads::{a_heap, a_thread, is_empty};
-use brc_count::biased::Home;
+use brc_count::biased::HasTable;
 use brc_count::{Frame, Handle};
 use std::alloc::{Allocator, Global};
 use std::process::Abort;
@@ -98,7 +98,7 @@ fn edits_of_a_dict(way: Way) -> [Step; 3] {
 }
 
 /// The step is taken.
-fn takes<R: Abort + Wait, H: Home<A>, A: Allocator + Copy>(
+fn takes<R: Abort + Wait, H: HasTable<A>, A: Allocator + Copy>(
     rt: &R,
     alloc: A,
     frame: &mut Frame<H, A>,
@@ -143,7 +143,7 @@ struct Use<'s> {
 }
 
 /// It is made, used and released.
-fn uses<R: Abort + Wait, H: Home<A>, A: Allocator + Copy>(
+fn uses<R: Abort + Wait, H: HasTable<A>, A: Allocator + Copy>(
     rt: &R,
     alloc: A,
     frame: &mut Frame<H, A>,
@@ -165,7 +165,7 @@ fn lives<R: Abort + Wait>(rt: &R, alloc: Global, first: Use<'_>, second: Use<'_>
     let mut thread = a_thread(rt, alloc, &heap, &mut root);
     uses(rt, alloc, thread.frame(), first);
     uses(rt, alloc, thread.frame(), second);
-    let ledger = thread.end(rt, &mut root, &heap);
+    let ledger = thread.settle_and_join(rt, &mut root, &heap);
     assert_eq!(rt; (ledger.allocs, ledger.frees), (births, births));
     is_empty(rt, heap, root);
 }

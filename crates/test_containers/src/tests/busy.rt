@@ -7,9 +7,9 @@ ghost use Rattle.test_tools.specs.Calls.{OwnsBoth, OwnsOne, Parts, Stays};
 use crate::tests::calls::{Getting, Giving, gets, gets_none, gives};
 use crate::tests::threads::{a_heap, a_thread, is_empty};
 use brc_containers::try_int_of;
-use brc_count::biased::Home;
+use brc_count::biased::HasTable;
 use brc_count::block::Payload;
-use brc_count::{Frame, Handed, Handle};
+use brc_count::{Frame, HandedBack, Handle};
 use brc_lock::try_lock;
 use brc_words::{Fault, GLOBALS};
 use std::alloc::Allocator;
@@ -19,7 +19,7 @@ use test_tools::{Thing, made};
 
 /// While the first thread has the globals locked, with room and a place, the second one finds them Busy; its own empty
 /// list it can use, which has nothing to pop, and no number. It answers its list.
-fn locks_meanwhile<R: Abort + Wait, H: Home<A>, A: Allocator + Copy>(
+fn locks_meanwhile<R: Abort + Wait, H: HasTable<A>, A: Allocator + Copy>(
     rt: &R,
     frame: &mut Frame<H, A>,
     globals: &Handle<A>,
@@ -44,7 +44,7 @@ fn locks_meanwhile<R: Abort + Wait, H: Home<A>, A: Allocator + Copy>(
             assert!(rt; locked.room().is_ok());
             assert!(rt; locked.place().is_ok());
             let put = Giving::TryPut(7).given(rt, other, others, list);
-            let Handed { fault, back: list } = put.expect_err(rt, "a value is taken");
+            let HandedBack { fault, value: list } = put.expect_err(rt, "a value is taken");
             assert_eq!(rt; fault, Fault::Busy);
             gets_none(rt, other, &list, Getting::TryPop);
             assert!(rt; try_int_of(other, &list) == Err(Fault::WrongKind));
@@ -55,7 +55,7 @@ fn locks_meanwhile<R: Abort + Wait, H: Home<A>, A: Allocator + Copy>(
 }
 
 /// A new key gets the list, which is found there and taken out again.
-fn puts_then<R: Abort + Wait, H: Home<A>, A: Allocator + Copy>(
+fn puts_then<R: Abort + Wait, H: HasTable<A>, A: Allocator + Copy>(
     rt: &R,
     frame: &mut Frame<H, A>,
     globals: &Handle<A>,
@@ -73,7 +73,7 @@ fn puts_then<R: Abort + Wait, H: Home<A>, A: Allocator + Copy>(
 }
 
 /// The second thread makes a list, finds the globals Busy while the first has them locked, and uses them after that.
-fn takes_turns<R: Abort + Wait, H: Home<A>, A: Allocator + Copy>(
+fn takes_turns<R: Abort + Wait, H: HasTable<A>, A: Allocator + Copy>(
     rt: &R,
     alloc: A,
     first: &mut Frame<H, A>,
@@ -99,8 +99,8 @@ fn what_another_thread_has_locked_is_busy(rt: HostRuntime) {
     let mut first = a_thread(&rt, rt.alloc(), &heap, &mut root);
     let mut second = a_thread(&rt, rt.alloc(), &heap, &mut root);
     takes_turns(&rt, rt.alloc(), first.frame(), second.frame());
-    let _first = first.end(&rt, &mut root, &heap);
-    let ledger = second.end(&rt, &mut root, &heap);
+    let _first = first.settle_and_join(&rt, &mut root, &heap);
+    let ledger = second.settle_and_join(&rt, &mut root, &heap);
     assert_eq!(rt; (ledger.allocs, ledger.frees), (1, 1));
     is_empty(&rt, heap, root);
 }

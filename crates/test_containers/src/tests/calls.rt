@@ -6,8 +6,8 @@ ghost use Rattle.test_tools.specs.Calls.{OwnsBoth, OwnsOne, Stays, Adds, Parts, 
 
 use crate::tests::guards::{Entry, ToLock, Way, had_by_guard, put_by_guard, swap_by_guard};
 use crate::tests::objects::number_of;
-use brc_count::biased::Home;
-use brc_count::{Frame, Handed, Handle};
+use brc_count::biased::HasTable;
+use brc_count::{Frame, HandedBack, Handle};
 use brc_dicts::{
     dict_del, dict_find, dict_pair, dict_put, try_dict_del, try_dict_find, try_dict_put,
 };
@@ -67,38 +67,42 @@ pub(super) enum Exchanging {
 }
 
 /// What a put answers.
-type Put<A> = Result<Option<Handle<A>>, Handed<(Key<A>, Handle<A>)>>;
+type Put<A> = Result<Option<Handle<A>>, HandedBack<(Key<A>, Handle<A>)>>;
 
 /// The answer of a put of a new key. A refusal hands key and value back, of which this is the value.
-fn of_new_key<A: Allocator>(rt: &impl Abort, key: i64, put: Put<A>) -> Result<(), Handed<Handle<A>>>
+fn of_new_key<A: Allocator>(
+    rt: &impl Abort,
+    key: i64,
+    put: Put<A>,
+) -> Result<(), HandedBack<Handle<A>>>
     ensures new { OnOk result (put ≡ Ok None) }
     ensures refused { OnErr result (IsErr put) }
-    ensures back { IfErr result (λ given. IfErr put (λ handed. given.back ≡ handed.back.1)) }
+    ensures back { IfErr result (λ given. IfErr put (λ handed. given.value ≡ handed.value.1)) }
 {
     match put {
         Ok(None) => Ok(()),
         Ok(Some(_old)) => panic!(rt; "the key was there"),
         Err(
-            Handed {
+            HandedBack {
                 fault,
-                back: (key_back, back),
+                value: (key_back, back),
             },
         ) => {
             assert!(rt; key_back == Key::Int(key));
-            Err(Handed { fault, back })
+            Err(HandedBack { fault, value: back })
         }
     }
 }
 
 impl Giving {
     /// What the call answers. A refusal hands the value back.
-    pub(super) fn given<H: Home<A>, A: Allocator + Copy>(
+    pub(super) fn given<H: HasTable<A>, A: Allocator + Copy>(
         self,
         rt: &(impl Abort + Wait),
         frame: &mut Frame<H, A>,
         container: &Handle<A>,
         value: Handle<A>,
-    ) -> Result<(), Handed<Handle<A>>>
+    ) -> Result<(), HandedBack<Handle<A>>>
         requires { OwnsBoth frame.old container.now value }
         ensures { LosesOrKeeps frame.old frame.new value result }
     {
@@ -121,7 +125,7 @@ impl Giving {
 }
 
 /// The value goes in.
-pub(super) fn gives<H: Home<A>, A: Allocator + Copy>(
+pub(super) fn gives<H: HasTable<A>, A: Allocator + Copy>(
     rt: &(impl Abort + Wait),
     frame: &mut Frame<H, A>,
     container: &Handle<A>,
@@ -139,7 +143,7 @@ pub(super) fn gives<H: Home<A>, A: Allocator + Copy>(
 
 impl Getting {
     /// What the call answers.
-    pub(super) fn had<H: Home<A>, A: Allocator>(
+    pub(super) fn had<H: HasTable<A>, A: Allocator>(
         self,
         rt: &(impl Abort + Wait),
         frame: &mut Frame<H, A>,
@@ -172,7 +176,7 @@ impl Getting {
 }
 
 /// A handle to the entry.
-pub(super) fn gets<H: Home<A>, A: Allocator>(
+pub(super) fn gets<H: HasTable<A>, A: Allocator>(
     rt: &(impl Abort + Wait),
     frame: &mut Frame<H, A>,
     container: &Handle<A>,
@@ -187,7 +191,7 @@ pub(super) fn gets<H: Home<A>, A: Allocator>(
 }
 
 /// The entry is an integer with this number.
-pub(super) fn gets_number<H: Home<A>, A: Allocator>(
+pub(super) fn gets_number<H: HasTable<A>, A: Allocator>(
     rt: &(impl Abort + Wait),
     frame: &mut Frame<H, A>,
     container: &Handle<A>,
@@ -202,7 +206,7 @@ pub(super) fn gets_number<H: Home<A>, A: Allocator>(
 }
 
 /// A handle to the value at the place, which stands beside this key.
-fn gets_value<H: Home<A>, A: Allocator>(
+fn gets_value<H: HasTable<A>, A: Allocator>(
     rt: &(impl Abort + Wait),
     alloc: A,
     frame: &mut Frame<H, A>,
@@ -223,7 +227,7 @@ fn gets_value<H: Home<A>, A: Allocator>(
 }
 
 /// The pair at the place has this key, and its value is an integer with this number.
-pub(super) fn has_pair<H: Home<A>, A: Allocator>(
+pub(super) fn has_pair<H: HasTable<A>, A: Allocator>(
     rt: &(impl Abort + Wait),
     alloc: A,
     frame: &mut Frame<H, A>,
@@ -240,7 +244,7 @@ pub(super) fn has_pair<H: Home<A>, A: Allocator>(
 }
 
 /// There is no such entry.
-pub(super) fn gets_none<H: Home<A>, A: Allocator>(
+pub(super) fn gets_none<H: HasTable<A>, A: Allocator>(
     rt: &(impl Abort + Wait),
     frame: &mut Frame<H, A>,
     container: &Handle<A>,
@@ -256,7 +260,7 @@ pub(super) fn gets_none<H: Home<A>, A: Allocator>(
 }
 
 /// The value and an entry change places.
-pub(super) fn exchanges<H: Home<A>, A: Allocator + Copy>(
+pub(super) fn exchanges<H: HasTable<A>, A: Allocator + Copy>(
     rt: &(impl Abort + Wait),
     frame: &mut Frame<H, A>,
     container: &Handle<A>,

@@ -8,7 +8,7 @@ ghost use Rattle.test_tools.specs.Calls.{EndsBare, IsBare, OwnsAll, OwnsOne, Sta
 use crate::tests::objects::entries;
 use crate::tests::threads::{a_heap, a_thread, is_empty};
 use brc_count::Handle;
-use brc_count::biased::Home;
+use brc_count::biased::HasTable;
 use brc_handles::Handles;
 use brc_things::none;
 use brc_thread::Mutator;
@@ -20,7 +20,7 @@ use std::sync::Wait;
 use test_tools::{Heaps, Memories, Pieces, shares, starves};
 
 /// The globals aren't cleared, and hold as many entries as before.
-fn clears_nothing<R: Abort + Wait, H: Home<A>, A: Allocator>(
+fn clears_nothing<R: Abort + Wait, H: HasTable<A>, A: Allocator>(
     rt: &R,
     thread: &mut Mutator<H, A>,
     globals: &Handle<A>,
@@ -36,7 +36,7 @@ fn clears_nothing<R: Abort + Wait, H: Home<A>, A: Allocator>(
 }
 
 /// No handle to the globals is had.
-fn has_no_globals<R: Abort, H: Home<A>, A: Allocator>(rt: &R, thread: &mut Mutator<H, A>)
+fn has_no_globals<R: Abort, H: HasTable<A>, A: Allocator>(rt: &R, thread: &mut Mutator<H, A>)
     requires unlocked { IsUnlocked thread.old }
     ensures { Stays thread.old thread.new }
 {
@@ -47,7 +47,7 @@ fn has_no_globals<R: Abort, H: Home<A>, A: Allocator>(rt: &R, thread: &mut Mutat
 }
 
 /// They are cleared once there is memory.
-fn clears_with_memory<'h, R: Abort + Wait, H: Home<&'h LocalHeap>>(
+fn clears_with_memory<'h, R: Abort + Wait, H: HasTable<&'h LocalHeap>>(
     rt: &R,
     pieces: &mut Pieces<'h>,
     thread: &mut Mutator<H, &'h LocalHeap>,
@@ -67,7 +67,7 @@ fn clears_with_memory<'h, R: Abort + Wait, H: Home<&'h LocalHeap>>(
 }
 
 /// They are cleared neither without a place for the handle to them, nor without one for an entry's.
-fn clears_never<R: Abort + Wait, H: Home<A>, A: Allocator>(
+fn clears_never<R: Abort + Wait, H: HasTable<A>, A: Allocator>(
     rt: &R,
     thread: &mut Mutator<H, A>,
     handles: &mut Handles<A>,
@@ -94,7 +94,7 @@ fn clears_never<R: Abort + Wait, H: Home<A>, A: Allocator>(
 }
 
 /// The globals hold None, and aren't cleared until there is memory.
-fn refuses_to_clear<'h, R: Abort + Wait, H: Home<&'h LocalHeap>>(
+fn refuses_to_clear<'h, R: Abort + Wait, H: HasTable<&'h LocalHeap>>(
     rt: &R,
     alloc: Global,
     memories: Memories<&'h LocalHeap>,
@@ -128,7 +128,7 @@ fn globals_without_memory_are_not_cleared(rt: HostRuntime) {
     let (heap, mut root) = a_heap(&rt, memories.ample, 512);
     let mut thread = a_thread(&rt, memories.scarce, &heap, &mut root);
     refuses_to_clear(&rt, rt.alloc(), memories, &mut thread);
-    let ledger = thread.end(&rt, &mut root, &heap);
+    let ledger = thread.settle_and_join(&rt, &mut root, &heap);
     assert_eq!(rt; (ledger.allocs, ledger.frees), (0, 0));
     is_empty(&rt, heap, root);
     assert_eq!(rt; heaps.used(), (0, 0));

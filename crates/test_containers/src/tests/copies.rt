@@ -5,7 +5,7 @@ ghost use Rattle.test_tools.specs.Calls.{Adds, OwnsOne, Stays};
 
 use crate::tests::guards::Way;
 use brc_containers::{text_into, text_of, try_text_into, try_text_of};
-use brc_count::biased::Home;
+use brc_count::biased::HasTable;
 use brc_count::{Frame, Handle};
 use brc_dicts::{dict_key, dict_pair, try_dict_key, try_dict_pair, try_dict_put};
 use brc_things::none;
@@ -41,7 +41,7 @@ fn is_the_key<A: Allocator>(key: &Key<A>) -> bool {
 
 /// Whether the copy is as it should be, by the form that waits or by the one that doesn't. The value beside a key goes
 /// again.
-pub(super) fn copied<H: Home<A>, A: Allocator>(
+pub(super) fn copied<H: HasTable<A>, A: Allocator>(
     rt: &impl Wait,
     alloc: A,
     frame: &mut Frame<H, A>,
@@ -87,7 +87,7 @@ pub(super) fn copied<H: Home<A>, A: Allocator>(
 }
 
 /// None goes beside a new key.
-fn puts_none<R: Abort, H: Home<A>, A: Allocator + Copy>(
+fn puts_none<R: Abort, H: HasTable<A>, A: Allocator + Copy>(
     rt: &R,
     frame: &mut Frame<H, A>,
     dict: &Handle<A>,
@@ -105,7 +105,7 @@ fn puts_none<R: Abort, H: Home<A>, A: Allocator + Copy>(
 }
 
 /// A dictionary with an integer's key and then the text's.
-pub(super) fn two_keys<R: Abort + Wait, H: Home<A>, A: Allocator + Copy>(
+pub(super) fn two_keys<R: Abort + Wait, H: HasTable<A>, A: Allocator + Copy>(
     rt: &R,
     alloc: A,
     frame: &mut Frame<H, A>,

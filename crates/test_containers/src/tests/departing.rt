@@ -9,12 +9,12 @@ fn a_dead_block_keeps_a_thread_until_there_are_turns_for_it(rt: HostRuntime) {
     let mut thread = a_thread(&rt, rt.alloc(), &heap, &mut root);
     let list = made(rt.alloc(), thread.frame(), Thing::List).expect(&rt, "no list is made");
     thread.frame().release(list);
-    let thread = match thread.depart(0) {
+    let thread = match thread.leave_without_waiting(0) {
         Ok(_leaving) => panic!(rt; "it has left with a dead block"),
         Err(thread) => thread,
     };
     assert_eq!(rt; (thread.ledger().allocs, thread.ledger().frees), (1, 0));
-    let leaving = match thread.depart(1) {
+    let leaving = match thread.leave_without_waiting(1) {
         Ok(leaving) => leaving,
         Err(_thread) => panic!(rt; "a dead block is left"),
     };

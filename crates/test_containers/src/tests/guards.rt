@@ -3,12 +3,12 @@
 
 ghost use Rattle.std.specs.Prelude.{◌≡◌};
 ghost use Rattle.brc_count.specs.Owned.{Keeps};
-ghost use Rattle.brc_lock.specs.Holding.{Holds};
+ghost use Rattle.brc_lock.specs.Holding.{HasLockedBlock};
 ghost use Rattle.test_tools.specs.Calls.{OwnsBoth, OwnsOne, Parts, LosesOrKeeps, GainsOrKeeps, Stays};
 
-use brc_count::biased::Home;
+use brc_count::biased::HasTable;
 use brc_count::block::{Block, Entries, Payload};
-use brc_count::{Frame, Handed, Handle};
+use brc_count::{Frame, HandedBack, Handle};
 use brc_lock::{Locked, lock, try_lock};
 use brc_words::{Fault, Key};
 use std::alloc::Allocator;
@@ -29,7 +29,7 @@ pub(super) struct ToLock<'h, A: Allocator> {
 }
 
 /// The container, locked.
-fn locked<'f, H: Home<A>, A: Allocator>(
+fn locked<'f, H: HasTable<A>, A: Allocator>(
     rt: &(impl Abort + Wait),
     frame: &'f mut Frame<H, A>,
     to_lock: ToLock<'f, A>,
@@ -37,7 +37,7 @@ fn locked<'f, H: Home<A>, A: Allocator>(
     requires { OwnsOne frame.old to_lock.container.now }
     ensures same_reference { result.frame.ghost_name ≡ frame.entry.ghost_name }
     ensures handle { result.handle.now ≡ to_lock.entry.container.now }
-    ensures holds { Holds result.frame.now to_lock.entry.container.now result.block }
+    ensures holds { HasLockedBlock result.frame.now to_lock.entry.container.now result.block }
     ensures keeps { Keeps frame.old result.frame.now }
 {
     let ToLock { container, way } = to_lock;
@@ -51,12 +51,12 @@ fn locked<'f, H: Home<A>, A: Allocator>(
 }
 
 /// The value goes into a list, last. Where room for it is refused the list is unlocked as it was found.
-pub(super) fn put_by_guard<H: Home<A>, A: Allocator + Copy>(
+pub(super) fn put_by_guard<H: HasTable<A>, A: Allocator + Copy>(
     rt: &(impl Abort + Wait),
     frame: &mut Frame<H, A>,
     list: ToLock<'_, A>,
     value: Handle<A>,
-) -> Result<(), Handed<Handle<A>>>
+) -> Result<(), HandedBack<Handle<A>>>
     requires { OwnsBoth frame.old list.container.now value }
     ensures { LosesOrKeeps frame.old frame.new value result }
 {
@@ -71,13 +71,13 @@ pub(super) fn put_by_guard<H: Home<A>, A: Allocator + Copy>(
         }
         Err(fault) => {
             guard.unlock();
-            Err(Handed { fault, back: value })
+            Err(HandedBack { fault, value })
         }
     }
 }
 
 /// The value goes into an empty dictionary, beside this key.
-pub(super) fn puts_a_pair<H: Home<A>, A: Allocator + Copy>(
+pub(super) fn puts_a_pair<H: HasTable<A>, A: Allocator + Copy>(
     rt: &(impl Abort + Wait),
     frame: &mut Frame<H, A>,
     dict: ToLock<'_, A>,
@@ -106,7 +106,7 @@ pub(super) enum Entry {
 }
 
 /// A handle to an entry of the list. Where a place for it is refused the list is unlocked as it was found.
-pub(super) fn had_by_guard<H: Home<A>, A: Allocator>(
+pub(super) fn had_by_guard<H: HasTable<A>, A: Allocator>(
     rt: &(impl Abort + Wait),
     frame: &mut Frame<H, A>,
     list: ToLock<'_, A>,
@@ -138,7 +138,7 @@ pub(super) fn had_by_guard<H: Home<A>, A: Allocator>(
 }
 
 /// The value and an entry of the list change places.
-pub(super) fn swap_by_guard<H: Home<A>, A: Allocator>(
+pub(super) fn swap_by_guard<H: HasTable<A>, A: Allocator>(
     rt: &(impl Abort + Wait),
     frame: &mut Frame<H, A>,
     list: ToLock<'_, A>,

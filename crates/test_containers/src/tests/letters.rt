@@ -8,7 +8,7 @@ use crate::tests::calls::{Getting, Giving, gets, gives};
 use crate::tests::objects::{entries, number_of};
 use crate::tests::threads::{a_heap, a_thread, is_empty};
 use brc_count::Frame;
-use brc_count::biased::Home;
+use brc_count::biased::HasTable;
 use brc_thread::{Heap, Resting, Retired};
 use brc_words::GLOBALS;
 use std::alloc::{Allocator, Global};
@@ -18,7 +18,7 @@ use std::thread::{Threads, join};
 use test_tools::{Thing, fetches, made, shares, sum_of};
 
 /// One letter with this number goes into the mailbox under 7.
-fn sends_one<R: Abort + Wait, H: Home<A>, A: Allocator + Copy>(
+fn sends_one<R: Abort + Wait, H: HasTable<A>, A: Allocator + Copy>(
     rt: &R,
     alloc: A,
     frame: &mut Frame<H, A>,
@@ -52,7 +52,7 @@ fn sends<R: Abort + Wait, A: Allocator + Copy>(
         let _told = mutator.poll();
         let _left = mutator.work(2);
     }
-    mutator.retire(rt)
+    mutator.settle_and_leave(rt)
 }
 
 /// Two threads send at once, each on a thread of its own.
@@ -76,7 +76,7 @@ fn two_send<R: Threads + Abort + Wait + Sync>(
 }
 
 /// All letters are received: each sender's come in their order, and there are 2,000.
-fn receives_all<R: Abort + Wait, H: Home<A>, A: Allocator>(rt: &R, frame: &mut Frame<H, A>)
+fn receives_all<R: Abort + Wait, H: HasTable<A>, A: Allocator>(rt: &R, frame: &mut Frame<H, A>)
     requires unlocked { IsUnlocked frame.old }
     ensures { Stays frame.old frame.new }
 {
@@ -114,7 +114,7 @@ fn letters_of_two_threads_come_in_their_order(rt: HostRuntime) {
     root.gather(&heap, first);
     root.gather(&heap, second);
     receives_all(&rt, last.frame());
-    let ledger = last.end(&rt, &mut root, &heap);
+    let ledger = last.settle_and_join(&rt, &mut root, &heap);
     assert_eq!(rt; sum_of(births, ledger.allocs), 2_001);
     assert_eq!(rt; sum_of(frees, ledger.frees), 2_001);
     is_empty(&rt, heap, root);

@@ -3,14 +3,14 @@
 ghost use Rattle.test_tools.specs.Calls.{OwnsOne, Parts, Stays};
 
 use brc_containers::{int_of, len_of};
-use brc_count::biased::Home;
+use brc_count::biased::HasTable;
 use brc_count::{Frame, Handle};
 use std::alloc::Allocator;
 use std::process::Abort;
 use std::sync::Wait;
 
 /// How many entries the container has.
-pub(super) fn entries<H: Home<A>, A: Allocator>(
+pub(super) fn entries<H: HasTable<A>, A: Allocator>(
     rt: &(impl Abort + Wait),
     frame: &mut Frame<H, A>,
     container: &Handle<A>,
@@ -22,7 +22,7 @@ pub(super) fn entries<H: Home<A>, A: Allocator>(
 }
 
 /// The number of an integer, whose handle goes.
-pub(super) fn number_of<H: Home<A>, A: Allocator>(
+pub(super) fn number_of<H: HasTable<A>, A: Allocator>(
     rt: &(impl Abort + Wait),
     frame: &mut Frame<H, A>,
     handle: Handle<A>,

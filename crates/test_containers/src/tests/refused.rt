@@ -11,8 +11,8 @@ use crate::tests::guards::Way;
 use crate::tests::objects::entries;
 use crate::tests::threads::{a_heap, a_thread, is_empty};
 use brc_containers::{len_of, try_len_of};
-use brc_count::biased::Home;
-use brc_count::{Frame, Handed, Handle};
+use brc_count::biased::HasTable;
+use brc_count::{Frame, HandedBack, Handle};
 use brc_handles::Handles;
 use brc_things::none;
 use brc_words::Fault;
@@ -32,7 +32,7 @@ fn with_key(giving: Giving, key: u32) -> Giving {
 }
 
 /// A call that puts a reference to None into the container. A refusal hands back what the call took.
-fn put<R: Abort + Wait, H: Home<A>, A: Allocator + Copy>(
+fn put<R: Abort + Wait, H: HasTable<A>, A: Allocator + Copy>(
     rt: &R,
     frame: &mut Frame<H, A>,
     container: &Handle<A>,
@@ -44,7 +44,7 @@ fn put<R: Abort + Wait, H: Home<A>, A: Allocator + Copy>(
     let value = none(frame).expect(rt, "no None is had");
     match giving.given(rt, frame, container, value) {
         Ok(()) => Ok(()),
-        Err(Handed { fault, back: value }) => {
+        Err(HandedBack { fault, value }) => {
             frame.release(value);
             Err(fault)
         }
@@ -52,7 +52,7 @@ fn put<R: Abort + Wait, H: Home<A>, A: Allocator + Copy>(
 }
 
 /// Puts until one is refused, which leaves as many entries and handles as before; the answer is how many passed.
-fn puts_until_refused<R: Abort + Wait, H: Home<A>, A: Allocator + Copy>(
+fn puts_until_refused<R: Abort + Wait, H: HasTable<A>, A: Allocator + Copy>(
     rt: &R,
     frame: &mut Frame<H, A>,
     container: &Handle<A>,
@@ -86,7 +86,7 @@ enum Call {
 }
 
 /// The call, and what it gives goes again; a copy is as it should be.
-fn tries<'h, R: Abort + Wait, H: Home<&'h LocalHeap>>(
+fn tries<'h, R: Abort + Wait, H: HasTable<&'h LocalHeap>>(
     rt: &R,
     scarce: &'h LocalHeap,
     frame: &mut Frame<H, &'h LocalHeap>,
@@ -111,7 +111,7 @@ fn tries<'h, R: Abort + Wait, H: Home<&'h LocalHeap>>(
 }
 
 /// The call is refused until there is memory for it; each refusal leaves as many entries and handles as before.
-fn passes_with_memory<'h, R: Abort + Wait, H: Home<&'h LocalHeap>>(
+fn passes_with_memory<'h, R: Abort + Wait, H: HasTable<&'h LocalHeap>>(
     rt: &R,
     scarce: &'h LocalHeap,
     pieces: &mut Pieces<'h>,
@@ -160,7 +160,7 @@ fn putting(getting: Getting) -> Giving {
 
 /// An entry is refused for want of memory, another thread finds the container free and as it was, and with memory the
 /// entry goes in.
-fn refuses_an_entry<'h, R: Abort + Wait, H: Home<&'h LocalHeap>>(
+fn refuses_an_entry<'h, R: Abort + Wait, H: HasTable<&'h LocalHeap>>(
     rt: &R,
     alloc: Global,
     scarce: &'h LocalHeap,
@@ -188,7 +188,7 @@ fn refuses_an_entry<'h, R: Abort + Wait, H: Home<&'h LocalHeap>>(
 }
 
 /// What a call is made on that gets or copies: a container with an entry, or what is copied.
-fn object_for<R: Abort + Wait, H: Home<A>, A: Allocator + Copy>(
+fn object_for<R: Abort + Wait, H: HasTable<A>, A: Allocator + Copy>(
     rt: &R,
     memories: Memories<A>,
     frame: &mut Frame<H, A>,
@@ -215,7 +215,7 @@ fn object_for<R: Abort + Wait, H: Home<A>, A: Allocator + Copy>(
 }
 
 /// A handle's place or a copy is refused for want of memory, and with memory it is had.
-fn refuses<'h, R: Abort + Wait, H: Home<&'h LocalHeap>>(
+fn refuses<'h, R: Abort + Wait, H: HasTable<&'h LocalHeap>>(
     rt: &R,
     alloc: Global,
     memories: Memories<&'h LocalHeap>,
@@ -244,14 +244,14 @@ fn on_a_heap<R: Abort + Wait>(rt: &R, alloc: Global, memories: Memories<&LocalHe
             let mut one = a_thread(rt, ample, &heap, &mut root);
             let mut two = a_thread(rt, ample, &heap, &mut root);
             refuses_an_entry(rt, alloc, scarce, one.frame(), two.frame(), giving);
-            let _two = two.end(rt, &mut root, &heap);
-            let ledger = one.end(rt, &mut root, &heap);
+            let _two = two.settle_and_join(rt, &mut root, &heap);
+            let ledger = one.settle_and_join(rt, &mut root, &heap);
             assert_eq!(rt; ledger.allocs, 1);
         }
         _ => {
             let mut thread = a_thread(rt, scarce, &heap, &mut root);
             refuses(rt, alloc, memories, thread.frame(), call);
-            let ledger = thread.end(rt, &mut root, &heap);
+            let ledger = thread.settle_and_join(rt, &mut root, &heap);
             assert_eq!(rt; (ledger.allocs, ledger.frees), (1, 1));
         }
     }

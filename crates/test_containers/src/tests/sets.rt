@@ -7,9 +7,9 @@ ghost use Rattle.test_tools.specs.Calls.{OwnsOne, Stays};
 use crate::tests::guards::Way;
 use crate::tests::objects::entries;
 use crate::tests::threads::{a_heap, a_thread, is_empty};
-use brc_count::biased::Home;
+use brc_count::biased::HasTable;
 use brc_count::block::KeyRef;
-use brc_count::{Frame, Handed, Handle};
+use brc_count::{Frame, HandedBack, Handle};
 use brc_dicts::{dict_set, try_dict_set};
 use brc_things::none;
 use brc_words::{Fault, Key, Text};
@@ -20,7 +20,7 @@ use std::sync::Wait;
 use test_tools::{Heaps, Memories, Pieces, Thing, made};
 
 /// None goes beside the key: whether the key was new.
-fn sets<R: Abort + Wait, H: Home<A>, A: Allocator + Copy>(
+fn sets<R: Abort + Wait, H: HasTable<A>, A: Allocator + Copy>(
     rt: &R,
     alloc: A,
     frame: &mut Frame<H, A>,
@@ -42,7 +42,7 @@ fn sets<R: Abort + Wait, H: Home<A>, A: Allocator + Copy>(
             frame.release(old);
             Ok(false)
         }
-        Err(Handed { fault, back }) => {
+        Err(HandedBack { fault, value: back }) => {
             frame.release(back);
             Err(fault)
         }
@@ -51,7 +51,7 @@ fn sets<R: Abort + Wait, H: Home<A>, A: Allocator + Copy>(
 
 /// The new key is refused until there is memory for its pair and its copy; each refusal leaves no entry, and as many
 /// handles as before.
-fn sets_with_memory<'h, R: Abort + Wait, H: Home<&'h LocalHeap>>(
+fn sets_with_memory<'h, R: Abort + Wait, H: HasTable<&'h LocalHeap>>(
     rt: &R,
     scarce: &'h LocalHeap,
     pieces: &mut Pieces<'h>,
@@ -81,7 +81,7 @@ fn sets_with_memory<'h, R: Abort + Wait, H: Home<&'h LocalHeap>>(
 }
 
 /// A text's key goes into an empty dictionary once there is memory for it, and another value beside it without any.
-fn goes_in<'h, R: Abort + Wait, H: Home<&'h LocalHeap>>(
+fn goes_in<'h, R: Abort + Wait, H: HasTable<&'h LocalHeap>>(
     rt: &R,
     alloc: Global,
     memories: Memories<&'h LocalHeap>,
@@ -110,7 +110,7 @@ fn a_refused_set_changes_nothing(rt: HostRuntime) {
         let (heap, mut root) = a_heap(&rt, memories.ample, 512);
         let mut thread = a_thread(&rt, memories.ample, &heap, &mut root);
         goes_in(&rt, rt.alloc(), memories, thread.frame(), way);
-        let ledger = thread.end(&rt, &mut root, &heap);
+        let ledger = thread.settle_and_join(&rt, &mut root, &heap);
         assert_eq!(rt; (ledger.allocs, ledger.frees), (1, 1));
         is_empty(&rt, heap, root);
         assert_eq!(rt; heaps.used(), (0, 0));

@@ -10,7 +10,7 @@ use crate::tests::guards::Way;
 use crate::tests::objects::number_of;
 use crate::tests::threads::{a_heap, a_thread, is_empty};
 use brc_containers::{int_of, kind_of, len_of, try_int_of, try_kind_of, try_len_of};
-use brc_count::biased::Home;
+use brc_count::biased::HasTable;
 use brc_count::{Frame, Handle};
 use brc_things::none;
 use brc_words::Kind;
@@ -21,7 +21,7 @@ use std::sync::Wait;
 use test_tools::{Pieces, Thing, made};
 
 /// A list of two entries, and an integer, are read in both forms.
-fn reads_both<R: Abort + Wait, H: Home<A>, A: Allocator>(
+fn reads_both<R: Abort + Wait, H: HasTable<A>, A: Allocator>(
     rt: &R,
     frame: &mut Frame<H, A>,
     list: &Handle<A>,
@@ -41,7 +41,7 @@ fn reads_both<R: Abort + Wait, H: Home<A>, A: Allocator>(
 
 /// An entry is looked at, exchanged three times, put in as a third, and taken out; the answer is a handle to what was
 /// the first.
-fn edits<R: Abort + Wait, H: Home<A>, A: Allocator + Copy>(
+fn edits<R: Abort + Wait, H: HasTable<A>, A: Allocator + Copy>(
     rt: &R,
     frame: &mut Frame<H, A>,
     list: &Handle<A>,
@@ -65,7 +65,7 @@ fn edits<R: Abort + Wait, H: Home<A>, A: Allocator + Copy>(
 
 /// A list and an integer are made; then no memory is left, and they are read, edited and released. The answer is the
 /// memory.
-fn uses_without_memory<'h, R: Abort + Wait, H: Home<&'h LocalHeap>>(
+fn uses_without_memory<'h, R: Abort + Wait, H: HasTable<&'h LocalHeap>>(
     rt: &R,
     alloc: Global,
     memory: &'h LocalHeap,
@@ -106,7 +106,7 @@ fn ends_without_memory<'h, R: Abort + Wait>(
     thread.settle(rt);
     assert!(rt; thread.is_idle());
     let _others = Pieces::take_all(alloc, memory).expect(rt, "a heap that is never full");
-    let ledger = thread.end(rt, &mut root, &heap);
+    let ledger = thread.settle_and_join(rt, &mut root, &heap);
     assert_eq!(rt; (ledger.allocs, ledger.frees), (4, 4));
     is_empty(rt, heap, root);
 }

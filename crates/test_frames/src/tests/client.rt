@@ -6,7 +6,7 @@ ghost use Rattle.brc_count.specs.Frames.{IsUnlocked, Owns};
 ghost use Rattle.brc_count.specs.Owned.{Keeps, Loses};
 ghost use Rattle.brc_handles.specs.Handles.{slot, Holds};
 
-use brc_count::biased::Home;
+use brc_count::biased::HasTable;
 use brc_count::block::Payload;
 use brc_count::{Frame, Handle};
 use brc_handles::Handles;
@@ -14,7 +14,7 @@ use brc_words::Fault;
 use std::alloc::Allocator;
 
 /// So many integers more; false where one can't be had.
-pub(super) fn makes<H: Home<A>, A: Allocator + Copy>(
+pub(super) fn makes<H: HasTable<A>, A: Allocator + Copy>(
     alloc: A,
     frame: &mut Frame<H, A>,
     handles: &mut Handles<A>,
@@ -29,7 +29,7 @@ pub(super) fn makes<H: Home<A>, A: Allocator + Copy>(
     for i in 0..count {
         match frame.born(alloc, Payload::Int(i as i64)) {
             Err(handed) => {
-                let _payload = handed.back;
+                let _payload = handed.value;
                 return false;
             }
             Ok(handle) => {
@@ -43,7 +43,7 @@ pub(super) fn makes<H: Home<A>, A: Allocator + Copy>(
 }
 
 /// So many integers, which all go; false where one couldn't be had.
-pub(super) fn makes_and_releases<H: Home<A>, A: Allocator + Copy>(
+pub(super) fn makes_and_releases<H: HasTable<A>, A: Allocator + Copy>(
     alloc: A,
     frame: &mut Frame<H, A>,
     count: u32,
@@ -61,7 +61,7 @@ pub(super) fn makes_and_releases<H: Home<A>, A: Allocator + Copy>(
 }
 
 /// As a list's push: the value's reference goes, or the handle comes back where the two are of one object.
-fn gives<H: Home<A>, A: Allocator>(
+fn gives<H: HasTable<A>, A: Allocator>(
     frame: &mut Frame<H, A>,
     list: &Handle<A>,
     value: Handle<A>,
@@ -85,7 +85,7 @@ fn gives<H: Home<A>, A: Allocator>(
 
 /// The value of one register is given to the list of another; it stays in its own where that refuses it, or where there
 /// is no list.
-pub(super) fn gives_register<H: Home<A>, A: Allocator>(
+pub(super) fn gives_register<H: HasTable<A>, A: Allocator>(
     frame: &mut Frame<H, A>,
     handles: &mut Handles<A>,
     value: usize,
@@ -116,7 +116,7 @@ pub(super) fn gives_register<H: Home<A>, A: Allocator>(
 }
 
 /// One reference more of a register, and what others asked for meanwhile.
-pub(super) fn copies<H: Home<A>, A: Allocator>(
+pub(super) fn copies<H: HasTable<A>, A: Allocator>(
     frame: &mut Frame<H, A>,
     handles: &mut Handles<A>,
     index: usize,

@@ -4,7 +4,7 @@ ghost use Rattle.std.specs.Prelude.{◌≡◌};
 ghost use Rattle.brc_count.specs.Frames.{IsUnlocked};
 
 use crate::tests::phases::ends;
-use brc_count::biased::Home;
+use brc_count::biased::HasTable;
 use brc_thread::{Heap, Mutator, Options, take_apart};
 use brc_words::Fault;
 use std::alloc::{Allocator, Global};
@@ -35,7 +35,7 @@ fn sizes_out_of_range_are_refused(rt: HostRuntime) {
 }
 
 /// A thread that holds a handle doesn't leave; once it is released, it does.
-fn leaves_late<R: Abort + Wait, H: Home<A> + Drop, A: Allocator>(
+fn leaves_late<R: Abort + Wait, H: HasTable<A> + Drop, A: Allocator>(
     rt: &R,
     mutator: Mutator<H, A>,
 ) -> u32
@@ -52,7 +52,7 @@ fn leaves_late<R: Abort + Wait, H: Home<A> + Drop, A: Allocator>(
             let mut mutator = mutator;
             mutator.frame().release(globals);
             let thread = mutator.thread();
-            let _retired = mutator.retire(rt);
+            let _retired = mutator.settle_and_leave(rt);
             thread
         }
     }

@@ -6,7 +6,7 @@ ghost use Rattle.brc_count.specs.Owned.{GoesOn};
 ghost use Rattle.test_tools.specs.Calls.{OwnsAll, OwnsOne, Stays};
 
 use crate::tests::phases::{ends, entered, leaves, leaves_late, opened, says};
-use brc_count::biased::Home;
+use brc_count::biased::HasTable;
 use brc_count::{Frame, Handle, Ledger};
 use brc_handles::Handles;
 use std::alloc::{Allocator, Global};
@@ -15,7 +15,7 @@ use std::sync::Wait;
 use test_tools::{Thing, comes_out, fetches, made, shares};
 
 /// One reference more to the maker's list goes into the globals, beside this key.
-fn shares_one_more<R: Abort + Wait, H: Home<A>, A: Allocator + Copy>(
+fn shares_one_more<R: Abort + Wait, H: HasTable<A>, A: Allocator + Copy>(
     rt: &R,
     maker: &mut Frame<H, A>,
     list: &Handle<A>,
@@ -29,7 +29,7 @@ fn shares_one_more<R: Abort + Wait, H: Home<A>, A: Allocator + Copy>(
 }
 
 /// So many references to a new list of the maker's go into the globals, beside the keys from 0 on: the list's cell.
-fn shares_all<R: Abort + Wait, H: Home<A>, A: Allocator + Copy>(
+fn shares_all<R: Abort + Wait, H: HasTable<A>, A: Allocator + Copy>(
     rt: &R,
     alloc: A,
     maker: &mut Frame<H, A>,
@@ -48,7 +48,7 @@ fn shares_all<R: Abort + Wait, H: Home<A>, A: Allocator + Copy>(
 }
 
 /// The other thread takes them out of the globals, and keeps them; the list has this cell.
-fn fetches_all<R: Abort + Wait, H: Home<A>, A: Allocator>(
+fn fetches_all<R: Abort + Wait, H: HasTable<A>, A: Allocator>(
     rt: &R,
     other: &mut Frame<H, A>,
     kept: &mut Handles<A>,
@@ -67,7 +67,7 @@ fn fetches_all<R: Abort + Wait, H: Home<A>, A: Allocator>(
 }
 
 /// So many references to a new list of the maker's pass through the globals to the other thread: the list's cell.
-pub(super) fn hands_over<R: Abort + Wait, H: Home<A>, A: Allocator + Copy>(
+pub(super) fn hands_over<R: Abort + Wait, H: HasTable<A>, A: Allocator + Copy>(
     rt: &R,
     alloc: A,
     maker: &mut Frame<H, A>,
@@ -87,7 +87,7 @@ pub(super) fn hands_over<R: Abort + Wait, H: Home<A>, A: Allocator + Copy>(
 }
 
 /// The first reference that is kept goes.
-fn lets_one_go<H: Home<A>, A: Allocator>(
+fn lets_one_go<H: HasTable<A>, A: Allocator>(
     rt: &impl Abort,
     other: &mut Frame<H, A>,
     kept: &mut Handles<A>,
@@ -111,7 +111,7 @@ enum Before {
 }
 
 /// It happens.
-fn happens<H: Home<A>, A: Allocator>(
+fn happens<H: HasTable<A>, A: Allocator>(
     rt: &impl Abort,
     maker: &mut Frame<H, A>,
     other: &mut Frame<H, A>,
@@ -155,7 +155,7 @@ impl By {
 }
 
 /// The other thread lets all go that it has, and the list is freed by whom it should, after the maker has left.
-fn lets_all_go<H: Home<A>, A: Allocator>(
+fn lets_all_go<H: HasTable<A>, A: Allocator>(
     rt: &impl Abort,
     other: &mut Frame<H, A>,
     kept: Handles<A>,

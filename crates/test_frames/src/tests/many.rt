@@ -6,8 +6,8 @@ ghost use Rattle.test_tools.specs.Calls.{EndsBare, IsBare, OwnsAll};
 
 use crate::tests::client::{copies, gives_register, makes, makes_and_releases};
 use crate::tests::phases::{SMALL, ends, says};
-use brc_count::biased::Home;
-use brc_count::{Frame, Handed};
+use brc_count::biased::HasTable;
+use brc_count::{Frame, HandedBack};
 use brc_handles::Handles;
 use brc_things::none;
 use brc_thread::{Heap, take_apart};
@@ -25,7 +25,7 @@ fn a_stack_is_released(rt: HostRuntime) {
     let thread = root.register(rt.alloc(), &heap);
     let mut thread = thread.expect(&rt, "a thread is refused");
     assert!(rt; makes_and_releases(rt.alloc(), thread.frame(), 20));
-    says(&rt, thread.end(&rt, &mut root, &heap), (20, 20));
+    says(&rt, thread.settle_and_join(&rt, &mut root, &heap), (20, 20));
     ends(&rt, take_apart(heap, root));
 }
 
@@ -45,12 +45,12 @@ fn registers_are_copied_and_given(rt: HostRuntime) {
     gives_register(thread.frame(), &mut handles, 2, 1);
     assert!(rt; handles.get(2).is_none());
     handles.release_all(thread.frame());
-    says(&rt, thread.end(&rt, &mut root, &heap), (2, 2));
+    says(&rt, thread.settle_and_join(&rt, &mut root, &heap), (2, 2));
     ends(&rt, take_apart(heap, root));
 }
 
 /// None is pushed; a refusal hands it back.
-fn pushes_none<H: Home<A>, A: Allocator>(
+fn pushes_none<H: HasTable<A>, A: Allocator>(
     rt: &impl Abort,
     frame: &mut Frame<H, A>,
     handles: &mut Handles<A>,
@@ -62,7 +62,7 @@ fn pushes_none<H: Home<A>, A: Allocator>(
     let handle = none(frame).expect(rt, "no None is had");
     match handles.push(handle) {
         Ok(()) => Ok(()),
-        Err(Handed { fault, back }) => {
+        Err(HandedBack { fault, value: back }) => {
             frame.release(back);
             Err(fault)
         }
@@ -86,7 +86,7 @@ enum End {
 }
 
 /// What the call answers.
-fn stacks<H: Home<A>, A: Allocator>(
+fn stacks<H: HasTable<A>, A: Allocator>(
     rt: &impl Abort,
     frame: &mut Frame<H, A>,
     handles: &mut Handles<A>,
@@ -111,7 +111,7 @@ fn stacks<H: Home<A>, A: Allocator>(
 
 /// The call, until it ends so, with a piece of memory more after each refusal, which leaves as many handles as before
 /// here and in the frame.
-fn stacks_until<'h, H: Home<A>, A: Allocator>(
+fn stacks_until<'h, H: HasTable<A>, A: Allocator>(
     rt: &impl Abort,
     pieces: &mut Pieces<'h>,
     frame: &mut Frame<H, A>,
@@ -153,7 +153,7 @@ fn has_no_places<A: Allocator>(rt: &impl Abort, scarce: A) {
 }
 
 /// Each of the calls is refused where no memory is left for a stack of one handle.
-fn refuses<'h, H: Home<&'h LocalHeap>>(
+fn refuses<'h, H: HasTable<&'h LocalHeap>>(
     rt: &impl Abort,
     alloc: Global,
     scarce: &'h LocalHeap,
@@ -183,7 +183,7 @@ fn refuses_on_a_heap(rt: &(impl Abort + Wait), alloc: Global, memories: Memories
     let thread = root.register(memories.ample, &heap);
     let mut thread = thread.expect(rt, "a thread is refused");
     refuses(rt, alloc, memories.scarce, thread.frame());
-    says(rt, thread.end(rt, &mut root, &heap), (0, 0));
+    says(rt, thread.settle_and_join(rt, &mut root, &heap), (0, 0));
     ends(rt, take_apart(heap, root));
 }
 

@@ -61,7 +61,7 @@ fn gathers<R: Abort + Wait>(
     requires same_heap { resting.heap ≡ heap.now }
     ensures root { root.new.table ≡ root.old.table }
 {
-    let ledger = resting.wake(heap).end(rt, root, heap);
+    let ledger = resting.wake(heap).settle_and_join(rt, root, heap);
     says(rt, ledger, (0, 0));
 }
 
@@ -166,7 +166,7 @@ fn clears<R: Abort + Wait>(
 {
     let mut mutator = bears(rt, alloc, heap, root, 1);
     assert!(rt; mutator.clear_globals().is_ok());
-    let ledger = mutator.end(rt, root, heap);
+    let ledger = mutator.settle_and_join(rt, root, heap);
     says(rt, ledger, (0, lists));
 }
 

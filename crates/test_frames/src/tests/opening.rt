@@ -40,7 +40,7 @@ fn is_registered<R: Abort + Wait, A: Allocator + Copy>(
     match root.register(memory, heap) {
         Ok(mutator) => {
             assert_eq!(rt; mutator.thread(), 1);
-            let _ledger = mutator.end(rt, root, heap);
+            let _ledger = mutator.settle_and_join(rt, root, heap);
             true
         }
         Err(fault) => {

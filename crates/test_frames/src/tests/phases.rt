@@ -7,7 +7,7 @@ ghost use Rattle.brc_count.specs.law.rule.Opening.{first_view};
 ghost use Rattle.brc_count.specs.Closing.{BeginsBy};
 ghost use Rattle.brc_count.specs.Frames.{IsUnlocked};
 
-use brc_count::biased::Home;
+use brc_count::biased::HasTable;
 use brc_count::table::{HeapTable, Rest, RootSeat};
 use brc_count::{Frame, Ledger};
 use brc_thread::Options;
@@ -42,7 +42,7 @@ pub(super) fn opened_with<A: Allocator + Copy>(
 }
 
 /// The frame of the next thread.
-pub(super) fn entered<H: Home<A> + Drop, A: Allocator + Copy>(
+pub(super) fn entered<H: HasTable<A> + Drop, A: Allocator + Copy>(
     rt: &impl Abort,
     alloc: A,
     heap: H,
@@ -68,7 +68,10 @@ pub(super) fn says(rt: &impl Abort, ledger: Ledger, sums: (u64, u64)) {
 }
 
 /// A thread that has a handle doesn't leave: its frame is answered.
-pub(super) fn stays<H: Home<A>, A: Allocator>(rt: &impl Abort, frame: Frame<H, A>) -> Frame<H, A>
+pub(super) fn stays<H: HasTable<A>, A: Allocator>(
+    rt: &impl Abort,
+    frame: Frame<H, A>,
+) -> Frame<H, A>
     requires unlocked { IsUnlocked frame }
     ensures { result ≡ frame }
 {
@@ -80,7 +83,7 @@ pub(super) fn stays<H: Home<A>, A: Allocator>(rt: &impl Abort, frame: Frame<H, A
 
 /// A thread that has no handle leaves, and so many turns of work are left to it then; the root gathers it, and the
 /// answer is its last ledger.
-pub(super) fn leaves_late<H: Home<A> + Drop, A: Allocator>(
+pub(super) fn leaves_late<H: HasTable<A> + Drop, A: Allocator>(
     rt: &impl Abort,
     table: &HeapTable<A>,
     root: &mut RootSeat<A>,
@@ -111,7 +114,7 @@ pub(super) fn leaves_late<H: Home<A> + Drop, A: Allocator>(
 }
 
 /// A thread that has no handle leaves, there is nothing left for it to do, and the root gathers it.
-pub(super) fn leaves<H: Home<A> + Drop, A: Allocator>(
+pub(super) fn leaves<H: HasTable<A> + Drop, A: Allocator>(
     rt: &impl Abort,
     table: &HeapTable<A>,
     root: &mut RootSeat<A>,

@@ -8,7 +8,7 @@ use crate::tests::steps::{Step, lives};
 use brc_containers::{
     int_of, kind_of, len_of, text_of, try_int_of, try_kind_of, try_len_of, try_text_of,
 };
-use brc_count::biased::Home;
+use brc_count::biased::HasTable;
 use brc_count::{Frame, Handle};
 use brc_words::{Fault, GLOBALS, Kind, Text};
 use std::alloc::Allocator;
@@ -51,7 +51,7 @@ impl Step {
     }
 
     /// An object is read: whether the step is answered so, in both forms.
-    pub(super) fn reads<R: Wait, H: Home<A>, A: Allocator + Copy>(
+    pub(super) fn reads<R: Wait, H: HasTable<A>, A: Allocator + Copy>(
         self,
         rt: &R,
         alloc: A,
@@ -99,7 +99,7 @@ fn objects_are_read_as_they_are(rt: HostRuntime) {
 }
 
 /// While this thread has the globals locked, another one finds them Busy.
-fn finds_busy<H: Home<A>, A: Allocator>(
+fn finds_busy<H: HasTable<A>, A: Allocator>(
     rt: &impl Abort,
     frame: &mut Frame<H, A>,
     other: &mut Frame<H, A>,

@@ -6,8 +6,8 @@ ghost use Rattle.brc_count.specs.Frames.{IsUnlocked};
 ghost use Rattle.test_tools.specs.Calls.{EndsBare, GainsOrKeeps, IsBare, OwnsOne, Stays};
 
 use crate::tests::phases::{ends, entered, leaves, opened, says};
-use brc_count::biased::Home;
-use brc_count::{Frame, Handed, Handle};
+use brc_count::biased::HasTable;
+use brc_count::{Frame, HandedBack, Handle};
 use brc_handles::Handles;
 use brc_things::none;
 use brc_words::Fault;
@@ -54,7 +54,7 @@ struct Case {
 }
 
 /// What the making answers. A text that is refused is handed back as it was.
-fn makes<H: Home<A>, A: Allocator + Copy>(
+fn makes<H: HasTable<A>, A: Allocator + Copy>(
     rt: &impl Abort,
     memories: Memories<A>,
     frame: &mut Frame<H, A>,
@@ -65,7 +65,7 @@ fn makes<H: Home<A>, A: Allocator + Copy>(
 {
     match tried(memories, frame, thing) {
         Ok(handle) => Ok(handle),
-        Err(Handed { fault, back }) => {
+        Err(HandedBack { fault, value: back }) => {
             assert!(rt; thing.is_back(&back));
             Err(fault)
         }
@@ -73,7 +73,7 @@ fn makes<H: Home<A>, A: Allocator + Copy>(
 }
 
 /// What the call answers.
-fn answer<H: Home<A>, A: Allocator + Copy>(
+fn answer<H: HasTable<A>, A: Allocator + Copy>(
     rt: &impl Abort,
     memories: Memories<A>,
     frame: &mut Frame<H, A>,
@@ -91,7 +91,7 @@ fn answer<H: Home<A>, A: Allocator + Copy>(
 
 /// Whether the call passes: its handle is to its cell, and goes again. Where it is refused what is seen of the frame
 /// is as it was.
-fn passes<H: Home<A>, A: Allocator + Copy>(
+fn passes<H: HasTable<A>, A: Allocator + Copy>(
     rt: &impl Abort,
     memories: Memories<A>,
     frame: &mut Frame<H, A>,
@@ -120,7 +120,7 @@ fn passes<H: Home<A>, A: Allocator + Copy>(
 /// The call, with a piece of memory more each time, until it passes. The growth of the frame's places is refused
 /// before, and that of the block of what is made: a place that is had stays had, by which it is told which one was
 /// refused.
-fn until_it_passes<'h, H: Home<&'h LocalHeap>>(
+fn until_it_passes<'h, H: HasTable<&'h LocalHeap>>(
     rt: &impl Abort,
     pieces: &mut Pieces<'h>,
     memories: Memories<&'h LocalHeap>,
@@ -147,7 +147,7 @@ fn until_it_passes<'h, H: Home<&'h LocalHeap>>(
 }
 
 /// The call is refused at each of its growths, and then passes, in a frame without handles.
-fn is_refused_to<'h, H: Home<&'h LocalHeap>>(
+fn is_refused_to<'h, H: HasTable<&'h LocalHeap>>(
     rt: &impl Abort,
     alloc: Global,
     memories: Memories<&'h LocalHeap>,

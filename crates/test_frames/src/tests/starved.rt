@@ -8,7 +8,7 @@ ghost use Rattle.test_tools.specs.Calls.{IsBare, OwnsAll, OwnsBoth, OwnsOne, Par
 
 use crate::tests::lists::hands_over;
 use crate::tests::phases::{ends, entered, leaves, leaves_late, opened_with, says};
-use brc_count::biased::Home;
+use brc_count::biased::HasTable;
 use brc_count::{Frame, Handle};
 use brc_handles::Handles;
 use brc_lists::try_list_push;
@@ -45,7 +45,7 @@ impl<'h> Starving<'h> {
 }
 
 /// So many calls of work for one turn need it, and the next one doesn't; none has memory.
-fn takes_turns<'h, H: Home<&'h LocalHeap>>(
+fn takes_turns<'h, H: HasTable<&'h LocalHeap>>(
     rt: &impl Abort,
     starving: &mut Starving<'h>,
     frame: &mut Frame<H, &'h LocalHeap>,
@@ -72,7 +72,7 @@ enum Shape {
 }
 
 /// The entry goes into the list.
-fn pushes<H: Home<A>, A: Allocator>(
+fn pushes<H: HasTable<A>, A: Allocator>(
     rt: &impl Abort,
     frame: &mut Frame<H, A>,
     list: &Handle<A>,
@@ -88,7 +88,7 @@ fn pushes<H: Home<A>, A: Allocator>(
 }
 
 /// The structure of one list more: in the list, or around it.
-fn one_more<H: Home<A>, A: Allocator + Copy>(
+fn one_more<H: HasTable<A>, A: Allocator + Copy>(
     rt: &impl Abort,
     alloc: A,
     frame: &mut Frame<H, A>,
@@ -113,7 +113,7 @@ fn one_more<H: Home<A>, A: Allocator + Copy>(
 }
 
 /// The structure, by a handle to its first list.
-fn a_structure<H: Home<A>, A: Allocator + Copy>(
+fn a_structure<H: HasTable<A>, A: Allocator + Copy>(
     rt: &impl Abort,
     alloc: A,
     frame: &mut Frame<H, A>,
@@ -174,7 +174,7 @@ fn a_long_chain_dies_a_turn_at_a_time(rt: HostRuntime) {
 
 /// A list of each of the first two frames' passes to the third, which lets both go without memory, and so asks their
 /// owners.
-fn asks<'h, R: Abort + Wait, H: Home<&'h LocalHeap>>(
+fn asks<'h, R: Abort + Wait, H: HasTable<&'h LocalHeap>>(
     rt: &R,
     starving: &mut Starving<'h>,
     first: &mut Frame<H, &'h LocalHeap>,
@@ -197,7 +197,7 @@ fn asks<'h, R: Abort + Wait, H: Home<&'h LocalHeap>>(
 }
 
 /// The owner of a list finds without memory that it was asked, and frees it.
-fn is_asked<'h, H: Home<&'h LocalHeap>>(
+fn is_asked<'h, H: HasTable<&'h LocalHeap>>(
     rt: &impl Abort,
     starving: &mut Starving<'h>,
     owner: &mut Frame<H, &'h LocalHeap>,
@@ -238,7 +238,7 @@ fn asked_owners_take_no_memory(rt: HostRuntime) {
 }
 
 /// So many new lists of the maker's pass to the other thread, one in each cell from 266 on.
-fn passes_lists<R: Abort + Wait, H: Home<A>, A: Allocator + Copy>(
+fn passes_lists<R: Abort + Wait, H: HasTable<A>, A: Allocator + Copy>(
     rt: &R,
     alloc: A,
     maker: &mut Frame<H, A>,

@@ -19,8 +19,8 @@ ghost use Rattle.std.specs.Prelude.{◌≡◌};
 ghost use Rattle.test_tools.specs.Calls.{EndsBare, IsBare, OwnsAll};
 
 use crate::tests::phases::{ends, entered, leaves, opened};
-use brc_count::biased::Home;
-use brc_count::{Frame, Handed};
+use brc_count::biased::HasTable;
+use brc_count::{Frame, HandedBack};
 use brc_handles::Handles;
 use brc_words::Fault;
 use std::alloc::{Allocator, Global};
@@ -95,7 +95,7 @@ fn thing(rt: &impl Abort, text: &'static str) -> Thing {
 }
 
 /// One reference to the thing: its cell, or why there is none.
-fn makes<H: Home<A>, A: Allocator + Copy>(
+fn makes<H: HasTable<A>, A: Allocator + Copy>(
     rt: &impl Abort,
     alloc: A,
     frame: &mut Frame<H, A>,
@@ -116,7 +116,7 @@ fn makes<H: Home<A>, A: Allocator + Copy>(
             assert!(rt; handles.keep(frame, handle).is_ok());
             Ok(cell)
         }
-        Err(Handed { fault, back }) => {
+        Err(HandedBack { fault, value: back }) => {
             assert!(rt; thing.is_back(&back));
             Err(fault)
         }
@@ -124,7 +124,7 @@ fn makes<H: Home<A>, A: Allocator + Copy>(
 }
 
 /// One reference more to the first thing that is kept: its cell, or why there is none.
-fn retains<H: Home<A>, A: Allocator>(
+fn retains<H: HasTable<A>, A: Allocator>(
     rt: &impl Abort,
     frame: &mut Frame<H, A>,
     handles: &mut Handles<A>,
@@ -146,7 +146,7 @@ fn retains<H: Home<A>, A: Allocator>(
 }
 
 /// The thing with the number of this text goes, and dies in one turn: the cell that it had.
-fn goes<H: Home<A>, A: Allocator>(
+fn goes<H: HasTable<A>, A: Allocator>(
     rt: &impl Abort,
     frame: &mut Frame<H, A>,
     handles: &mut Handles<A>,
@@ -167,7 +167,7 @@ fn goes<H: Home<A>, A: Allocator>(
 }
 
 /// All things that are kept go, by rising number.
-fn all_go<H: Home<A>, A: Allocator>(alloc: A, frame: &mut Frame<H, A>, handles: &mut Handles<A>)
+fn all_go<H: HasTable<A>, A: Allocator>(alloc: A, frame: &mut Frame<H, A>, handles: &mut Handles<A>)
     requires { OwnsAll frame.old handles.old }
     ensures all { OwnsAll frame.new handles.new }
     ensures heap { frame.new.heap ≡ frame.old.heap }
@@ -177,7 +177,7 @@ fn all_go<H: Home<A>, A: Allocator>(alloc: A, frame: &mut Frame<H, A>, handles: 
 }
 
 /// The step is taken: whether it is answered so.
-fn takes<R: Abort + Wait, H: Home<A>, A: Allocator + Copy>(
+fn takes<R: Abort + Wait, H: HasTable<A>, A: Allocator + Copy>(
     rt: &R,
     alloc: A,
     frame: &mut Frame<H, A>,
@@ -219,7 +219,7 @@ fn takes<R: Abort + Wait, H: Home<A>, A: Allocator + Copy>(
 }
 
 /// All steps are taken, and what is kept then goes.
-fn takes_all<R: Abort + Wait, H: Home<A>, A: Allocator + Copy>(
+fn takes_all<R: Abort + Wait, H: HasTable<A>, A: Allocator + Copy>(
     rt: &R,
     alloc: A,
     frame: &mut Frame<H, A>,

@@ -21,8 +21,8 @@ fn objects_live_and_die_at_their_own_heap(rt: HostRuntime) {
     there.frame().release(number);
     here.frame().release(list);
     there.frame().release(next);
-    says(&rt, here.end(&rt, &mut root, &heap), (1, 1));
-    says(&rt, there.end(&rt, &mut others, &other), (2, 2));
+    says(&rt, here.settle_and_join(&rt, &mut root, &heap), (1, 1));
+    says(&rt, there.settle_and_join(&rt, &mut others, &other), (2, 2));
     ends(&rt, take_apart(heap, root));
     ends(&rt, take_apart(other, others));
 }

@@ -85,7 +85,7 @@ fn sections_meet(rt: HostRuntime) {
             asked: AtomicU64::new(0),
             all,
         };
-        let told = outcome(&rt, rt.alloc(), text.as_str(), RunOptions::USUAL, &gate);
+        let told = outcome(&rt, rt.alloc(), text.as_str(), RunOptions::DEFAULT, &gate);
         assert_eq!(rt; told.as_str(), wanted.as_str());
     }
 }
@@ -171,7 +171,7 @@ fn each_line_is_asked_for(rt: HostRuntime) {
             second: AtomicU64::new(0),
             others: AtomicU32::new(0),
         };
-        let told = outcome(&rt, rt.alloc(), text, RunOptions::USUAL, &gate);
+        let told = outcome(&rt, rt.alloc(), text, RunOptions::DEFAULT, &gate);
         assert_eq!(rt; told.as_str(), wanted, "{case}");
         assert_eq!(rt; gate.first.load(Ordering::SeqCst), first, "{case}");
         assert_eq!(rt; gate.second.load(Ordering::SeqCst), second, "{case}");

@@ -12,7 +12,7 @@ use std::test::*;
 fn options_have_limits(rt: HostRuntime) {
     let options = RunOptions {
         cells: 511,
-        ..RunOptions::USUAL
+        ..RunOptions::DEFAULT
     };
     let told = outcome_of(
         &rt,

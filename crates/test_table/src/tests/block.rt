@@ -4,7 +4,7 @@
 //! the proof less.
 
 use crate::comparing::{holds, same};
-use brc_block::{Block, Cells, Entries, KeyRef, Letters, Pairs, Payload, Worklist};
+use brc_block::{Block, CellList, Entries, KeyRef, Letters, Pairs, Payload, Worklist};
 use brc_words::{Fault, Key};
 use linked_list_allocator::LocalHeap;
 use std::alloc::{Allocator, Global};
@@ -94,7 +94,7 @@ fn stays<'h>(
 #[test]
 fn a_list_without_memory_stays(rt: HostRuntime) {
     let heap = small_heap(&rt, rt.alloc());
-    let mut cells = Cells::new(Vec::with_capacity(&heap, 2).expect(&rt, "memory"));
+    let mut cells = CellList::new(Vec::with_capacity(&heap, 2).expect(&rt, "memory"));
     let _filler = stays(&rt, rt.alloc(), &heap, &mut cells, 1);
     same(&rt, "as it was", cells.as_slice(), [266, 267].as_slice());
 

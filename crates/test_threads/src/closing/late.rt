@@ -30,10 +30,10 @@ fn two_of_three<A: Allocator + Copy>(
     let first = root.register(alloc, heap).ok()?.rest();
     let second = root.register(alloc, heap).ok()?.rest();
     let mut third = root.register(alloc, heap).ok()?;
-    let _first = first.wake(heap).end(rt, root, heap);
-    let _second = second.wake(heap).end(rt, root, heap);
+    let _first = first.wake(heap).settle_and_join(rt, root, heap);
+    let _second = second.wake(heap).settle_and_join(rt, root, heap);
     lives(rt, alloc, &mut third, Life::HoldsItself);
-    Some(third.retire(rt))
+    Some(third.settle_and_leave(rt))
 }
 
 /// A heap is closed while the third of three threads isn't gathered; what is handed back is closed once it is. None

@@ -28,7 +28,7 @@ fn holds_itself<A: Allocator + Copy>(rt: &impl Wait, alloc: A, frame: &mut Frame
         return;
     };
     if let Err(handed) = list_push(rt, frame, &list, again) {
-        frame.release(handed.back);
+        frame.release(handed.value);
     }
     frame.release(list);
 }
@@ -54,7 +54,7 @@ fn puts_a_text<A: Allocator + Copy>(
     match dict_put(rt, frame, dict, Key::Int(1), text) {
         Ok(None) => {}
         Ok(Some(old)) => frame.release(old),
-        Err(handed) => frame.release(handed.back.1),
+        Err(handed) => frame.release(handed.value.1),
     }
 }
 

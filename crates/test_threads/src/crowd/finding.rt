@@ -30,7 +30,7 @@ fn puts_list(rt: &impl Wait, alloc: Global, frame: &mut Frame, globals: &Handle)
             Counted::NOTHING
         }
         Err(handed) => {
-            frame.release(handed.back.1);
+            frame.release(handed.value.1);
             Counted::wanting(Want::List)
         }
     }

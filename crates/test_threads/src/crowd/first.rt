@@ -27,7 +27,7 @@ pub(crate) fn ends(rt: &impl Wait, heap: &Heap, root: &mut Root, first: Resting)
 {
     let mut first = first.wake(heap);
     let cleared = first.clear_globals();
-    let _ledger = first.end(rt, root, heap);
+    let _ledger = first.settle_and_join(rt, root, heap);
     match cleared {
         Ok(()) => Counted::NOTHING,
         Err(_) => Counted::wanting(Want::EmptyGlobals),

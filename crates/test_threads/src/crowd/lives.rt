@@ -35,7 +35,7 @@ fn lives(rt: &impl Wait, heap: &Heap, resting: Resting, gate: &Gate) -> Done
     gate.pass(rt);
     let counted = finds(rt, &mut mutator);
     Done {
-        retired: mutator.retire(rt),
+        retired: mutator.settle_and_leave(rt),
         counted,
     }
 }

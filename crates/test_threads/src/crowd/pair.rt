@@ -32,7 +32,7 @@ fn puts(rt: &impl Wait, frame: &mut Frame, globals: &Handle, list: &Handle) -> b
             false
         }
         Err(handed) => {
-            frame.release(handed.back.1);
+            frame.release(handed.value.1);
             false
         }
     }

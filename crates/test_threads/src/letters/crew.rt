@@ -70,6 +70,6 @@ pub(crate) fn clears(rt: &impl Wait, alloc: Global, heap: &Heap, root: &mut Root
         return false;
     };
     let cleared = last.clear_globals().is_ok();
-    let _ledger = last.end(rt, root, heap);
+    let _ledger = last.settle_and_join(rt, root, heap);
     cleared
 }

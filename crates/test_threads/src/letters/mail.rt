@@ -116,7 +116,7 @@ impl Mailing {
         match dict_put(rt, frame, globals, Key::Int(MAILBOX), mailbox) {
             Ok(None) => {}
             Ok(Some(old)) => frame.release(old),
-            Err(handed) => frame.release(handed.back.1),
+            Err(handed) => frame.release(handed.value.1),
         }
     }
 
@@ -133,7 +133,7 @@ impl Mailing {
         match send(rt, frame, mailbox, letter) {
             Ok(()) => true,
             Err(handed) => {
-                frame.release(handed.back);
+                frame.release(handed.value);
                 false
             }
         }

@@ -17,7 +17,7 @@ fn is_registered<A: Allocator + Copy>(rt: &impl Wait, memories: Memories<A>) -> 
     let (heap, mut root) = Heap::new(memories.ample, SIZES).ok()?;
     let refused = match root.register_apart(memories.scarce, &heap) {
         Ok(mutator) => {
-            let _ledger = mutator.end(rt, &mut root, &heap);
+            let _ledger = mutator.settle_and_join(rt, &mut root, &heap);
             None
         }
         Err(fault) => Some(fault),

@@ -6,7 +6,7 @@ ghost use Rattle.test_tools.specs.Calls.{EndsBare, IsBare, Parts};
 
 use crate::letters::registering::SIZES;
 use brc_count::Frame;
-use brc_count::biased::Home;
+use brc_count::biased::HasTable;
 use brc_heap::{Fault, Handle, Handles, Heap, Key, Mutator, close_or_end, dict_put, none, send};
 use brc_loops::{
     Life, Never, Nothing, Waited, end_all, fetch_until, gather_all, gather_answers, recv_until,
@@ -28,7 +28,7 @@ pub(crate) enum Awaited {
 }
 
 /// None goes to where it is waited for, or is released.
-fn puts<'h, H: Home<&'h LocalHeap>>(
+fn puts<'h, H: HasTable<&'h LocalHeap>>(
     rt: &impl Wait,
     frame: &mut Frame<H, &'h LocalHeap>,
     object: &Handle<&'h LocalHeap>,
@@ -45,19 +45,19 @@ fn puts<'h, H: Home<&'h LocalHeap>>(
     match awaited {
         Awaited::Letter => {
             if let Err(handed) = send(rt, frame, object, value) {
-                frame.release(handed.back);
+                frame.release(handed.value);
             }
         }
         Awaited::Value => match dict_put(rt, frame, object, Key::Int(1), value) {
             Ok(None) => {}
             Ok(Some(old)) => frame.release(old),
-            Err(handed) => frame.release(handed.back.1),
+            Err(handed) => frame.release(handed.value.1),
         },
     }
 }
 
 /// It is waited for, and what comes is released: whether it comes, or memory for a place is missing.
-fn waits<'h, H: Home<&'h LocalHeap>>(
+fn waits<'h, H: HasTable<&'h LocalHeap>>(
     rt: &impl Wait,
     frame: &mut Frame<H, &'h LocalHeap>,
     object: &Handle<&'h LocalHeap>,
@@ -84,7 +84,7 @@ fn waits<'h, H: Home<&'h LocalHeap>>(
 }
 
 /// Whether the wait is refused until there is memory for a place, with as many handles as before, and then is not.
-fn waits_with_memory<'h, H: Home<&'h LocalHeap>>(
+fn waits_with_memory<'h, H: HasTable<&'h LocalHeap>>(
     rt: &impl Wait,
     pieces: &mut Pieces<'h>,
     frame: &mut Frame<H, &'h LocalHeap>,
@@ -111,7 +111,7 @@ fn waits_with_memory<'h, H: Home<&'h LocalHeap>>(
 }
 
 /// The same, in a frame that has no handle before and afterwards.
-fn waits_bare<'h, H: Home<&'h LocalHeap>>(
+fn waits_bare<'h, H: HasTable<&'h LocalHeap>>(
     rt: &impl Wait,
     alloc: Global,
     memories: Memories<&'h LocalHeap>,
@@ -155,7 +155,7 @@ fn on_a_heap(
     let mut waited = false;
     if let Ok(mut mutator) = root.register_apart(memories.scarce, &heap) {
         waited = waits_bare(rt, alloc, memories, mutator.frame(), awaited);
-        let _ledger = mutator.end(rt, &mut root, &heap);
+        let _ledger = mutator.settle_and_join(rt, &mut root, &heap);
     }
     match close_or_end(memories.ample, heap, root) {
         Ok(report) => waited && report.live == 0,

@@ -1,6 +1,6 @@
 use Rattle.brc_containers.specs.Changing.{RefusedEntry}
 use Rattle.brc_dicts.specs.Plain.{plain_key_at}
-use Rattle.brc_dicts.specs.Indexing.{Reads}
+use Rattle.brc_dicts.specs.Indexing.{ReadsUnlocked}
 use Rattle.brc_dicts.proofs.Since_Law.{locked_late, looked}
 use Rattle.brc_dicts.proofs.indexing.dict_key.Goals as goal
 
@@ -13,7 +13,7 @@ returns-clause-reads g c =
       late.mid,
       late.waits,
       looked late.mid locked c.key_locked.new.frame k c.begin_late-block.result
-          (λ before j key. Reads before c.key_locked.new.frame j (plain_key_at c.args.index) key)
+          (λ before j key. ReadsUnlocked before c.key_locked.new.frame j (plain_key_at c.args.index) key)
           (λ before j fault. RefusedEntry before c.key_locked.new.frame j
           (plain_key_at {A = g.row.A.Denot} c.args.index) fault)
           c.key_locked.result (locked_late c.args.frame.now locked k c.begin_late-block.result late) done.thread

@@ -1,13 +1,13 @@
 use Rattle.brc_containers.specs.Changing.{RefusedPlace}
 use Rattle.brc_dicts.specs.Plain.{plain_value_at}
 use Rattle.brc_dicts.specs.Indexing.{SharesPair}
-use Rattle.brc_dicts.specs.Since.{HasLocked}
+use Rattle.brc_dicts.specs.Since.{JustLocked}
 use Rattle.brc_dicts.proofs.Since_Law.{hands_out}
 use Rattle.brc_dicts.proofs.indexing.try_dict_pair.Goals as goal
 
 pub returns-clause-shares : goal.returns-clause-shares
 returns-clause-shares g c =
-    let since : HasLocked c.args.frame.now c.begin.new.self c.args.dict.now.place c.in-Some.block =
+    let since : JustLocked c.args.frame.now c.begin.new.self c.args.dict.now.place c.in-Some.block =
     record { began = c.in-Some.ensures.began; keeps = c.begin.ensures.keeps; frame = c.begin.ensures.frame } in
     let up = c.pair_locked.ensures in
     hands_out c.args.frame.now c.begin.new.self c.pair_locked.new.frame c.args.dict.now.place c.in-Some.block

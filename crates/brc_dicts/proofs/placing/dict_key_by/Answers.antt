@@ -1,7 +1,7 @@
 use Rattle.brc_count.specs.block.Lent_Keys.{key_lent}
 use Rattle.brc_containers.specs.Changing.{RefusedEntry}
 use Rattle.brc_dicts.specs.Plain.{plain_place}
-use Rattle.brc_dicts.specs.Indexing.{Reads}
+use Rattle.brc_dicts.specs.Indexing.{ReadsUnlocked}
 use Rattle.brc_dicts.proofs.Since_Law.{locked_late, looked}
 use Rattle.brc_dicts.proofs.placing.dict_key_by.Goals as goal
 
@@ -14,7 +14,8 @@ returns-clause-reads g c =
       late.mid,
       late.waits,
       looked late.mid locked c.place_locked.new.frame k c.begin_late-block.result
-          (λ before j place. Reads before c.place_locked.new.frame j (plain_place {A = g.row.A.Denot} (key_lent c.args.key)) place)
+          (λ before j place. ReadsUnlocked before c.place_locked.new.frame j
+          (plain_place {A = g.row.A.Denot} (key_lent c.args.key)) place)
           (λ before j fault. RefusedEntry before c.place_locked.new.frame j
           (plain_place {A = g.row.A.Denot} (key_lent c.args.key)) fault)
           c.place_locked.result (locked_late c.args.frame.now locked k c.begin_late-block.result late) done.thread

@@ -1,6 +1,6 @@
 use Rattle.std.proofs.Common.{subst}
 use Rattle.brc_count.specs.block.Lent_Keys.{key_lent}
-use Rattle.brc_dicts.specs.Seeking.{IsThere, IsAbsent}
+use Rattle.brc_dicts.specs.Seeking.{HasKeyAt, IsAbsent}
 use Rattle.brc_dicts.specs.Plain.{plain_place}
 use Rattle.brc_dicts.proofs.Locked.{stood, refused_plainly}
 use Rattle.brc_dicts.proofs.Placed.{place_since, place_absent}
@@ -10,7 +10,8 @@ pub returns-in-There-clause-reads : goal.returns-in-There-clause-reads
 returns-in-There-clause-reads g c = λ before k since.
     place_since before c.args.frame.now c.end_keep.new.self k c.in-There.index c.in-There.cell c.args.block
     (key_lent c.args.key) (stood before c.args.frame.now k c.args.block since) c.end_keep.ensures.ended
-    (subst (λ p. IsThere p (key_lent c.args.key) c.in-There.index c.in-There.cell) c.payload.ensures c.in-There.ensures)
+    (subst (λ p. HasKeyAt p (key_lent c.args.key) c.in-There.index c.in-There.cell) c.payload.ensures
+    c.in-There.ensures)
 
 pub returns-in-Absent-clause-refused : goal.returns-in-Absent-clause-refused
 returns-in-Absent-clause-refused g c = λ before k since.

@@ -2,7 +2,7 @@ use Rattle.std.proofs.Common.{refl, subst, length}
 use Rattle.brc_words.specs.declared.key.Key.{Key}
 use Rattle.brc_count.specs.block.Lent_Keys.{key_lent}
 use Rattle.brc_count.specs.block.Payload.{entries_of}
-use Rattle.brc_dicts.specs.Putting.{RefusedRoom, RefusedPut}
+use Rattle.brc_dicts.specs.Putting.{RefusedRoomFor, RefusedPut}
 use Rattle.brc_dicts.proofs.Locked.{stood, ended_same, refused_append}
 use Rattle.brc_dicts.proofs.putting.append_copy.Goals as goal
 
@@ -12,7 +12,7 @@ returns-in-Err-clause-refused g c = λ before k since value at.
     (stood before c.args.frame.now k c.args.block since)
     (ended_same c.args.frame.now c.end_keep.new.self _ c.args.block c.args.block.1 c.end_keep.ensures.ended refl)
     c.requires.absent
-    (subst (λ p. RefusedRoom (length (entries_of p)) c.in-Err.fault) c.payload.ensures c.in-Err.ensures.refused)
+    (subst (λ p. RefusedRoomFor (length (entries_of p)) c.in-Err.fault) c.payload.ensures c.in-Err.ensures.refused)
 
 pub returns-in-Err-append_locked-clause-refused : goal.returns-in-Err-append_locked-clause-refused
 returns-in-Err-append_locked-clause-refused g c = λ before k since.

@@ -5,7 +5,7 @@ use Rattle.brc_count.specs.table.Shown.{contents_of}
 use Rattle.brc_count.specs.Locking.{contents_found}
 use Rattle.brc_count.proofs.Keys_Shown.{keyed_put}
 use Rattle.brc_dicts.specs.Plain.{plain_put}
-use Rattle.brc_dicts.specs.Putting.{RefusedRoom}
+use Rattle.brc_dicts.specs.Putting.{RefusedRoomFor}
 use Rattle.brc_dicts.proofs.Standing.{others_than}
 use Rattle.brc_dicts.proofs.Shown.{put_new}
 use Rattle.brc_dicts.proofs.Locked.{stood, ended_same, refused_append, entries_put, puts_since}
@@ -19,7 +19,7 @@ returns-in-Err-clause-refused g c = λ before k since value at.
     (ended_same c.args.frame.now c.end_keep.new.self _ c.args.block c.make_room.new.payload c.end_keep.ensures.ended
     (c.make_room.ensures.contents ∙ ap contents_of lent))
     c.requires.absent
-    (subst (λ p. RefusedRoom (length (entries_of p)) c.in-Err.fault) lent c.in-Err.ensures.refused)
+    (subst (λ p. RefusedRoomFor (length (entries_of p)) c.in-Err.fault) lent c.in-Err.ensures.refused)
 
 pub put_pair_reserved-requires-clause-absent : goal.put_pair_reserved-requires-clause-absent
 put_pair_reserved-requires-clause-absent g c =

@@ -4,7 +4,7 @@ use Rattle.brc_count.specs.block.Payload.{entries_of, keys_of, kind_of}
 use Rattle.brc_count.specs.Locking.{contents_found}
 use Rattle.brc_count.proofs.Keys_Shown.{keys_stay}
 use Rattle.brc_dicts.specs.Plain.{plain_put}
-use Rattle.brc_dicts.specs.Seeking.{IsThere}
+use Rattle.brc_dicts.specs.Seeking.{HasKeyAt}
 use Rattle.brc_dicts.proofs.Shown.{put_there, entry_there, entry_within, there_dict}
 use Rattle.brc_dicts.proofs.Locked.{stood, few_entries, entry_found, entries_set, swaps_since}
 use Rattle.brc_dicts.proofs.putting.replace_locked.Goals as goal
@@ -19,7 +19,8 @@ overflow_cast-place g c =
 
 pub set_pair-requires : goal.set_pair-requires
 set_pair-requires g c =
-    let there = subst (λ p. IsThere p (key_lent c.args.key) c.args.index c.args.entry) (sym c.payload_mut.ensures.value)
+    let there = subst (λ p. HasKeyAt p (key_lent c.args.key) c.args.index c.args.entry)
+    (sym c.payload_mut.ensures.value)
     c.requires.there in
     record {
       dict = there_dict c.payload_mut.result.now (key_lent c.args.key) c.args.index c.args.entry there;

@@ -1,11 +1,11 @@
 use Rattle.brc_dicts.specs.Putting.{HasPut, RefusedPut}
-use Rattle.brc_dicts.specs.Since.{HasLocked}
+use Rattle.brc_dicts.specs.Since.{JustLocked}
 use Rattle.brc_dicts.proofs.Since_Law.{takes_in}
 use Rattle.brc_dicts.proofs.putting.try_dict_put.Goals as goal
 
 pub returns-clause-put : goal.returns-clause-put
 returns-clause-put g c =
-    let since : HasLocked c.args.frame.now c.begin.new.self c.args.dict.now.place c.in-Some.block =
+    let since : JustLocked c.args.frame.now c.begin.new.self c.args.dict.now.place c.in-Some.block =
     record { began = c.in-Some.ensures.began; keeps = c.begin.ensures.keeps; frame = c.begin.ensures.frame } in
     let up = c.put_locked.ensures in
     takes_in c.args.frame.now c.begin.new.self c.put_locked.new.frame c.args.dict.now.place c.in-Some.block

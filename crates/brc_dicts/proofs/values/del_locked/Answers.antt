@@ -3,7 +3,7 @@ use Rattle.brc_count.specs.block.Lent_Keys.{key_lent}
 use Rattle.brc_count.specs.block.Payload.{entries_of, keys_of, kind_of}
 use Rattle.brc_count.specs.Locking.{contents_found}
 use Rattle.brc_count.proofs.Keys_Shown.{keys_left}
-use Rattle.brc_dicts.specs.Seeking.{IsThere, IsAbsent}
+use Rattle.brc_dicts.specs.Seeking.{HasKeyAt, IsAbsent}
 use Rattle.brc_dicts.specs.Plain.{plain_del}
 use Rattle.brc_dicts.proofs.Shown.{del_there, del_may, del_absent, entry_there, entry_within, entries_shown}
 use Rattle.brc_dicts.proofs.Locked.{stood, stood_placed, found_placed, few_entries, entry_found, entries_are}
@@ -19,7 +19,7 @@ returns-in-Absent-clause-refused g c = λ before k since.
 
 pub returns-in-Err-clause-refused : goal.returns-in-Err-clause-refused
 returns-in-Err-clause-refused g c = λ before k since.
-    let there = subst (λ p. IsThere p (key_lent c.args.key) c.in-There.index c.in-There.cell) c.payload.ensures
+    let there = subst (λ p. HasKeyAt p (key_lent c.args.key) c.in-There.index c.in-There.cell) c.payload.ensures
     c.in-There.ensures in
     let was = stood_placed before c.args.frame.now c.place.new.self k c.args.block since c.place.ensures.same in
     refused_place before c.args.frame.now c.end_keep-in-Err.new.self k (plain_del {A = g.row.A.Denot} (key_lent c.args.key)) c.in-Err.fault
@@ -30,7 +30,7 @@ returns-in-Err-clause-refused g c = λ before k since.
 
 pub overflow_cast-place : goal.overflow_cast-place
 overflow_cast-place g c =
-    let there = subst (λ p. IsThere p (key_lent c.args.key) c.in-There.index c.in-There.cell) c.payload.ensures
+    let there = subst (λ p. HasKeyAt p (key_lent c.args.key) c.in-There.index c.in-There.cell) c.payload.ensures
     c.in-There.ensures in
     omega (
       arith,
@@ -40,13 +40,13 @@ overflow_cast-place g c =
 
 pub remove-cell-requires : goal.remove-cell-requires
 remove-cell-requires g c =
-    let there = subst (λ p. IsThere p (key_lent c.args.key) c.in-There.index c.in-There.cell) (c.payload.ensures
+    let there = subst (λ p. HasKeyAt p (key_lent c.args.key) c.in-There.index c.in-There.cell) (c.payload.ensures
     ∙ sym c.payload_mut.ensures.value) c.in-There.ensures in
     record { within = entry_within c.payload_mut.result.now (key_lent c.args.key) c.in-There.index c.in-There.cell there }
 
 pub end_take-requires-clause-entry : goal.end_take-requires-clause-entry
 end_take-requires-clause-entry g c =
-    let there = subst (λ p. IsThere p (key_lent c.args.key) c.in-There.index c.in-There.cell) c.payload.ensures
+    let there = subst (λ p. HasKeyAt p (key_lent c.args.key) c.in-There.index c.in-There.cell) c.payload.ensures
     c.in-There.ensures in
     entry_found c.place.new.self c.args.block.1 c.in-There.index c.in-There.cell
     (found_placed c.args.frame.now c.place.new.self _ c.place.ensures.same c.requires.found)
@@ -67,7 +67,7 @@ end_take-requires-clause-keys g c =
 
 pub returns-clause-takes : goal.returns-clause-takes
 returns-clause-takes g c = λ before k since.
-    let there = subst (λ p. IsThere p (key_lent c.args.key) c.in-There.index c.in-There.cell) c.payload.ensures
+    let there = subst (λ p. HasKeyAt p (key_lent c.args.key) c.in-There.index c.in-There.cell) c.payload.ensures
     c.in-There.ensures in
     let was = stood_placed before c.args.frame.now c.place.new.self k c.args.block since c.place.ensures.same in
     let lent = c.payload_mut.ensures.value in

@@ -1,5 +1,5 @@
 use Rattle.brc_count.specs.block.Lent_Keys.{key_lent}
-use Rattle.brc_containers.specs.Changing.{Takes, RefusedPlace}
+use Rattle.brc_containers.specs.Changing.{CallTakes, RefusedPlace}
 use Rattle.brc_dicts.specs.Plain.{plain_del}
 use Rattle.brc_dicts.proofs.Since_Law.{locked_late, hands_out}
 use Rattle.brc_dicts.proofs.values.dict_del_by.Goals as goal
@@ -13,7 +13,8 @@ returns-clause-takes g c =
       late.mid,
       late.waits,
       hands_out late.mid locked c.del_locked.new.frame k c.begin_late-block.result
-          (λ before j given. Takes before c.del_locked.new.frame j (plain_del {A = g.row.A.Denot} (key_lent c.args.key)) given)
+          (λ before j given. CallTakes before c.del_locked.new.frame j
+          (plain_del {A = g.row.A.Denot} (key_lent c.args.key)) given)
           (λ before j fault. RefusedPlace before c.del_locked.new.frame j (plain_del {A = g.row.A.Denot} (key_lent c.args.key)) fault)
           c.del_locked.result (locked_late c.args.frame.now locked k c.begin_late-block.result late) up.thread up.takes
           up.places up.refused,

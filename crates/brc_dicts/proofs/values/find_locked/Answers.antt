@@ -1,7 +1,7 @@
 use Rattle.std.proofs.Common.{arith, subst, ap}
 use Rattle.std.specs.Result.{is_ok}
 use Rattle.brc_count.specs.block.Lent_Keys.{key_lent}
-use Rattle.brc_dicts.specs.Seeking.{IsThere, IsAbsent}
+use Rattle.brc_dicts.specs.Seeking.{HasKeyAt, IsAbsent}
 use Rattle.brc_dicts.specs.Plain.{plain_find}
 use Rattle.brc_dicts.proofs.Shown.{find_there, find_absent, entry_there, entry_within}
 use Rattle.brc_dicts.proofs.Locked.{stood, stood_placed, found_placed, few_entries, entry_found, refused_plainly}
@@ -17,7 +17,7 @@ returns-in-Absent-clause-refused g c = λ before k since.
 
 pub returns-in-Err-clause-refused : goal.returns-in-Err-clause-refused
 returns-in-Err-clause-refused g c = λ before k since.
-    let there = subst (λ p. IsThere p (key_lent c.args.key) c.in-There.index c.in-There.cell) c.payload.ensures
+    let there = subst (λ p. HasKeyAt p (key_lent c.args.key) c.in-There.index c.in-There.cell) c.payload.ensures
     c.in-There.ensures in
     let was = stood_placed before c.args.frame.now c.place.new.self k c.args.block since c.place.ensures.same in
     refused_place before c.args.frame.now c.end_keep-in-Err.new.self k (plain_find {A = g.row.A.Denot} (key_lent c.args.key)) c.in-Err.fault
@@ -28,7 +28,7 @@ returns-in-Err-clause-refused g c = λ before k since.
 
 pub overflow_cast-index : goal.overflow_cast-index
 overflow_cast-index g c =
-    let there = subst (λ p. IsThere p (key_lent c.args.key) c.in-There.index c.in-There.cell) c.payload.ensures
+    let there = subst (λ p. HasKeyAt p (key_lent c.args.key) c.in-There.index c.in-There.cell) c.payload.ensures
     c.in-There.ensures in
     omega (
       arith,
@@ -38,7 +38,7 @@ overflow_cast-index g c =
 
 pub up_entry-given-requires-clause-entry : goal.up_entry-given-requires-clause-entry
 up_entry-given-requires-clause-entry g c =
-    let there = subst (λ p. IsThere p (key_lent c.args.key) c.in-There.index c.in-There.cell) c.payload.ensures
+    let there = subst (λ p. HasKeyAt p (key_lent c.args.key) c.in-There.index c.in-There.cell) c.payload.ensures
     c.in-There.ensures in
     entry_found c.place.new.self c.args.block.1 c.in-There.index c.in-There.cell
     (found_placed c.args.frame.now c.place.new.self _ c.place.ensures.same c.requires.found)
@@ -46,7 +46,7 @@ up_entry-given-requires-clause-entry g c =
 
 pub returns-clause-shares : goal.returns-clause-shares
 returns-clause-shares g c = λ before k since.
-    let there = subst (λ p. IsThere p (key_lent c.args.key) c.in-There.index c.in-There.cell) c.payload.ensures
+    let there = subst (λ p. HasKeyAt p (key_lent c.args.key) c.in-There.index c.in-There.cell) c.payload.ensures
     c.in-There.ensures in
     let was = stood_placed before c.args.frame.now c.place.new.self k c.args.block since c.place.ensures.same in
     shares_since before c.place.new.self c.up_entry-given.new.self c.end_keep-2.new.self k c.args.block

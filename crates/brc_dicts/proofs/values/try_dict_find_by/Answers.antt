@@ -1,13 +1,13 @@
 use Rattle.brc_count.specs.block.Lent_Keys.{key_lent}
 use Rattle.brc_containers.specs.Changing.{Shares, RefusedPlace}
 use Rattle.brc_dicts.specs.Plain.{plain_find}
-use Rattle.brc_dicts.specs.Since.{HasLocked}
+use Rattle.brc_dicts.specs.Since.{JustLocked}
 use Rattle.brc_dicts.proofs.Since_Law.{hands_out}
 use Rattle.brc_dicts.proofs.values.try_dict_find_by.Goals as goal
 
 pub returns-clause-shares : goal.returns-clause-shares
 returns-clause-shares g c =
-    let since : HasLocked c.args.frame.now c.begin.new.self c.args.dict.now.place c.in-Some.block =
+    let since : JustLocked c.args.frame.now c.begin.new.self c.args.dict.now.place c.in-Some.block =
     record { began = c.in-Some.ensures.began; keeps = c.begin.ensures.keeps; frame = c.begin.ensures.frame } in
     let up = c.find_locked.ensures in
     hands_out c.args.frame.now c.begin.new.self c.find_locked.new.frame c.args.dict.now.place c.in-Some.block

@@ -1,7 +1,7 @@
 use Rattle.std.proofs.Common.{◌≡◌, ◌≤◌, ◌+◌, [], length}
 use Rattle.brc_words.specs.declared.limits.TheConstants.{MOST_INPUT}
 use Rattle.brc_text.specs.Lines.{pieces}
-use Rattle.brc_graph.specs.declared.part.Part.TheVariants as parts
+use Rattle.brc_graph.specs.declared.part.TextPart.TheVariants as parts
 use Rattle.brc_graph.specs.Reading.{walk}
 use Rattle.brc_graph.proofs.reading.drawn_of_text.Given as goal
 

@@ -1,6 +1,6 @@
 use Rattle.std.proofs.Common.{◌≡◌, ℕ, List, Ok, subst}
 use Rattle.std.specs.declared.alloc.Global.{Global}
-use Rattle.brc_graph.specs.Reading.{graph_at, Refuses}
+use Rattle.brc_graph.specs.Reading.{graph_at, RefusesGraph}
 use Rattle.brc_graph.proofs.DrawLaws.{carried, no_graph, not_written}
 use Rattle.brc_graph.proofs.whole.draw.Goals as goal
 
@@ -8,7 +8,7 @@ pub returns-in-Err-read_graph : goal.returns-in-Err-read_graph
 returns-in-Err-read_graph g c =
     no_graph (g.R.Read.remaining c.args.reader) (g.W.Write.contents c.args.writer.now) c.in-Ok.input.items
     c.in-Err-read_graph.undrawn c.in-Ok.ensures.bytes
-    (subst (λ (b : List ℕ). Refuses c.in-Err-read_graph.undrawn (graph_at {A = Global} b)) c.as_slice.ensures.value
+    (subst (λ (b : List ℕ). RefusesGraph c.in-Err-read_graph.undrawn (graph_at {A = Global} b)) c.as_slice.ensures.value
     c.in-Err-read_graph.ensures)
 
 pub returns-in-Ok-write_graph : goal.returns-in-Ok-write_graph

@@ -12,11 +12,11 @@ returns-in_err-globals-clause-later g c =
 pub returns-clause-later : goal.returns-clause-later
 returns-clause-later g c =
     let had = c.immortal.new.self in
-    let asked = c.given-found.new.frame in
+    let asked = c.take_out-found.new.frame in
     later_both c.args.frame.now.seat.log had.seat.log c.release.new.self.seat.log
     (later_given c.in_ok-globals.ensures.given)
-    (later_held had asked c.release.new.self c.given-found.ensures.later
+    (later_held had asked c.release.new.self c.take_out-found.ensures.later
     (let_go_quietly asked c.release.new.self c.in_ok-globals.globals
-    (owns_after had asked c.in_ok-globals.globals c.given-found.result c.given-found.ensures.gains
-    c.given-found.ensures.keeps c.in_ok-globals.ensures.gains.owned)
+    (owns_after had asked c.in_ok-globals.globals c.take_out-found.result c.take_out-found.ensures.gains
+    c.take_out-found.ensures.keeps c.in_ok-globals.ensures.gains.owned)
     c.release.ensures.released))

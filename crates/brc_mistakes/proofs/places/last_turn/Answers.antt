@@ -1,7 +1,7 @@
 use Rattle.std.proofs.Common.{◌-◌, ◌∙◌, Option, List, ℕ, take, ap, sym}
 use Rattle.brc_text.specs.Tokens.{or_else}
 use Rattle.brc_script.specs.Walks.{lines_of}
-use Rattle.brc_mistakes.specs.declared.opening.Opening.{Opening}
+use Rattle.brc_mistakes.specs.declared.line_opening.Opening.{Opening}
 use Rattle.brc_mistakes.specs.Places.{last_turn}
 use Rattle.brc_mistakes.proofs.LineLaws.{last_goes_on, last_ends}
 use Rattle.brc_mistakes.proofs.places.last_turn.Goals as goal

@@ -34,5 +34,5 @@ returns-in-Err-clause-refused g c =
 pub returns-in-Err-clause-unchanged : goal.returns-in-Err-clause-unchanged
 returns-in-Err-clause-unchanged g c =
     back_again c.args.handles.now c.take_out.new.self c.put_back-in-Err.new.handles c.args.value c.in-Some.given
-    c.in-Err.handed.back c.in-Some.ensures.taken c.in-Some.ensures.set c.put_back-in-Err.ensures.set
+    c.in-Err.handed.value c.in-Some.ensures.taken c.in-Some.ensures.set c.put_back-in-Err.ensures.set
     c.in-Err.ensures.back

@@ -2,15 +2,15 @@ use Rattle.std.proofs.Common.{◌≡◌, ◌<◌, ◌+◌, ◌++◌, ℕ, List, 
 use Rattle.std.specs.List.{flat_map}
 use Rattle.std.proofs.lemmas.Result.{err_from_is_err_and}
 use Rattle.brc_text.proofs.PutLaws.{goes_on, fails}
-use Rattle.brc_program.specs.declared.facts.Fact.{Fact}
+use Rattle.brc_program.specs.declared.facts.LineFact.{LineFact}
 use Rattle.brc_program.specs.Explanations.{fact_text}
 use Rattle.brc_program.proofs.facts.put_facts.Goals as goal
 
-abbrev text : List Fact → List ℕ
+abbrev text : List LineFact → List ℕ
 text given = flat_map fact_text given
 
 -- what is left of the facts is the next one, and what is left behind it
-next_fact : (given : List Fact) (i : ℕ) (other : Fact) → i < length given
+next_fact : (given : List LineFact) (i : ℕ) (other : LineFact) → i < length given
     → text (drop i given) ≡ fact_text (get_or given i other) ++ text (drop (i + 1) given)
 next_fact given i other within =
     ap text (drop-cons given i other within)

@@ -12,12 +12,14 @@ returns g c =
     let woken = c.wake-mutator.result in
     let mutator = c.if-has_ended.mutator in
     elim c.if-has_ended.branch [
-      | then-has_ended w ↦ done_unrun heap refuses number section resting woken mutator c.retire.result
-          c.if-has_ended.end c.requires.ready c.wake-mutator.ensures.same c.retire.ensures w.mutator-is w.end-is
+      | then-has_ended w ↦ done_unrun heap refuses number section resting woken mutator c.settle_and_leave.result
+          c.if-has_ended.end c.requires.ready c.wake-mutator.ensures.same c.settle_and_leave.ensures w.mutator-is
+          w.end-is
       | else-has_ended w ↦
           let ran = w.run_section.ensures in
-          done_run heap refuses number section resting woken mutator c.retire.result c.if-has_ended.end
-          c.requires.ready c.wake-mutator.ensures.same c.retire.ensures w.run_section.new.mutator w.run_section.result
+          done_run heap refuses number section resting woken mutator c.settle_and_leave.result c.if-has_ended.end
+          c.requires.ready c.wake-mutator.ensures.same c.settle_and_leave.ensures w.run_section.new.mutator
+          w.run_section.result
           w.mutator-is w.end-is ran.heap (record {
             line = ran.line;
             busy = ran.busy;

@@ -2,13 +2,13 @@ use Rattle.std.proofs.Common.{◌≡◌, ◌+◌, ◌≤◌, length, vec_capacit
 use Rattle.std.specs.Prelude.{vec_items}
 use Rattle.std.specs.List.{All}
 use Rattle.std.specs.Vec.Iter.{into_iter_items}
-use Rattle.brc_run.specs.Runs.{IsDone, IsReady}
+use Rattle.brc_run.specs.Runs.{CameBack, IsReady}
 use Rattle.brc_run.proofs.Ordered.{Along}
 use Rattle.brc_run.proofs.joining.leave_all_out.Given as goal
 
 abbrev pub invariant-loop-section : goal.invariant-loop-section
 invariant-loop-section g l =
-    Along (IsDone l.heap (g.G.Gate.may_refuse l.gate)) l.sections l.section-index (vec_items l.done)
+    Along (CameBack l.heap (g.G.Gate.may_refuse l.gate)) l.sections l.section-index (vec_items l.done)
     × All (IsReady l.heap) (into_iter_items l.crew)
     × (length (into_iter_items l.crew) + l.section-index ≡ length l.sections)
     × (l.number ≡ l.section-index + 1)

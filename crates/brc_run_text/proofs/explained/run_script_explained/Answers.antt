@@ -3,7 +3,7 @@ use Rattle.std.specs.List.{list_any}
 use Rattle.std.specs.declared.alloc.Global.{Global}
 use Rattle.brc_words.specs.declared.fault.Fault.{Fault}
 use Rattle.brc_words.specs.declared.fault.Fault.TheVariants as faults
-use Rattle.brc_script.specs.Walks.{script_at, Refuses}
+use Rattle.brc_script.specs.Walks.{script_at, RefusesScript}
 use Rattle.brc_run_text.specs.Notes.{nowhere}
 use Rattle.brc_run_text.specs.Scripts_Run.{Runs}
 use Rattle.brc_run_text.specs.Tellings.{ends_by_fault}
@@ -18,8 +18,8 @@ returns-in-Err-BadScript-clause-runs g c =
     subst (λ (line : ℕ). Runs c.args.options nowhere input old old (Err (faults.BadScript line)))
     (sym c.in-Err-BadScript.line-is)
     (not_spelled c.args.options nowhere input old c.in-Ok.input.items fault c.in-Ok.ensures.bytes
-    (subst (λ (b : List ℕ). Refuses fault (script_at {A = Global} b)) c.as_slice.ensures.value
-    (subst (λ (f : Fault). Refuses f (script_at {A = Global} c.as_slice.result.now)) c.in-Err-BadScript.field-0-is
+    (subst (λ (b : List ℕ). RefusesScript fault (script_at {A = Global} b)) c.as_slice.ensures.value
+    (subst (λ (f : Fault). RefusesScript f (script_at {A = Global} c.as_slice.result.now)) c.in-Err-BadScript.field-0-is
     c.in-Err-BadScript.ensures.exact)))
 
 pub returns-in-Err-write_run-clause-runs : goal.returns-in-Err-write_run-clause-runs

@@ -2,7 +2,7 @@ use Rattle.std.proofs.Common.{◌≡◌, ◌∙◌, ℕ, List, Ok, refl, ap, sub
 use Rattle.std.specs.List.{list_any}
 use Rattle.std.specs.declared.alloc.Global.{Global}
 use Rattle.std.proofs.lemmas.Result.{err_from_is_err_and}
-use Rattle.brc_script.specs.Walks.{script_at, Refuses}
+use Rattle.brc_script.specs.Walks.{script_at, RefusesScript}
 use Rattle.brc_run_text.specs.Tellings.{ends_by_fault}
 use Rattle.brc_run_text.proofs.Run_Laws.{not_spelled, run_of, not_written}
 use Rattle.brc_run_text.proofs.whole.run_script.Goals as goal
@@ -14,7 +14,7 @@ returns-in_err-script-clause-runs g c =
     not_spelled c.args.options (g.G.Gate.may_refuse c.args.gate.now) (g.R.Read.remaining c.args.reader)
     (g.W.Write.contents c.args.writer.now)
     c.in_ok-input.input.items c.in_err-script.field-0.0 c.in_ok-input.ensures.bytes
-    (subst (λ (b : List ℕ). Refuses c.in_err-script.field-0.0 (script_at {A = Global} b)) c.as_slice.ensures.value
+    (subst (λ (b : List ℕ). RefusesScript c.in_err-script.field-0.0 (script_at {A = Global} b)) c.as_slice.ensures.value
     c.in_err-script.ensures.exact)
     )
 

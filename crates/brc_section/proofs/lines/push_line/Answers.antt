@@ -1,5 +1,5 @@
 use Rattle.std.proofs.Common.{refl}
-use Rattle.brc_script.specs.declared.instruction.Instruction.TheVariants as does
+use Rattle.brc_script.specs.declared.instruction.Instruction.TheVariants as instructions
 use Rattle.brc_instructions.proofs.Causes_Of.{uncaused_in}
 use Rattle.brc_section.proofs.Instructions_Led.{led, led_stirred, two_apart}
 use Rattle.brc_section.proofs.lines.push_line.Goals as goal
@@ -11,5 +11,5 @@ returns g c =
       led = led_stirred c.stirs.ensures (led did.ensures.stands did.ensures.heap did.ensures.waits did.ensures.later
           (uncaused_in c.args.frame.now did.new.frame did.result did.ensures.why)
           (λ differ. did.ensures.follows
-          (two_apart (does.Push c.args.list c.args.value) c.args.list c.args.value refl differ)));
+          (two_apart (instructions.Push c.args.list c.args.value) c.args.list c.args.value refl differ)));
     }

@@ -1,5 +1,5 @@
 use Rattle.std.proofs.Common.{subst}
-use Rattle.brc_section.specs.Running.{Notes}
+use Rattle.brc_section.specs.Running.{NotesShown}
 use Rattle.brc_section.proofs.Line_Did.{print_refused, print_done}
 use Rattle.brc_section.proofs.Wants_Of.{later_polled, later_worked, caused_noted}
 use Rattle.brc_section.proofs.running.print_line.Goals as goal
@@ -11,7 +11,7 @@ returns-in-Err-clause-follows g c = λ base s here.
     c.args.lines.now.items c.note.new.lines.items s c.args.from here read.ensures.heap read.ensures.later
     c.poll-told.ensures.own c.poll-told.result c.poll-told.ensures.polled c.poll-told.ensures.handles read.result
     c.in-Err.fault read.ensures.finds
-    (subst (Notes read.result c.args.lines.now.items c.note.new.lines.items) c.in-Err.is c.note.ensures)
+    (subst (NotesShown read.result c.args.lines.now.items c.note.new.lines.items) c.in-Err.is c.note.ensures)
 
 pub returns-clause-follows : goal.returns-clause-follows
 returns-clause-follows g c = λ base s here.
@@ -20,7 +20,7 @@ returns-clause-follows g c = λ base s here.
     c.args.lines.now.items c.note.new.lines.items s c.args.from here read.ensures.heap read.ensures.later
     c.poll-told.ensures.own c.poll-told.result c.poll-told.ensures.polled c.poll-told.ensures.handles read.result
     c.work-left.new.self _ read.ensures.finds
-    (subst (Notes read.result c.args.lines.now.items c.note.new.lines.items) c.in-Ok.is c.note.ensures)
+    (subst (NotesShown read.result c.args.lines.now.items c.note.new.lines.items) c.in-Ok.is c.note.ensures)
     c.work-left.ensures.turns c.work-left.ensures.handles
 
 pub returns-in-Err-clause-later : goal.returns-in-Err-clause-later
@@ -38,4 +38,4 @@ pub returns-in-Err-clause-caused : goal.returns-in-Err-clause-caused
 returns-in-Err-clause-caused g c =
     caused_noted c.args.frame.now c.poll-told.new.self c.args.lines.now.items c.note.new.lines.items c.read-shown.result
     c.in-Err.fault c.read-shown.ensures.room
-    (subst (Notes c.read-shown.result c.args.lines.now.items c.note.new.lines.items) c.in-Err.is c.note.ensures)
+    (subst (NotesShown c.read-shown.result c.args.lines.now.items c.note.new.lines.items) c.in-Err.is c.note.ensures)

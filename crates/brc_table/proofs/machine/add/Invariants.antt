@@ -1,6 +1,6 @@
 use Rattle.law.specs.rule.declared.told.Moved.TheVariants.{Nothing}
-use Rattle.law.specs.rule.declared.told.Told.TheVariants.{Did}
+use Rattle.law.specs.rule.declared.told.LogItem.TheVariants.{Stepped}
 use Rattle.brc_table.proofs.machine.add.Given as goal
 
 abbrev pub ghosts-add_as : goal.ghosts-add_as
-ghosts-add_as g a = record { item = λ number. Did a.step number Nothing }
+ghosts-add_as g a = record { item = λ number. Stepped a.step number Nothing }

@@ -5,5 +5,5 @@ use Rattle.brc_table.proofs.machine.add_as.Goals as goal
 
 pub fetch_add-requires : goal.fetch_add-requires
 fetch_add-requires g c =
-    step_told shows c.args.seat.now.me (λ there. (there + c.args.more) % 2 ^ 64) (g.M.Item.item) c.args.word
+    step_told shows c.args.seat.now.me (λ there. (there + c.args.more) % 2 ^ 64) (g.M.ToldItem.item) c.args.word
     c.table.invariant c.table.view_is c.spot_of-at.ensures c.requires.same c.requires.inside c.requires.allowed

@@ -1,6 +1,6 @@
 use Rattle.law.specs.rule.declared.told.Moved.TheVariants.{Nothing}
-use Rattle.law.specs.rule.declared.told.Told.TheVariants.{Did}
+use Rattle.law.specs.rule.declared.told.LogItem.TheVariants.{Stepped}
 use Rattle.brc_table.proofs.machine.exchange.Given as goal
 
 abbrev pub ghosts-exchange_as : goal.ghosts-exchange_as
-ghosts-exchange_as g a = record { item = Did a.step a.old Nothing; word = a.word }
+ghosts-exchange_as g a = record { item = Stepped a.step a.old Nothing; word = a.word }

@@ -2,7 +2,7 @@ use Rattle.std.proofs.Common.{◌≡◌, ◌<◌, ◌+◌, ◌++◌, ℕ, suc, L
 use Rattle.std.proofs.Common.{add-one, ap, sym, subst, ◌∙◌, append_assoc}
 use Rattle.std.proofs.lemmas.List.{drop_all}
 use Rattle.std.proofs.lemmas.Result.{err_from_is_err_and}
-use Rattle.brc_text.specs.Puts.{Puts}
+use Rattle.brc_text.specs.Puts.{PutsText}
 use Rattle.brc_text.specs.Headed.{spaced_numbers}
 use Rattle.brc_text.proofs.PutLaws.{keeps_on, rest_puts}
 use Rattle.brc_text.proofs.headed.put_numbers_line.Goals as goal
@@ -42,6 +42,6 @@ returns g c =
     let none_left = drop_all c.loop-number.number-index c.args.numbers.now c.loop-number-test.false in
     let behind = ap (λ (l : List ℕ). c.loop-number.text.items ++ (spaced_numbers l ++ 10 ∷ [])) none_left in
     rest_puts _ c.put_bytes.result c.loop-number.invariant.puts
-    (subst (Puts (g.W.Write.contents c.loop-number.writer) (g.W.Write.contents c.put_bytes.new.writer)
+    (subst (PutsText (g.W.Write.contents c.loop-number.writer) (g.W.Write.contents c.put_bytes.new.writer)
     c.put_bytes.result)
     (c.as_slice.ensures.value ∙ c.push.ensures.items ∙ sym behind) c.put_bytes.ensures)

@@ -1,6 +1,6 @@
 use Rattle.std.proofs.Common.{refl, subst, ◌∙◌, Ok}
 use Rattle.brc_count.proofs.Owning.{keeps_all, keeps_on}
-use Rattle.brc_thread.specs.Clearing.{Takes, HandsSome, NoTake}
+use Rattle.brc_thread.specs.Clearing.{TakesGlobal, HandsSome, NoTake}
 use Rattle.brc_thread.proofs.Takes.{take_keeps, took_on, same_cell_on}
 use Rattle.brc_thread.proofs.clearing.take_all.Goals as goal
 
@@ -12,7 +12,7 @@ loop-preserved g c =
     let was = c.loop.invariant in
     let k = c.args.handle.now.place in
     let given = c.in-Some.given in
-    let takes = subst (λ o. Takes c.loop.frame c.take_last.new.frame k (Ok o)) c.in-Some.is
+    let takes = subst (λ o. TakesGlobal c.loop.frame c.take_last.new.frame k (Ok o)) c.in-Some.is
     c.in_ok-take_last.ensures.takes in
     let gains = subst (λ o. HandsSome c.loop.frame c.take_last.new.frame (Ok o)) c.in-Some.is
     c.in_ok-take_last.ensures.hands in

@@ -19,7 +19,7 @@ use Rattle.brc_text.specs.declared.keyword.Keyword.TheVariants as words
 use Rattle.brc_text.specs.declared.token.Token.{Token}
 use Rattle.brc_text.specs.declared.token.Token.TheVariants as tokens
 use Rattle.brc_text.specs.Lines.{line}
-use Rattle.brc_text.specs.Puts.{Puts}
+use Rattle.brc_text.specs.Puts.{PutsText}
 use Rattle.brc_trace.specs.Operands.{kind_word}
 use Rattle.brc_trace.specs.Worlds.{object_line, owner_number, local_token, count_token, state_word}
 use Rattle.brc_trace.proofs.world_text.put_object_line.Goals as goal
@@ -81,7 +81,7 @@ returns g c =
     c.total.ensures.total c.unwrap_or-total.ensures in
     let local = local_read x.state (has_object h q) x.local c.unwrap_or-local.result c.local.result has c.local.ensures
     c.unwrap_or-local.ensures in
-    subst (Puts (g.W.Write.contents c.args.writer.now) (g.W.Write.contents c.put_line.new.writer) c.put_line.result)
+    subst (PutsText (g.W.Write.contents c.args.writer.now) (g.W.Write.contents c.put_line.new.writer) c.put_line.result)
     (line_is q x c.word_of_kind.result c.word_of_state.result c.number_of_owner.result c.token_of_local.result
     c.token_of_count.result c.token_of_count-2.result
     (c.word_of_kind.ensures ∙ ap kind_word kind)

@@ -1,5 +1,5 @@
 use Rattle.brc_core.proofs.Eaches.{Found}
-use Rattle.brc_core.specs.declared.holders.Part.TheVariants as parts
+use Rattle.brc_core.specs.declared.holders.HolderPart.TheVariants as parts
 use Rattle.brc_core.specs.Holders.{in_part}
 use Rattle.brc_core.proofs.world.World.put_entries.Given as goal
 

@@ -3,7 +3,7 @@ use Rattle.brc_table.specs.law.world.Heap.{words_for}
 use Rattle.brc_table.specs.law.world.Steps.{is_left}
 use Rattle.brc_table.specs.Seated.{TableSeen}
 use Rattle.brc_count.specs.Frames.{FrameSeen}
-use Rattle.brc_count.specs.Closing.{Closes, GoesOut}
+use Rattle.brc_count.specs.Closing.{ClosesWords, GoesOut}
 use Rattle.brc_count.proofs.Leaving.{stage_left}
 use Rattle.brc_count.proofs.frame.Frame.close.Goals as goal
 
@@ -25,6 +25,6 @@ returns-clause-goes g c = subst (λ (f : FrameSeen g.row.A.Denot). GoesOut f c.c
     record {
       mid = c.hand_all.new.self;
       hands = c.hand_all.ensures.hands;
-      closes = subst (λ (h : TableSeen). Closes c.hand_all.new.self.seat.log (words_for h.cells)
+      closes = subst (λ (h : TableSeen). ClosesWords c.hand_all.new.self.seat.log (words_for h.cells)
           c.close_all.new.self.seat.log) c.hand_all.ensures.heap c.close_all.ensures.closes;
     }

@@ -2,7 +2,7 @@ use Rattle.std.proofs.Common.{◌≡◌, Some, sym, subst, refl, false}
 use Rattle.brc_table.specs.law.world.declared.event.Change.TheVariants as changes
 use Rattle.brc_table.specs.law.world.declared.row.Hand.TheVariants as hands
 use Rattle.brc_table.specs.law.rule.Seen.{part_seen}
-use Rattle.brc_table.specs.law.steps.Owing.{Unlocks}
+use Rattle.brc_table.specs.law.steps.Owing.{MayUnlock}
 use Rattle.brc_table.specs.Moving.{found_locked}
 use Rattle.brc_table.specs.Shown.{shows}
 use Rattle.brc_count.specs.Frames.{FrameSeen}
@@ -12,7 +12,7 @@ use Rattle.brc_count.proofs.holdings.Holdings.end_swap.Goals as goal
 
 pub unlock-requires-clause-unlocks : goal.unlock-requires-clause-unlocks
 unlock-requires-clause-unlocks g c =
-    let back : FrameSeen g.row.A.Denot → Type 0 = λ f. Unlocks f.heap.cells f.seat.log (shows c.args.block)
+    let back : FrameSeen g.row.A.Denot → Type 0 = λ f. MayUnlock f.heap.cells f.seat.log (shows c.args.block)
     (found_locked f.seat.log) (changes.Swap c.args.index c.args.place) c.args.block.0 in
     subst back (sym c.self.view_is) (unlocks_swap c.args.self.now c.args.block c.args.index c.args.place c.args.cell
     c.requires.active

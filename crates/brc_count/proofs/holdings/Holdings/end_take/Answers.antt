@@ -4,7 +4,7 @@ use Rattle.brc_words.specs.declared.limits.TheConstants.{MOST_PLACES}
 use Rattle.brc_table.specs.law.world.declared.event.Change.TheVariants as changes
 use Rattle.brc_table.specs.law.world.declared.row.Hand.TheVariants as hands
 use Rattle.brc_table.specs.law.rule.Seen.{part_seen}
-use Rattle.brc_table.specs.law.steps.Owing.{Unlocks}
+use Rattle.brc_table.specs.law.steps.Owing.{MayUnlock}
 use Rattle.brc_table.specs.Moving.{found_locked}
 use Rattle.brc_table.specs.Shown.{shows}
 use Rattle.brc_count.specs.Frames.{FrameSeen, cell_held}
@@ -14,7 +14,7 @@ use Rattle.brc_count.proofs.holdings.Holdings.end_take.Goals as goal
 
 pub unlock-requires-clause-unlocks : goal.unlock-requires-clause-unlocks
 unlock-requires-clause-unlocks g c =
-    let back : FrameSeen g.row.A.Denot → Type 0 = λ f. Unlocks f.heap.cells f.seat.log (shows c.args.block)
+    let back : FrameSeen g.row.A.Denot → Type 0 = λ f. MayUnlock f.heap.cells f.seat.log (shows c.args.block)
     (found_locked f.seat.log) (changes.Take c.args.index c.vacant_key-place.result) c.args.block.0 in
     subst back (sym c.self.view_is) (unlocks_take c.args.self.now c.args.block c.args.index c.vacant_key-place.result
     c.args.cell c.requires.active

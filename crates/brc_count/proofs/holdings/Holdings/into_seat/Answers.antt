@@ -2,7 +2,7 @@ use Rattle.std.proofs.Common.{◌≡◌, true, refl, sym, subst, ap}
 use Rattle.brc_table.specs.law.world.Lists.{is_blank}
 use Rattle.brc_table.specs.law.world.Steps.{is_left, is_free_hand}
 use Rattle.brc_table.specs.law.rule.Seen.{part_seen}
-use Rattle.brc_table.specs.law.steps.Joining.{Leaves}
+use Rattle.brc_table.specs.law.steps.Joining.{HasLeft}
 use Rattle.brc_table.specs.Seated.{SeatSeen, view_of}
 use Rattle.brc_count.specs.Frames.{FrameSeen, Holding, popped_seen}
 use Rattle.brc_count.proofs.Leaving.{holds_unmarked}
@@ -15,7 +15,7 @@ returns-clause-leaves g c =
     let none = rw (← c.self.view_is) at c.requires.empty in
     let keeps = subst (λ w. Holding g.row.A.Denot c.self.inside.counter.heap seat c.self.inside.places w
     c.self.inside.popped.items c.self.inside.ledger) none c.self.invariant in
-    let leaves : Leaves n (view_of seat) = record {
+    let leaves : HasLeft n (view_of seat) = record {
       active = refl;
       some_thread = rw (← c.self.view_is) at c.requires.some_thread;
       left = subst (λ (f : FrameSeen g.row.A.Denot). is_left (part_seen f.heap.cells f.seat.log).row.stage ≡ true)
@@ -25,6 +25,6 @@ returns-clause-leaves g c =
           (sym c.self.view_is) c.requires.blank;
       worklist = holds_unmarked keeps;
     } in
-    subst (λ (s : SeatSeen g.row.A.Denot). Leaves c.args.self.heap.cells (view_of s))
+    subst (λ (s : SeatSeen g.row.A.Denot). HasLeft c.args.self.heap.cells (view_of s))
     (sym c.into_parts-heap.ensures.seat)
-    (subst (λ (f : FrameSeen g.row.A.Denot). Leaves f.heap.cells (view_of seat)) c.self.view_is leaves)
+    (subst (λ (f : FrameSeen g.row.A.Denot). HasLeft f.heap.cells (view_of seat)) c.self.view_is leaves)

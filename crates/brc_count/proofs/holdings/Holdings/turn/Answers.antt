@@ -1,7 +1,7 @@
 use Rattle.std.proofs.Common.{◌∙◌, sym, ap, subst, false}
 use Rattle.brc_table.specs.block.Blocks.{front_cell, front_entries}
 use Rattle.brc_table.specs.law.world.declared.event.Dropped.TheVariants as drops
-use Rattle.brc_biased.specs.Standing.{Holds}
+use Rattle.brc_biased.specs.Standing.{MayDrop}
 use Rattle.brc_count.specs.Frames.{IsUnlocked, MayGiveUp, pushed, EntryReleased, BlockFreed}
 use Rattle.brc_count.proofs.Changes.{same_cell, entry_inside, entry_held, after_entry, front_inside, free_carries}
 use Rattle.brc_count.proofs.Changes.{after_freeing}
@@ -18,7 +18,7 @@ pub give_up-requires-clause-holds : goal.give_up-requires-clause-holds
 give_up-requires-clause-holds g c =
     let pops = c.in-Some.ensures.popped in
     let same = same_cell (sym (c.front.ensures ∙ ap front_cell pops.after) ∙ c.in-Some-front.is) in
-    subst (λ d. Holds c.self.inside.counter.heap.cells c.self.inside.counter.seat.log
+    subst (λ d. MayDrop c.self.inside.counter.heap.cells c.self.inside.counter.seat.log
     (drops.Work d) c.in-Some.entry) same
     (entry_held c.self.inside.counter.seat c.self.inside.counter.seat c.in-Some.entry c.pop_entry.new.self pops
     c.self.invariant (subst MayGiveUp (sym c.self.view_is) c.requires.stage)

@@ -2,7 +2,7 @@ use Rattle.std.proofs.Common.{ℕ, ◌<◌, ◌/◌, sym, subst, bit_or}
 use Rattle.law.specs.world.declared.event.Step.TheVariants.{Enqueue}
 use Rattle.law.specs.known.declared.word.Word.TheVariants.{Queue}
 use Rattle.law.specs.rule.declared.told.Moved.TheVariants.{Nothing}
-use Rattle.law.specs.rule.declared.told.Told.TheVariants.{Did}
+use Rattle.law.specs.rule.declared.told.LogItem.TheVariants.{Stepped}
 use Rattle.brc_table.specs.Machine.{MayTell}
 use Rattle.brc_table.specs.Seated.{SeatSeen}
 use Rattle.brc_table.specs.Shown.{shows}
@@ -18,6 +18,6 @@ or-requires-clause-allowed g c =
     subst (λ (z : SeatSeen g.row.A.Denot). Enqueues n z.log c.args.cell c.args.owner)
     (sym c.seat.view_is) c.requires.enqueues in
     subst (λ b. MayTell shows n c.args.self.now.local_limit place.id place.me (Queue c.args.owner (c.args.cell / 32))
-    (λ there. bit_or there b) (λ there. Did (Enqueue c.args.cell) there Nothing)) (sym c.bit-bits.ensures)
+    (λ there. bit_or there b) (λ there. Stepped (Enqueue c.args.cell) there Nothing)) (sym c.bit-bits.ensures)
     (enqueues shows n c.args.self.now.local_limit place.id place.me.0 place.me.1 c.args.cell c.args.owner is.0
     some_thread c.requires.inside owes)

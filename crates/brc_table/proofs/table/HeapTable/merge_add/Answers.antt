@@ -2,7 +2,7 @@ use Rattle.std.proofs.Common.{ℕ, ◌<◌, ◌+◌, ◌*◌, ◌%◌, ◌^◌, 
 use Rattle.law.specs.known.declared.word.Field.TheVariants.{Shared}
 use Rattle.law.specs.known.declared.word.Word.TheVariants.{Of}
 use Rattle.law.specs.rule.declared.told.Moved.TheVariants.{Nothing}
-use Rattle.law.specs.rule.declared.told.Told.TheVariants.{Did}
+use Rattle.law.specs.rule.declared.told.LogItem.TheVariants.{Stepped}
 use Rattle.law.specs.world.declared.event.Step.TheVariants.{MergeAdd}
 use Rattle.brc_table.specs.Machine.{MaySum}
 use Rattle.brc_table.specs.Seated.{SeatSeen}
@@ -20,6 +20,6 @@ add_up-requires-clause-allowed g c =
     (sym c.seat.view_is) c.requires.adds in
     let step : ℕ → ℕ → ℕ = λ local there. (there + (local * 4 + 1)) % 2 ^ 64 in
     subst (λ local. MaySum shows n c.args.self.now.local_limit place.id place.me (Of Shared c.args.cell) (step local)
-    (λ there. Did (MergeAdd c.args.cell) (step local there) Nothing) (local * 4 + 1)) (sym c.from.ensures)
+    (λ there. Stepped (MergeAdd c.args.cell) (step local there) Nothing) (local * 4 + 1)) (sym c.from.ensures)
     (adds_local shows n c.args.self.now.local_limit place.id place.me.0 place.me.1 c.args.cell c.args.local is.0
     some_thread c.requires.inside owes)

@@ -3,12 +3,12 @@ use Rattle.law.specs.world.declared.event.Step.TheVariants.{Nudge}
 use Rattle.law.specs.known.declared.word.Word.TheVariants.{NotifyWord}
 use Rattle.brc_table.proofs.Placing.{notify_bit, told_inside}
 use Rattle.law.specs.rule.declared.told.Moved.TheVariants.{Nothing}
-use Rattle.law.specs.rule.declared.told.Told.TheVariants.{Did}
+use Rattle.law.specs.rule.declared.told.LogItem.TheVariants.{Stepped}
 use Rattle.brc_table.specs.Machine.{MayTell}
 use Rattle.brc_words.specs.declared.limits.TheConstants.{MOST_CELLS}
 use Rattle.brc_table.specs.Seated.{TableSeen, SeatSeen}
 use Rattle.brc_table.specs.Shown.{shows}
-use Rattle.law.specs.steps.Owing.{Tells}
+use Rattle.law.specs.steps.Owing.{MayNudge}
 use Rattle.law.proofs.steps.Queue_Steps.{nudges}
 use Rattle.brc_table.proofs.table.HeapTable.nudge.Goals as goal
 
@@ -23,10 +23,11 @@ pub or-requires-clause-allowed : goal.or-requires-clause-allowed
 or-requires-clause-allowed g c =
     let n : ℕ = c.args.self.now.cells in let place = c.seat.inside.place in let is = c.seat.invariant in
     let some_thread : 0 < place.me.0.thread = subst (λ t. 0 < t) (sym is.1) is.2 in
-    let owes : Tells n place.me.0.log c.args.thread c.args.word =
-    subst (λ (z : SeatSeen g.row.A.Denot). Tells n z.log c.args.thread c.args.word)
+    let owes : MayNudge n place.me.0.log c.args.thread c.args.word =
+    subst (λ (z : SeatSeen g.row.A.Denot). MayNudge n z.log c.args.thread c.args.word)
     (sym c.seat.view_is) c.requires.tells in
     subst (λ b. MayTell shows n c.args.self.now.local_limit place.id place.me (NotifyWord c.args.thread)
-    (λ there. bit_or there b) (λ there. Did (Nudge c.args.thread c.args.word) there Nothing)) (sym c.bit-bits.ensures)
+    (λ there. bit_or there b) (λ there. Stepped (Nudge c.args.thread c.args.word) there Nothing))
+    (sym c.bit-bits.ensures)
     (nudges shows n c.args.self.now.local_limit place.id place.me.0 place.me.1 c.args.thread c.args.word is.0
     some_thread owes)

@@ -3,8 +3,8 @@ use Rattle.std.proofs.lemmas.Bool.{eq-eqb, ne_eqb}
 use Rattle.law.specs.world.declared.event.Step.TheVariants.{Register}
 use Rattle.law.specs.known.Root.{marks_of, rows_of}
 use Rattle.law.specs.rule.declared.told.Moved.TheVariants as moves
-use Rattle.law.specs.rule.declared.told.Told.{Told}
-use Rattle.law.specs.rule.declared.told.Told.TheVariants.{Did}
+use Rattle.law.specs.rule.declared.told.LogItem.{LogItem}
+use Rattle.law.specs.rule.declared.told.LogItem.TheVariants.{Stepped}
 use Rattle.law.specs.rule.Logs.{log_items}
 use Rattle.brc_table.specs.Numbers.{AreFree}
 use Rattle.brc_table.proofs.Numbering.{taken_number, taken_rows}
@@ -13,7 +13,7 @@ use Rattle.brc_table.proofs.table.HeapTable.split.Goals as goal
 pub invariant_of-root : goal.invariant_of-root
 invariant_of-root g c =
     let before = c.root.inside.place.me.0.log in
-    let told : c.split_seat-place.new.seat.me.0.log ≡ Did (Register c.next-thread.result) 0 moves.Nothing ∷ before
+    let told : c.split_seat-place.new.seat.me.0.log ≡ Stepped (Register c.next-thread.result) 0 moves.Nothing ∷ before
     = search rules in
     let free = c.root.invariant.3 in (
       search rules,
@@ -31,7 +31,7 @@ invariant_of-root g c =
 pub invariant_of-root-else-thread-root : goal.invariant_of-root-else-thread-root
 invariant_of-root-else-thread-root g c =
     let before = c.root.inside.place.me.0.log in
-    let told : c.split_seat-place.new.seat.me.0.log ≡ Did (Register c.next-thread.result) 0 moves.Nothing ∷ before
+    let told : c.split_seat-place.new.seat.me.0.log ≡ Stepped (Register c.next-thread.result) 0 moves.Nothing ∷ before
     = search rules in
     let free = c.root.invariant.3 in (
       search rules,

@@ -4,12 +4,12 @@ use Rattle.brc_block.specs.declared.payload.Payload.{Payload}
 use Rattle.law.specs.world.declared.event.Step.TheVariants.{Unlock}
 use Rattle.law.specs.known.declared.word.Field.TheVariants.{Mutex}
 use Rattle.law.specs.known.declared.word.Word.TheVariants.{Of}
-use Rattle.law.specs.rule.declared.told.Told.TheVariants.{Did}
+use Rattle.law.specs.rule.declared.told.LogItem.TheVariants.{Stepped}
 use Rattle.law.specs.rule.declared.view.View.{View}
 use Rattle.brc_table.specs.Moving.{MayGive, put_home, found_locked}
 use Rattle.brc_table.specs.Seated.{SeatSeen}
 use Rattle.brc_table.specs.Shown.{shows}
-use Rattle.law.specs.steps.Owing.{Unlocks}
+use Rattle.law.specs.steps.Owing.{MayUnlock}
 use Rattle.law.proofs.steps.Locking_Steps.{unlocks_cell}
 use Rattle.brc_table.proofs.table.HeapTable.unlock.Goals as goal
 
@@ -20,13 +20,13 @@ give-requires-clause-allowed g c =
     let block = c.args.block in
     let some_thread : 0 < place.me.0.thread = subst (λ t. 0 < t) (sym is.1) is.2 in
     let found = found_locked place.me.0.log in
-    let owes : Unlocks n place.me.0.log (shows block) found c.args.change block.0 =
-    subst (λ (z : SeatSeen g.row.A.Denot). Unlocks n z.log (shows block) (found_locked z.log) c.args.change block.0)
+    let owes : MayUnlock n place.me.0.log (shows block) found c.args.change block.0 =
+    subst (λ (z : SeatSeen g.row.A.Denot). MayUnlock n z.log (shows block) (found_locked z.log) c.args.change block.0)
     (sym c.seat.view_is) c.requires.unlocks in
     let filled : c.put_in.new.seat.me ≡ (place.me.0, (block.0, Some block) ∷ rest place.me.1) =
     c.put_in.ensures.now ∙ ap (λ d. (place.me.0, (d, Some block) ∷ rest place.me.1)) c.cell-cell.ensures in
     subst (λ (z : ℕ × (ℕ × Me (Option (ℕ × Payload g.row.A.Denot)) View)). MayGive n limit z.0 z.1.1 (Of Mutex z.1.0) 0
-    (Did (Unlock c.args.change) 0 (put_home z.1.1.1)))
+    (Stepped (Unlock c.args.change) 0 (put_home z.1.1.1)))
     (λ i. (sym c.put_in.ensures.same.1 i, (sym c.cell-cell.ensures i, sym filled i)))
     (unlocks_cell shows n limit place.id place.me.0 (rest place.me.1) block found c.args.change block.0 is.0 some_thread
     c.requires.inside owes)

@@ -1,12 +1,12 @@
 use Rattle.std.proofs.Common.{ℕ, ◌<◌, ◌≤◌, sym, subst}
 use Rattle.law.specs.rule.declared.told.Moved.TheVariants.{Nothing}
-use Rattle.law.specs.rule.declared.told.Told.TheVariants.{Did}
+use Rattle.law.specs.rule.declared.told.LogItem.TheVariants.{Stepped}
 use Rattle.law.specs.world.declared.event.Step.TheVariants.{Wake}
 use Rattle.law.specs.known.declared.word.Word.TheVariants.{NotifyWord}
 use Rattle.brc_table.specs.Machine.{MayWake}
 use Rattle.brc_table.specs.Seated.{SeatSeen}
 use Rattle.brc_table.specs.Shown.{shows}
-use Rattle.law.specs.steps.Owing.{Allowed}
+use Rattle.law.specs.steps.Owing.{MayStep}
 use Rattle.brc_table.proofs.Wakes_Own.{wakes_own}
 use Rattle.brc_table.proofs.table.HeapTable.wake.Goals as goal
 
@@ -14,9 +14,9 @@ pub take_told-requires-clause-allowed : goal.take_told-requires-clause-allowed
 take_told-requires-clause-allowed g c =
     let n : ℕ = c.args.self.now.cells in let place = c.seat.inside.place in let is = c.seat.invariant in
     let some_thread : 0 < place.me.0.thread = subst (λ t. 0 < t) (sym is.1) is.2 in
-    let owes : Allowed n place.me.0.log Wake = subst (λ (z : SeatSeen g.row.A.Denot). Allowed n z.log Wake)
+    let owes : MayStep n place.me.0.log Wake = subst (λ (z : SeatSeen g.row.A.Denot). MayStep n z.log Wake)
     (sym c.seat.view_is) c.requires.allowed in
     let few : place.me.0.thread ≤ 64 = subst (λ t. t ≤ 64) (sym is.1) is.3 in
     subst (λ t. MayWake shows n c.args.self.now.local_limit place.id place.me (NotifyWord t) (λ _. 0)
-    (λ there. Did Wake there Nothing) n) is.1
+    (λ there. Stepped Wake there Nothing) n) is.1
     (wakes_own shows n c.args.self.now.local_limit place.id place.me.0 place.me.1 is.0 some_thread few owes)

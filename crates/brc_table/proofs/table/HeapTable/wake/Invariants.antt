@@ -1,6 +1,6 @@
 use Rattle.law.specs.rule.declared.told.Moved.TheVariants.{Nothing}
-use Rattle.law.specs.rule.declared.told.Told.TheVariants.{Did}
+use Rattle.law.specs.rule.declared.told.LogItem.TheVariants.{Stepped}
 use Rattle.brc_table.proofs.table.HeapTable.wake.Given as goal
 
 abbrev pub ghosts-take_told : goal.ghosts-take_told
-ghosts-take_told g a = record { item = λ there. Did a.step there Nothing; cells = a.table.now.cells }
+ghosts-take_told g a = record { item = λ there. Stepped a.step there Nothing; cells = a.table.now.cells }

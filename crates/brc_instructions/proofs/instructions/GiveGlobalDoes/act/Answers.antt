@@ -1,6 +1,0 @@
-use Rattle.brc_instructions.proofs.Follows_Of.{later_held}
-use Rattle.brc_instructions.proofs.instructions.GiveGlobalDoes.act.Goals as goal
-
-pub returns-clause-later : goal.returns-clause-later
-returns-clause-later g c = later_held c.args.frame.now c.given_by_globals.new.frame c.hold.new.frame
-    c.given_by_globals.ensures.later c.hold.ensures.quiet

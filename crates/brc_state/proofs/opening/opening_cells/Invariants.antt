@@ -1,6 +1,0 @@
-use Rattle.std.proofs.Common.{◌≡◌}
-use Rattle.law_world.specs.Heap.{opening_cells}
-use Rattle.brc_state.proofs.opening.opening_cells.Given as goal
-
-abbrev pub invariant-loop-cell : goal.invariant-loop-cell
-invariant-loop-cell g l = l.made.items ≡ opening_cells l.cell
