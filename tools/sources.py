@@ -83,7 +83,7 @@ def signature(lines, at):
             now.append(line.strip())
         else:
             said.append(line.strip())
-        if now is None and line.rstrip().endswith(("{", ";", "{}")):
+        if line.rstrip().endswith(";") or now is None and line.rstrip().endswith(("{", "{}")):
             break
         at += 1
     text = re.sub(r"\s+", " ", " ".join(said)).rstrip("{; ").strip()
