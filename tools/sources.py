@@ -83,7 +83,10 @@ def signature(lines, at):
             now.append(line.strip())
         else:
             said.append(line.strip())
-        if line.rstrip().endswith(";") or now is None and line.rstrip().endswith(("{", "{}")):
+        if now is None and line.rstrip().endswith(("{", ";", "{}")):
+            break
+        # (a call without a body ends with its last clause; a `;` within a clause ends a part of a record)
+        if now is not None and line.rstrip().endswith(";") and sum(it.count("{") - it.count("}") for it in now) == 0:
             break
         at += 1
     text = re.sub(r"\s+", " ", " ".join(said)).rstrip("{; ").strip()
