@@ -52,3 +52,13 @@ invariant_of-self-else-cell-ge-FIRST_MORTAL g c = record {
       c.self.invariant.fit (search rules) (search rules) (search rules);
   owns = c.self.invariant.owns;
 }
+
+pub returns-else-cell-ge-FIRST_MORTAL-clause-block : goal.returns-else-cell-ge-FIRST_MORTAL-clause-block
+returns-else-cell-ge-FIRST_MORTAL-clause-block g c =
+    let answers = rw c.table-table.ensures at c.merge_popped-block.ensures.block in
+    rw (← c.self.view_is) (record {
+      of_cell = answers.of_cell;
+      fresh = search rules;
+      entries = answers.entries;
+      out = search rules;
+    })
