@@ -125,6 +125,115 @@ def types(crate):
                 yield found[2], found[1], path, doc_above(lines, at), cases, alias
 
 
+FUNCTION = re.compile(r"^( *)(?:pub(?:\([\w ]+\))? )?(?:const |final |unsafe )*(?:extern \"C\" )?fn (\w+)")
+BLOCK = re.compile(r"^(?:(?:pub(?:\([\w ]+\))? )?trait (\w+)|impl\b)")
+CONSTANT = re.compile(r"^(?:pub(?:\([\w ]+\))? )?(?:const|static) (\w+)")
+
+
+def header(lines, at):
+    """Of an `impl` that begins here: its trait, if it has one, and its type."""
+    text, deep = re.sub(r"\s+", " ", " ".join(lines[at : at + 12]).split("{")[0])[len("impl") :].strip(), 0
+    for place, sign in enumerate(text if text.startswith("<") else ""):
+        deep += (sign == "<") - (sign == ">" and text[place - 1] != "-")
+        if not deep:
+            text = text[place + 1 :].strip()
+            break
+    trait, _, of = text.partition(" for ") if " for " in text else ("", "", text)
+    return re.split(r"\W", trait)[0], re.search(r"\w+", re.sub(r"'\w+|\bmut\b|\w+::", "", of))[0]
+
+
+def end_of(lines, at, indent):
+    """The last line of the function that begins here: a brace that stands as far in, or the `;` of a call without a body."""
+    deep, has_body = 0, False
+    while at < len(lines):
+        line = lines[at]
+        deep += line.count("{") - line.count("}")
+        has_body = has_body or re.match(rf"^{indent}\{{", line) or not re.match(r"\s*(requires|ensures)", line) and line.endswith(" {")
+        if re.match(rf"^{indent}(\}}|\{{\}})", line) or not has_body and not deep and line.endswith(";"):
+            return at
+        at += 1
+    return at
+
+
+@functools.cache
+def bodies(path):
+    """Each function, constant and ghost member of a file: (first line, last line, name, its trait if it is of an impl of one, its clauses)."""
+    lines, found, trait, owner = text_of(f"{ROOT}/{path}").split("\n"), [], "", ""
+    for at, line in enumerate(lines):
+        block, fn = BLOCK.match(line), FUNCTION.match(line)
+        if block:
+            trait, owner = ("", block[1]) if block[1] else header(lines, at)
+        elif re.match(r"^\}", line):
+            trait, owner = "", ""
+        if fn:
+            names = [re.match(r"(requires|ensures)\*? (?:(\w+) )?", it) for it in signature(lines, at)[1]]
+            name = f"{owner}::{fn[2]}" if fn[1] and owner else fn[2]
+            found.append((at, end_of(lines, at, fn[1]), name, trait if fn[1] else "", {(it[1], it[2]) for it in names if it[2]}))
+        elif CONSTANT.match(line):
+            found.append((at, at, CONSTANT.match(line)[1], "", set()))
+        elif owner and re.match(r"^    ghost \w+ *[:=]", line):
+            found.append((at, at, f"{owner}::{re.match(r'^ *ghost (.+?) *[:=]', line)[1]}", trait, set()))
+    return found
+
+
+def definition_at(path, last):
+    """The definition of a file of specs/ that has this line."""
+    found, inside = None, None
+    for line in text_of(f"{ROOT}/{path}").split("\n")[: last + 1]:
+        indent = len(line) - len(line.lstrip())
+        if not line.strip() or line.lstrip().startswith("--") or inside is not None and indent > inside:
+            continue
+        inside = None
+        named = re.match(r"^\s*(?:abbrev |unfoldable )?(?:pub )?(?:(record|data) ([^\s:({]+)|([^\s:({]+) :)", line)
+        if named:
+            found, inside = named[2] or named[3], indent if named[1] else None
+    return found
+
+
+@functools.cache
+def all_clauses():
+    """Of each name of a function in the repository: the (requires or ensures, name) of its clauses, in whichever type or trait it stands."""
+    found = {}
+    for crate, _ in crates():
+        for path in files_of(crate, "src", ".rt"):
+            for _first, _last, name, _trait, clauses in bodies(path):
+                found.setdefault(name, set()).update(clauses)
+                found.setdefault(name.split("::")[-1], set()).update(clauses)
+    return found
+
+
+def read_edit(path):
+    """A wrong body: the texts of its `breaks:` lines, and its pairs (file, old text, new text)."""
+    file, old, pairs, breaks = None, None, [], []
+    for line in text_of(path).split("\n"):
+        if line.startswith("breaks:"):
+            breaks.append(line[len("breaks:") :].strip())
+        elif line.startswith("file: "):
+            file = line[len("file: ") :].strip()
+        elif line.startswith("old:"):
+            old = line[len("old:") :].removeprefix(" ")
+        elif line.startswith("new:"):
+            pairs.append((file, old, line[len("new:") :].removeprefix(" ")))
+    return breaks, pairs
+
+
+def broken_by(path):
+    """What the wrong body's first changed text stands in: a function with its file's row of `bodies`, or a definition; None for neither."""
+    folder, texts = os.path.relpath(os.path.dirname(os.path.dirname(path)), ROOT), {}
+    for file, old, new in read_edit(path)[1]:
+        whole = texts.setdefault(file, text_of(f"{ROOT}/{folder}/{file}"))
+        same = len(os.path.commonprefix([old, new]))
+        at = whole.count("\n", 0, whole.find(old) + same)
+        if file.startswith("src/"):
+            inside = [it for it in bodies(f"{folder}/{file}") if it[0] <= at <= it[1]]
+            if inside:
+                return inside[-1][2], inside[-1]
+        elif not re.match(r"\s*use ", whole.split("\n")[at]):
+            return definition_at(f"{folder}/{file}", at), None
+        texts[file] = whole.replace(old, new)
+    return None, None
+
+
 class Definitions:
     """The definitions of all specs/, and which of them a text leads to."""
 

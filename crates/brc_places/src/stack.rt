@@ -213,6 +213,8 @@ impl<A: Allocator> Stack<A> {
         ensures more { OnOk result (Retains frame.old frame.new self.old self.new (length self.old - 1)) }
         ensures refused { IfErr result (λ fault. (fault ≡ faults.NoSuchPlace) ⊎ (fault ≡ faults.OutOfMemory)
             ⊎ Refused frame.old fault) }
+        ensures missing { slot self.old (length self.old - 1) ≡ None
+            → (result ≡ Err faults.NoSuchPlace) × (frame.new ≡ frame.old) }
         ensures none { result ≡ Err faults.NoSuchPlace → slot self.old (length self.old - 1) ≡ None }
         ensures unchanged { OnErr result (self.new ≡ self.old) }
     {

@@ -7,9 +7,9 @@ ghost use Rattle.brc_run.specs.Runs.{CameBack, IsBegun, IsReady, InOrder};
 
 use crate::crew::{Done, RunContext, run_one};
 use crate::starting::{Begun, begin, end_from};
-use brc_heap::{Heap, Resting};
+use brc_heap::Resting;
 use brc_script::Section;
-use brc_section::{Board, Gate};
+use brc_section::Gate;
 use std::alloc::Global;
 use std::sync::Wait;
 use std::thread;
@@ -126,26 +126,31 @@ fn run_in<'s, E: 's, R: Threads + Wait + Sync, G: Gate>(
     }
 }
 
-/// Each section on a thread of its own, all at the same time.
+/// Each section on a thread of its own, all at the same time. What the scope promises is said of the context's parts, as
+/// in `begin`.
 pub(crate) fn run_all<R: Threads + Wait + Sync, G: Gate>(
     rt: &R,
-    alloc: Global,
-    heap: &Heap<Global>,
+    context: RunContext<'_, G>,
     crew: Vec<Resting<Global>>,
     sections: &[Section<Global>],
-    budget: usize,
-    board: &Board<Global>,
-    gate: &G,
     done: Vec<Done<Global>>,
 ) -> Vec<Done<Global>>
-    requires ready { All (IsReady heap.now) crew.items }
+    requires ready { All (IsReady context.heap.now) crew.items }
     requires crew { length crew.items ≡ length sections.now }
     requires few { length sections.now < 64 }
     requires none { done.items ≡ [] }
     requires room { length sections.now ≤ vec_capacity done }
 
-    ensures done { InOrder (CameBack heap.now (G.may_refuse gate.now)) 1 sections.now result.items }
+    ensures done { InOrder (CameBack context.entry.heap.now (G.may_refuse context.entry.gate.now)) 1 sections.now
+        result.items }
 {
+    let RunContext {
+        alloc,
+        heap,
+        board,
+        gate,
+        budget,
+    } = context;
     thread::scope(
         thread::scope_env(),
         rt,

@@ -8,7 +8,7 @@ ghost use Rattle.brc_run.specs.Options.{AreRunOptions};
 ghost use Rattle.brc_run.specs.Runs.{EndsAs, InOrder, TakesInAll, IsReportOf};
 
 use crate::clearing::clear;
-use crate::crew::{Done, register_all};
+use crate::crew::{Done, RunContext, register_all};
 use crate::gathering::{dismiss_all, gather_all};
 use crate::joining::run_all;
 use crate::options::RunOptions;
@@ -91,7 +91,14 @@ fn run_on<R: Threads + Wait + Sync, G: Gate>(
         dismiss_all(rt, heap, root, crew);
         return Err(fault);
     }
-    let done = run_all(rt, alloc, heap, crew, sections, budget, &board, gate, done);
+    let context = RunContext {
+        alloc,
+        heap,
+        board: &board,
+        gate,
+        budget,
+    };
+    let done = run_all(rt, context, crew, sections, done);
     let Some(ends) = gather_all(heap, root, done, ends) else {
         return Err(Fault::OutOfMemory);
     };
