@@ -80,7 +80,7 @@ pub(crate) fn list_line<R: Wait, H: HasTable<A>, A: Allocator + Copy>(
     to: Register,
 ) -> Done
     requires stands { OwnsRegisters frame.old registers.old }
-    ensures led { Led frame.old frame.new registers.old registers.new (does.«List» to) result }
+    ensures led { Led frame.old frame.new registers.old registers.new (instructions.«List» to) result }
 {
     let empty = Empty::List;
     MakeEmpty { to, empty }.act(rt, alloc, frame, registers)

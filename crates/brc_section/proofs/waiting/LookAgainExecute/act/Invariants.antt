@@ -3,7 +3,7 @@ use Rattle.brc_count.specs.law.living.Later.{IsLater}
 use Rattle.brc_instructions.specs.Registers.{OwnsRegisters}
 use Rattle.brc_section.specs.declared.waiting.AwaitedHere.TheVariants as awaits
 use Rattle.brc_section.specs.Tries.{StaysMeant}
-use Rattle.brc_section.proofs.waiting.LookTryAgainExecute.act.Given as goal
+use Rattle.brc_section.proofs.waiting.LookAgainExecute.act.Given as goal
 
 abbrev pub invariant-loop : goal.invariant-loop
 invariant-loop g l =

@@ -3,7 +3,7 @@ use Rattle.brc_script.specs.declared.instruction.Instruction.TheVariants as inst
 use Rattle.brc_count.proofs.law.living.Earlier.{later_same, later_both}
 use Rattle.brc_section.specs.Tries.{StaysMeant}
 use Rattle.brc_section.proofs.Tries.{goes_on, stays_here, stays_on, follows_on, letter_from}
-use Rattle.brc_section.proofs.waiting.LookTryNextExecute.act.Goals as goal
+use Rattle.brc_section.proofs.waiting.LookNextExecute.act.Goals as goal
 
 pub returns-clause-later : goal.returns-clause-later
 returns-clause-later g c =

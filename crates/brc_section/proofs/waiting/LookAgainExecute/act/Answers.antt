@@ -4,7 +4,7 @@ use Rattle.brc_count.specs.law.living.Later.{IsLater}
 use Rattle.brc_count.proofs.law.living.Earlier.{later_both}
 use Rattle.brc_section.specs.Tries.{StaysMeant}
 use Rattle.brc_section.proofs.Tries.{goes_on, stays_on, stays_tried, follows_on, letter_from}
-use Rattle.brc_section.proofs.waiting.LookTryAgainExecute.act.Goals as goal
+use Rattle.brc_section.proofs.waiting.LookAgainExecute.act.Goals as goal
 
 -- a try found something before the board was told
 pub returns-then-not-is_nothing-clause-later : goal.returns-then-not-is_nothing-clause-later

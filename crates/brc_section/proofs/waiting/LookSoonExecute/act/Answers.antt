@@ -2,7 +2,7 @@ use Rattle.std.proofs.Common.{rules}
 use Rattle.brc_script.specs.declared.instruction.Instruction.TheVariants as instructions
 use Rattle.brc_count.proofs.law.living.Earlier.{later_both}
 use Rattle.brc_section.proofs.Tries.{stays_tried, follows_on, letter_from}
-use Rattle.brc_section.proofs.waiting.LookTrySoonExecute.act.Goals as goal
+use Rattle.brc_section.proofs.waiting.LookSoonExecute.act.Goals as goal
 
 pub returns-then-not-is_nothing-clause-later : goal.returns-then-not-is_nothing-clause-later
 returns-then-not-is_nothing-clause-later g c =
