@@ -144,13 +144,11 @@ pub(crate) fn run_all<R: Threads + Wait + Sync, G: Gate>(
     ensures done { InOrder (CameBack context.entry.heap.now (G.may_refuse context.entry.gate.now)) 1 sections.now
         result.items }
 {
-    let RunContext {
-        alloc,
-        heap,
-        board,
-        gate,
-        budget,
-    } = context;
+    let alloc = context.alloc;
+    let heap = context.heap;
+    let board = context.board;
+    let gate = context.gate;
+    let budget = context.budget;
     thread::scope(
         thread::scope_env(),
         rt,
