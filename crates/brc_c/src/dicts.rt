@@ -2,7 +2,7 @@
 
 ghost use Rattle.std.specs.Prelude.{◌≡◌, ◌≢◌};
 
-use crate::outs::{copy_prefix, write, write_old};
+use crate::outs::{copy_prefix, gone, write, write_old};
 use crate::slots::CThread;
 use brc_client::{GiveBy, KeyRef, TakeBy, text_of};
 use brc_words::Key;
@@ -29,11 +29,11 @@ pub extern "C" fn brc_dict_put_int(
     ensures kept { result ≢ 0 → old.new ≡ old.old }
 {
     match thread.as_mut().client() {
-        Ok(client) => write_old(
+        Some(client) => write_old(
             client.take(alloc, dict, TakeBy::Put(KeyRef::Int(key)), value),
             old,
         ),
-        Err(status) => status.number(),
+        None => gone(),
     }
 }
 
@@ -49,14 +49,14 @@ pub extern "C" fn brc_dict_put_text(
     ensures kept { result ≢ 0 → old.new ≡ old.old }
 {
     match thread.as_mut().client() {
-        Ok(client) => match text_of(key) {
+        Some(client) => match text_of(key) {
             Ok(key) => write_old(
                 client.take(alloc, dict, TakeBy::Put(KeyRef::Text(key)), value),
                 old,
             ),
             Err(status) => status.number(),
         },
-        Err(status) => status.number(),
+        None => gone(),
     }
 }
 
@@ -70,8 +70,8 @@ pub extern "C" fn brc_dict_find_int(
     ensures kept { result ≢ 0 → value.new ≡ value.old }
 {
     match thread.as_mut().client() {
-        Ok(client) => write(client.give(dict, GiveBy::Find(KeyRef::Int(key))), value),
-        Err(status) => status.number(),
+        Some(client) => write(client.give(dict, GiveBy::Find(KeyRef::Int(key))), value),
+        None => gone(),
     }
 }
 
@@ -85,11 +85,11 @@ pub extern "C" fn brc_dict_find_text(
     ensures kept { result ≢ 0 → value.new ≡ value.old }
 {
     match thread.as_mut().client() {
-        Ok(client) => match text_of(key) {
+        Some(client) => match text_of(key) {
             Ok(key) => write(client.give(dict, GiveBy::Find(KeyRef::Text(key))), value),
             Err(status) => status.number(),
         },
-        Err(status) => status.number(),
+        None => gone(),
     }
 }
 
@@ -103,8 +103,8 @@ pub extern "C" fn brc_dict_del_int(
     ensures kept { result ≢ 0 → value.new ≡ value.old }
 {
     match thread.as_mut().client() {
-        Ok(client) => write(client.give(dict, GiveBy::Delete(KeyRef::Int(key))), value),
-        Err(status) => status.number(),
+        Some(client) => write(client.give(dict, GiveBy::Delete(KeyRef::Int(key))), value),
+        None => gone(),
     }
 }
 
@@ -118,11 +118,11 @@ pub extern "C" fn brc_dict_del_text(
     ensures kept { result ≢ 0 → value.new ≡ value.old }
 {
     match thread.as_mut().client() {
-        Ok(client) => match text_of(key) {
+        Some(client) => match text_of(key) {
             Ok(key) => write(client.give(dict, GiveBy::Delete(KeyRef::Text(key))), value),
             Err(status) => status.number(),
         },
-        Err(status) => status.number(),
+        None => gone(),
     }
 }
 
@@ -139,7 +139,7 @@ pub extern "C" fn brc_dict_pair(
     ensures kept { result ≢ 0 → (key.new ≡ key.old) × (to.new ≡ to.old) × (value.new ≡ value.old) }
 {
     match thread.as_mut().client() {
-        Ok(client) => match client.pair(alloc, dict, index) {
+        Some(client) => match client.pair(alloc, dict, index) {
             Ok((found, number)) => {
                 *value = number;
                 write_key(&found, key, to);
@@ -147,7 +147,7 @@ pub extern "C" fn brc_dict_pair(
             }
             Err(status) => status.number(),
         },
-        Err(status) => status.number(),
+        None => gone(),
     }
 }
 

@@ -6,51 +6,41 @@ use std::alloc::Global;
 /// Room for a thread. It is filled before C gets it, and stays so until it is dropped.
 #[derive(Drop)]
 pub(crate) struct Held {
-    thread: Option<Thread>,
+    thread: Thread,
 }
 
 impl Held {
-    /// Room without a thread.
+    /// Room for a thread.
     pub(crate) fn empty() -> Held {
-        Held { thread: None }
+        Held {
+            thread: Thread::gone(),
+        }
     }
 
     /// The thread goes into the room.
     pub(crate) fn fill(&mut self, thread: Thread) {
-        self.thread = Some(thread);
+        self.thread = thread;
     }
 
-    /// The calls of the thread: Gone if it has left.
+    /// The calls of the thread; None if it has left.
     #[inline(always)]
-    pub(crate) fn client(&mut self) -> Result<&mut Client, Status> {
-        match &mut self.thread {
-            Some(thread) => thread.client(),
-            None => Err(Status::Gone),
-        }
+    pub(crate) fn client(&mut self) -> Option<&mut Client> {
+        self.thread.client()
     }
 
     /// The next thread of the same heap.
     pub(crate) fn fork(&mut self, alloc: Global) -> Result<Thread, Status> {
-        match &mut self.thread {
-            Some(thread) => thread.fork(alloc),
-            None => Err(Status::Gone),
-        }
+        self.thread.fork(alloc)
     }
 
     /// The thread goes on with its way out.
     pub(crate) fn leave(&mut self) -> Result<(), Status> {
-        match &mut self.thread {
-            Some(thread) => thread.leave(),
-            None => Err(Status::Gone),
-        }
+        self.thread.leave()
     }
 
     /// What the thread has made and freed.
     pub(crate) fn ledger(&self) -> Result<Ledger, Status> {
-        match &self.thread {
-            Some(thread) => thread.ledger(),
-            None => Err(Status::Gone),
-        }
+        self.thread.ledger()
     }
 }
 

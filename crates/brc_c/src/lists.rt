@@ -2,7 +2,7 @@
 
 ghost use Rattle.std.specs.Prelude.{◌≡◌, ◌≢◌};
 
-use crate::outs::{status_of_taking, write, write_old};
+use crate::outs::{gone, status_of_taking, write, write_old};
 use crate::slots::CThread;
 use brc_client::{GiveBy, TakeBy};
 use std::alloc::Global;
@@ -10,8 +10,8 @@ use std::alloc::Global;
 #[unsafe(no_mangle)]
 pub extern "C" fn brc_list_push(alloc: Global, thread: &mut CThread, list: u64, value: u64) -> u32 {
     match thread.as_mut().client() {
-        Ok(client) => status_of_taking(client.take(alloc, list, TakeBy::Push, value)),
-        Err(status) => status.number(),
+        Some(client) => status_of_taking(client.take(alloc, list, TakeBy::Push, value)),
+        None => gone(),
     }
 }
 
@@ -20,8 +20,8 @@ pub extern "C" fn brc_list_pop(thread: &mut CThread, list: u64, value: &mut u64)
     ensures kept { result ≢ 0 → value.new ≡ value.old }
 {
     match thread.as_mut().client() {
-        Ok(client) => write(client.give(list, GiveBy::Pop), value),
-        Err(status) => status.number(),
+        Some(client) => write(client.give(list, GiveBy::Pop), value),
+        None => gone(),
     }
 }
 
@@ -30,8 +30,8 @@ pub extern "C" fn brc_list_take(thread: &mut CThread, list: u64, index: u32, val
     ensures kept { result ≢ 0 → value.new ≡ value.old }
 {
     match thread.as_mut().client() {
-        Ok(client) => write(client.give(list, GiveBy::Take(index)), value),
-        Err(status) => status.number(),
+        Some(client) => write(client.give(list, GiveBy::Take(index)), value),
+        None => gone(),
     }
 }
 
@@ -40,8 +40,8 @@ pub extern "C" fn brc_list_get(thread: &mut CThread, list: u64, index: u32, valu
     ensures kept { result ≢ 0 → value.new ≡ value.old }
 {
     match thread.as_mut().client() {
-        Ok(client) => write(client.give(list, GiveBy::Get(index)), value),
-        Err(status) => status.number(),
+        Some(client) => write(client.give(list, GiveBy::Get(index)), value),
+        None => gone(),
     }
 }
 
@@ -57,16 +57,16 @@ pub extern "C" fn brc_list_set(
     ensures kept { result ≢ 0 → old.new ≡ old.old }
 {
     match thread.as_mut().client() {
-        Ok(client) => write_old(client.take(alloc, list, TakeBy::Set(index), value), old),
-        Err(status) => status.number(),
+        Some(client) => write_old(client.take(alloc, list, TakeBy::Set(index), value), old),
+        None => gone(),
     }
 }
 
 #[unsafe(no_mangle)]
 pub extern "C" fn brc_send(alloc: Global, thread: &mut CThread, mailbox: u64, value: u64) -> u32 {
     match thread.as_mut().client() {
-        Ok(client) => status_of_taking(client.take(alloc, mailbox, TakeBy::Send, value)),
-        Err(status) => status.number(),
+        Some(client) => status_of_taking(client.take(alloc, mailbox, TakeBy::Send, value)),
+        None => gone(),
     }
 }
 
@@ -75,7 +75,7 @@ pub extern "C" fn brc_recv(thread: &mut CThread, mailbox: u64, value: &mut u64) 
     ensures kept { result ≢ 0 → value.new ≡ value.old }
 {
     match thread.as_mut().client() {
-        Ok(client) => write(client.give(mailbox, GiveBy::Receive), value),
-        Err(status) => status.number(),
+        Some(client) => write(client.give(mailbox, GiveBy::Receive), value),
+        None => gone(),
     }
 }

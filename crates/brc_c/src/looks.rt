@@ -2,7 +2,7 @@
 
 ghost use Rattle.std.specs.Prelude.{◌≡◌, ◌≢◌};
 
-use crate::outs::{copy_prefix, write, write_truth};
+use crate::outs::{copy_prefix, gone, write, write_truth};
 use crate::slots::CThread;
 use brc_words::Kind;
 
@@ -25,14 +25,14 @@ pub extern "C" fn brc_kind_of(thread: &mut CThread, held: u64, kind: &mut u32) -
     ensures kept { result ≢ 0 → kind.new ≡ kind.old }
 {
     match thread.as_mut().client() {
-        Ok(client) => match client.kind(held) {
+        Some(client) => match client.kind(held) {
             Ok(found) => {
                 *kind = number_of(found);
                 0
             }
             Err(status) => status.number(),
         },
-        Err(status) => status.number(),
+        None => gone(),
     }
 }
 
@@ -41,8 +41,8 @@ pub extern "C" fn brc_len_of(thread: &mut CThread, held: u64, len: &mut usize) -
     ensures kept { result ≢ 0 → len.new ≡ len.old }
 {
     match thread.as_mut().client() {
-        Ok(client) => write(client.len(held), len),
-        Err(status) => status.number(),
+        Some(client) => write(client.len(held), len),
+        None => gone(),
     }
 }
 
@@ -51,8 +51,8 @@ pub extern "C" fn brc_int_of(thread: &mut CThread, held: u64, value: &mut i64) -
     ensures kept { result ≢ 0 → value.new ≡ value.old }
 {
     match thread.as_mut().client() {
-        Ok(client) => write(client.int(held), value),
-        Err(status) => status.number(),
+        Some(client) => write(client.int(held), value),
+        None => gone(),
     }
 }
 
@@ -61,8 +61,8 @@ pub extern "C" fn brc_truth_of(thread: &mut CThread, held: u64, is_true: &mut u3
     ensures kept { result ≢ 0 → is_true.new ≡ is_true.old }
 {
     match thread.as_mut().client() {
-        Ok(client) => write_truth(client.truth(held), is_true),
-        Err(status) => status.number(),
+        Some(client) => write_truth(client.truth(held), is_true),
+        None => gone(),
     }
 }
 
@@ -76,13 +76,13 @@ pub extern "C" fn brc_text_of(
     ensures kept { result ≢ 0 → (to.new ≡ to.old) × (len.new ≡ len.old) }
 {
     match thread.as_mut().client() {
-        Ok(client) => match client.read_text(held) {
+        Some(client) => match client.read_text(held) {
             Ok(()) => {
                 *len = copy_prefix(client.shown().as_bytes(), to);
                 0
             }
             Err(status) => status.number(),
         },
-        Err(status) => status.number(),
+        None => gone(),
     }
 }

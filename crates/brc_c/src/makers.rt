@@ -2,7 +2,7 @@
 
 ghost use Rattle.std.specs.Prelude.{◌≡◌, ◌≢◌};
 
-use crate::outs::write;
+use crate::outs::{gone, write};
 use crate::slots::CThread;
 use brc_client::{Make, text_of};
 use std::alloc::Global;
@@ -12,8 +12,8 @@ pub extern "C" fn brc_none(alloc: Global, thread: &mut CThread, made: &mut u64) 
     ensures kept { result ≢ 0 → made.new ≡ made.old }
 {
     match thread.as_mut().client() {
-        Ok(client) => write(client.make(alloc, Make::Nothing), made),
-        Err(status) => status.number(),
+        Some(client) => write(client.make(alloc, Make::Nothing), made),
+        None => gone(),
     }
 }
 
@@ -27,8 +27,8 @@ pub extern "C" fn brc_truth(
     ensures kept { result ≢ 0 → made.new ≡ made.old }
 {
     match thread.as_mut().client() {
-        Ok(client) => write(client.make(alloc, Make::Truth(is_true != 0)), made),
-        Err(status) => status.number(),
+        Some(client) => write(client.make(alloc, Make::Truth(is_true != 0)), made),
+        None => gone(),
     }
 }
 
@@ -37,8 +37,8 @@ pub extern "C" fn brc_globals(alloc: Global, thread: &mut CThread, made: &mut u6
     ensures kept { result ≢ 0 → made.new ≡ made.old }
 {
     match thread.as_mut().client() {
-        Ok(client) => write(client.make(alloc, Make::Globals), made),
-        Err(status) => status.number(),
+        Some(client) => write(client.make(alloc, Make::Globals), made),
+        None => gone(),
     }
 }
 
@@ -52,8 +52,8 @@ pub extern "C" fn brc_new_int(
     ensures kept { result ≢ 0 → made.new ≡ made.old }
 {
     match thread.as_mut().client() {
-        Ok(client) => write(client.make(alloc, Make::Int(value)), made),
-        Err(status) => status.number(),
+        Some(client) => write(client.make(alloc, Make::Int(value)), made),
+        None => gone(),
     }
 }
 
@@ -62,8 +62,8 @@ pub extern "C" fn brc_new_list(alloc: Global, thread: &mut CThread, made: &mut u
     ensures kept { result ≢ 0 → made.new ≡ made.old }
 {
     match thread.as_mut().client() {
-        Ok(client) => write(client.make(alloc, Make::List), made),
-        Err(status) => status.number(),
+        Some(client) => write(client.make(alloc, Make::List), made),
+        None => gone(),
     }
 }
 
@@ -72,8 +72,8 @@ pub extern "C" fn brc_new_dict(alloc: Global, thread: &mut CThread, made: &mut u
     ensures kept { result ≢ 0 → made.new ≡ made.old }
 {
     match thread.as_mut().client() {
-        Ok(client) => write(client.make(alloc, Make::Dict), made),
-        Err(status) => status.number(),
+        Some(client) => write(client.make(alloc, Make::Dict), made),
+        None => gone(),
     }
 }
 
@@ -82,8 +82,8 @@ pub extern "C" fn brc_new_mailbox(alloc: Global, thread: &mut CThread, made: &mu
     ensures kept { result ≢ 0 → made.new ≡ made.old }
 {
     match thread.as_mut().client() {
-        Ok(client) => write(client.make(alloc, Make::Mailbox), made),
-        Err(status) => status.number(),
+        Some(client) => write(client.make(alloc, Make::Mailbox), made),
+        None => gone(),
     }
 }
 
@@ -97,10 +97,10 @@ pub extern "C" fn brc_new_text(
     ensures kept { result ≢ 0 → made.new ≡ made.old }
 {
     match thread.as_mut().client() {
-        Ok(client) => match text_of(bytes) {
+        Some(client) => match text_of(bytes) {
             Ok(text) => write(client.make(alloc, Make::Text(text)), made),
             Err(status) => status.number(),
         },
-        Err(status) => status.number(),
+        None => gone(),
     }
 }

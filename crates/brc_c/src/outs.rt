@@ -52,6 +52,12 @@ pub(crate) fn write_old(made: Result<Option<u64>, Status>, old: &mut u64) -> u32
     }
 }
 
+/// The status of a call on a thread that has left.
+#[inline(always)]
+pub(crate) fn gone() -> u32 {
+    Status::Gone.number()
+}
+
 /// Nothing is written: nothing comes out for what was given.
 #[inline(always)]
 pub(crate) fn status_of_taking(made: Result<Option<u64>, Status>) -> u32 {

@@ -3,7 +3,7 @@
 ghost use Rattle.std.specs.Prelude.{◌≡◌, ◌≢◌};
 
 use crate::held::Held;
-use crate::outs::status_of;
+use crate::outs::{gone, status_of};
 use crate::parts::Parts;
 use crate::slots::{CHeap, CThread};
 use brc_client::{Status, Thread};
@@ -75,45 +75,45 @@ pub extern "C" fn brc_ledger(thread: &mut CThread, allocs: &mut u64, frees: &mut
 #[unsafe(no_mangle)]
 pub extern "C" fn brc_poll(thread: &mut CThread) -> u64 {
     match thread.as_mut().client() {
-        Ok(client) => client.poll(),
-        Err(_) => 0,
+        Some(client) => client.poll(),
+        None => 0,
     }
 }
 
 #[unsafe(no_mangle)]
 pub extern "C" fn brc_work(thread: &mut CThread, turns: usize) -> usize {
     match thread.as_mut().client() {
-        Ok(client) => client.work(turns),
-        Err(_) => turns,
+        Some(client) => client.work(turns),
+        None => turns,
     }
 }
 
 #[unsafe(no_mangle)]
 pub extern "C" fn brc_count(thread: &mut CThread) -> usize {
     match thread.as_mut().client() {
-        Ok(client) => client.count(),
-        Err(_) => 0,
+        Some(client) => client.count(),
+        None => 0,
     }
 }
 
 #[unsafe(no_mangle)]
 pub extern "C" fn brc_release_all(thread: &mut CThread) -> u32 {
     match thread.as_mut().client() {
-        Ok(client) => {
+        Some(client) => {
             client.release_all();
             0
         }
-        Err(status) => status.number(),
+        None => gone(),
     }
 }
 
 #[unsafe(no_mangle)]
 pub extern "C" fn brc_claim(thread: &mut CThread, cell: u32, near_last: u32) -> u32 {
     match thread.as_mut().client() {
-        Ok(client) => {
+        Some(client) => {
             client.claim(cell, near_last != 0);
             0
         }
-        Err(status) => status.number(),
+        None => gone(),
     }
 }

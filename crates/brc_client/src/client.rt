@@ -61,6 +61,23 @@ pub(crate) fn insert(handles: &mut Handles<Global>, numbers: &Numbers, given: Ha
     }
 }
 
+/// The handle that the number names. Foreign, then Stale, if it names none.
+#[inline(always)]
+pub(crate) fn find<'h>(
+    handles: &'h Handles<Global>,
+    numbers: &Numbers,
+    number: u64,
+) -> Result<&'h Handle<Global>, Status> {
+    let place = numbers.place(number)?;
+    if place >= handles.len() {
+        unreachable!()
+    }
+    match handles.get(place) {
+        Some(handle) => Ok(handle),
+        None => Err(Status::Stale),
+    }
+}
+
 /// All handles go, by rising place, and their numbers with them.
 fn release_each(
     frame: &mut Frame<Shared, Global>,
@@ -151,10 +168,7 @@ impl Client {
         ensures keeps { KeepsNames self.old self.new }
         ensures unchanged { OnErr result (KeepsNumbers self.old self.new) }
     {
-        let place = self.place_of(number)?;
-        let Some(handle) = self.handles.get(place) else {
-            unreachable!()
-        };
+        let handle = find(&self.handles, &self.numbers, number)?;
         match self.mutator.frame().retain(handle) {
             Ok(given) => Ok(insert(&mut self.handles, &self.numbers, given)),
             Err(fault) => Err(Status::Fault(fault)),
@@ -171,9 +185,9 @@ impl Client {
         ensures refused { IfErr result (NamesNone self.old number) }
         ensures unchanged { OnErr result (self.new ≡ self.old) }
     {
-        let place = self.place_of(number)?;
+        let place = self.numbers.place(number)?;
         let Some(handle) = self.handles.take(place) else {
-            unreachable!()
+            return Err(Status::Stale);
         };
         self.numbers.spend(place);
         self.mutator.frame().release(handle);

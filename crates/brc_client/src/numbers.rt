@@ -16,6 +16,8 @@ pub(crate) const PLACES: usize = 65_536;
 pub struct Numbers {
     /// 1 to 65,535.
     stamp: u64,
+    /// What each number begins with: the stamp, where a number has it.
+    base: u64,
     uses: Vec<u32, Global>,
 }
 
@@ -36,7 +38,11 @@ impl Numbers {
         ensures uses { IfOk result (λ made. made.uses ≡ replicate 65536 0) }
     {
         let uses = Vec::from_elem(alloc, 0u32, PLACES)?;
-        Ok(Numbers { stamp: 1, uses })
+        Ok(Numbers {
+            stamp: 1,
+            base: 281_474_976_710_656,
+            uses,
+        })
     }
 
     /// The same with the stamp of a registration, before which so many were. Two stamps of a heap are equal only if
@@ -45,9 +51,15 @@ impl Numbers {
         ensures stamp { result.stamp ≡ stamp_of first before }
         ensures uses { result.uses ≡ self.uses }
     {
-        let Numbers { stamp: _one, uses } = self;
+        let Numbers {
+            stamp: _stamp,
+            base: _base,
+            uses,
+        } = self;
+        let stamp = (u64::from(first) + u64::from(before)) % 65_535 + 1;
         Numbers {
-            stamp: (u64::from(first) + u64::from(before)) % 65_535 + 1,
+            stamp,
+            base: stamp * 281_474_976_710_656,
             uses,
         }
     }
@@ -58,7 +70,7 @@ impl Numbers {
         requires inside { place < 65536 }
         ensures { result ≡ number_at self.now place }
     {
-        self.stamp * 281_474_976_710_656 + u64::from(self.uses[place]) * 65_536 + place as u64
+        self.base + u64::from(self.uses[place]) * 65_536 + place as u64
     }
 
     /// The place of a number, whose spelling is the one that the place has now. Foreign if the number is of another
@@ -70,14 +82,16 @@ impl Numbers {
         ensures stamp { OnOk result (stamp_in number ≡ self.now.stamp) }
         ensures refused { IfErr result (MisSpelt self.now number) }
     {
-        if number / 281_474_976_710_656 != self.stamp {
-            return Err(Status::Foreign);
-        }
+        // Most numbers are right, so it is looked at last why one is not.
         let place = (number % 65_536) as usize;
-        if number != self.number(place) {
-            return Err(Status::Stale);
+        if number == self.number(place) {
+            return Ok(place);
         }
-        Ok(place)
+        if number / 281_474_976_710_656 != self.stamp {
+            Err(Status::Foreign)
+        } else {
+            Err(Status::Stale)
+        }
     }
 
     /// The place is vacated: what its number was no place has now.

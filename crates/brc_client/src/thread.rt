@@ -151,6 +151,14 @@ fn leave(client: Client) -> (Stage, Result<(), Status>)
 }
 
 impl Stage {
+    #[inline(always)]
+    fn client(&mut self) -> Option<&mut Client> {
+        match self {
+            Stage::Works(client) => Some(client),
+            _ => None,
+        }
+    }
+
     /// As far on the way out as it goes without waiting.
     fn end(self) -> (Stage, Result<(), Status>)
         ensures gone { OnOk result.1 (result.0 ≡ stages.Gone) }
@@ -166,13 +174,18 @@ impl Stage {
 }
 
 impl Thread {
-    /// Its calls, while it hasn't left. Gone after that.
-    #[inline(always)]
-    pub fn client(&mut self) -> Result<&mut Client, Status> {
-        match &mut self.stage {
-            Stage::Works(client) => Ok(client),
-            _ => Err(Status::Gone),
+    /// One that is gathered already: room for another.
+    pub fn gone() -> Thread {
+        Thread {
+            stage: Stage::Gone,
+            first: 0,
         }
+    }
+
+    /// Its calls, while it hasn't left. None after that.
+    #[inline(always)]
+    pub fn client(&mut self) -> Option<&mut Client> {
+        self.stage.client()
     }
 
     /// Registers the next thread of the same heap, for another thread of the machine. Gone once this one has left; then
@@ -230,7 +243,7 @@ impl Thread {
 impl Drop for Thread {
     fn drop(self) {
         let mut thread = self;
-        if let Ok(client) = thread.client() {
+        if let Some(client) = thread.client() {
             client.release_all();
         }
         let _left = thread.leave();
