@@ -2,9 +2,9 @@
 
 ghost use Rattle.std.specs.Prelude.{◌≡◌, ◌≢◌};
 
-use crate::outs::{copy_prefix, gone, write, write_old};
+use crate::outs::{gone, write, write_old};
 use crate::slots::CThread;
-use brc_client::{GiveBy, KeyRef, TakeBy, text_of};
+use brc_client::{GiveBy, KeyRef, TakeBy, copy_prefix, text_of};
 use brc_words::Key;
 use std::alloc::Global;
 

@@ -2,8 +2,9 @@
 
 ghost use Rattle.std.specs.Prelude.{◌≡◌, ◌≢◌};
 
-use crate::outs::{copy_prefix, gone, write, write_truth};
+use crate::outs::{gone, write, write_truth};
 use crate::slots::CThread;
+use brc_client::copy_prefix;
 use brc_words::Kind;
 
 /// The kind as C has it.

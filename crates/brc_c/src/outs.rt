@@ -1,6 +1,6 @@
 //! What an export returns, and what it writes first. 0 is OK; a status of `brc_client` has its number.
 
-ghost use Rattle.std.specs.Prelude.{◌≡◌, ◌≢◌, ◌++◌, length, take, drop};
+ghost use Rattle.std.specs.Prelude.{◌≡◌, ◌≢◌};
 
 use brc_client::Status;
 
@@ -74,14 +74,4 @@ pub(crate) fn status_of(made: Result<(), Status>) -> u32 {
         Ok(()) => 0,
         Err(status) => status.number(),
     }
-}
-
-/// As many of the bytes as there is room for are written. Returns how many there are.
-pub(crate) fn copy_prefix(bytes: &[u8], to: &mut [u8]) -> usize
-    ensures len { result ≡ length bytes.now }
-    ensures copied { to.new ≡ take (length to.old) bytes.now ++ drop (length bytes.now) to.old }
-{
-    let fits = bytes.len().min(to.len());
-    to[..fits].copy_from_slice(&bytes[..fits]);
-    bytes.len()
 }

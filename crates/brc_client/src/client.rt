@@ -5,7 +5,8 @@ ghost use Rattle.std.specs.Prelude.{OnOk, OnErr};
 ghost use Rattle.brc_count.specs.Frames.{IsUnlocked, KeepsHandles, ledger_seen, word_asked};
 ghost use Rattle.brc_handles.specs.Handles.{slot, filled, IsApart, IsBare, ComesIn};
 ghost use Rattle.brc_client.specs.Numbers.{number_at, place_in};
-ghost use Rattle.brc_client.specs.Clients.{IsClient, Names, NamesNone, KeepsNumbers, KeepsNames, SpendsName};
+ghost use Rattle.brc_client.specs.Clients.{IsClient, Names, NamesIn, NamesNone, NamesNoneIn};
+ghost use Rattle.brc_client.specs.Clients.{KeepsNumbers, KeepsNames, SpendsName};
 ghost use Rattle.brc_client.specs.Calls.{OfNamed, RefusedOf, Adds, Retained, Releases};
 
 use crate::numbers::{Numbers, PLACES};
@@ -62,13 +63,19 @@ pub(crate) fn insert(handles: &mut Handles<Global>, numbers: &Numbers, given: Ha
 }
 
 /// The handle that the number names. Foreign, then Stale, if it names none.
+#[tactic(auto, using(crate::proofs::Named::stale))]
 #[inline(always)]
 pub(crate) fn find<'h>(
     handles: &'h Handles<Global>,
     numbers: &Numbers,
     number: u64,
-) -> Result<&'h Handle<Global>, Status> {
+) -> Result<&'h Handle<Global>, Status>
+    requires places { length handles.now ≡ 65536 }
+    ensures named { IfOk result (λ handle. NamesIn handles.now numbers.now number handle.now) }
+    ensures refused { IfErr result (NamesNoneIn handles.now numbers.now number) }
+{
     let place = numbers.place(number)?;
+    // All places are there, so `get` needn't look.
     if place >= handles.len() {
         unreachable!()
     }
@@ -125,7 +132,6 @@ impl Client {
     }
 
     /// The place of the handle that the number names. Foreign, then Stale, if it names none.
-    #[tactic(auto, using(crate::proofs::Named::named, crate::proofs::Named::stale))]
     #[inline(always)]
     pub(crate) fn place_of(&self, number: u64) -> Result<usize, Status>
         ensures place { IfOk result (λ place. place ≡ place_in number) }
@@ -133,11 +139,8 @@ impl Client {
         ensures named { OnOk result (Names self.now number) }
         ensures refused { IfErr result (NamesNone self.now number) }
     {
-        let place = self.numbers.place(number)?;
-        match self.handles.get(place) {
-            Some(_handle) => Ok(place),
-            None => Err(Status::Stale),
-        }
+        let _handle = find(&self.handles, &self.numbers, number)?;
+        Ok((number % 65_536) as usize)
     }
 
     /// How many references the thread has.
@@ -157,7 +160,7 @@ impl Client {
 
     /// One reference more to the object, under a number of its own. Foreign, Stale; then FrameFull, if the thread has
     /// 65,536 references, and OutOfMemory.
-    #[tactic(auto, using(crate::proofs::Placed::vacant, crate::proofs::Placed::apart, crate::proofs::Placed::gained, crate::proofs::Placed::keeps, crate::proofs::Named::names_kept, crate::proofs::Named::names_given))]
+    #[tactic(auto, using(crate::proofs::Placed::owned, crate::proofs::Placed::vacant, crate::proofs::Placed::apart, crate::proofs::Placed::gained, crate::proofs::Placed::keeps, crate::proofs::Named::names_kept, crate::proofs::Named::names_given))]
     #[inline]
     pub fn retain(&mut self, number: u64) -> Result<u64, Status>
         ensures more { IfOk result (λ more. OfNamed self.old number
@@ -185,9 +188,9 @@ impl Client {
         ensures refused { IfErr result (NamesNone self.old number) }
         ensures unchanged { OnErr result (self.new ≡ self.old) }
     {
-        let place = self.numbers.place(number)?;
+        let place = self.place_of(number)?;
         let Some(handle) = self.handles.take(place) else {
-            return Err(Status::Stale);
+            unreachable!()
         };
         self.numbers.spend(place);
         self.mutator.frame().release(handle);
