@@ -4,7 +4,7 @@ ghost use Rattle.std.specs.Prelude.{◌≡◌, ◌≢◌};
 
 use crate::outs::{gone, write, write_truth};
 use crate::slots::CThread;
-use brc_client::copy_prefix;
+use brc_client::{Status, copy_prefix};
 use brc_words::Kind;
 
 /// The kind as C has it.
@@ -21,18 +21,25 @@ fn number_of(kind: Kind) -> u32 {
     }
 }
 
+/// The kind's number is written.
+fn write_kind(made: Result<Kind, Status>, to: &mut u32) -> u32
+    ensures kept { result ≢ 0 → to.new ≡ to.old }
+{
+    match made {
+        Ok(kind) => {
+            *to = number_of(kind);
+            0
+        }
+        Err(status) => status.number(),
+    }
+}
+
 #[unsafe(no_mangle)]
 pub extern "C" fn brc_kind_of(thread: &mut CThread, held: u64, kind: &mut u32) -> u32
     ensures kept { result ≢ 0 → kind.new ≡ kind.old }
 {
     match thread.as_mut().client() {
-        Some(client) => match client.kind(held) {
-            Ok(found) => {
-                *kind = number_of(found);
-                0
-            }
-            Err(status) => status.number(),
-        },
+        Some(client) => write_kind(client.kind(held), kind),
         None => gone(),
     }
 }
