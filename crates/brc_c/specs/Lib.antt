@@ -2,3 +2,5 @@ pub mod OwnerKept
 pub mod OwnerFollows
 pub mod HeldKept
 pub mod HeldFollows
+pub mod HeldLends
+pub mod Exports

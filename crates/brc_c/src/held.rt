@@ -1,5 +1,10 @@
 //! What the variable of a thread leads to.
 
+ghost use Rattle.std.specs.Option.{option_copied_mut};
+ghost use Rattle.std.specs.Prelude.{◌≡◌, IfOk, IfErr, OnOk, OnErr};
+ghost use Rattle.brc_client.specs.declared.thread.Stage.TheVariants as stages;
+ghost use Rattle.brc_client.specs.Ends.{client_of, heap_of, RegistersAt, RegisterRefused, LeaveRefused, LedgerOf};
+
 use brc_client::{Client, Ledger, Owner, Status, Thread};
 use std::alloc::Global;
 
@@ -10,36 +15,56 @@ pub(crate) struct Held {
 }
 
 impl Held {
+    ghost use Rattle.std.specs.Borrow.{sem};
+    ghost use Rattle.brc_c.specs.HeldLends.{lends_client};
+
     /// Room for a thread.
-    pub(crate) fn empty() -> Held {
+    pub(crate) fn empty() -> Held
+        ensures { result.thread ≡ stages.Gone }
+    {
         Held {
             thread: Thread::gone(),
         }
     }
 
     /// The thread goes into the room.
-    pub(crate) fn fill(&mut self, thread: Thread) {
+    pub(crate) fn fill(&mut self, thread: Thread)
+        ensures { self.new.thread ≡ thread }
+    {
         self.thread = thread;
     }
 
     /// The calls of the thread; None if it has left.
     #[inline(always)]
-    pub(crate) fn client(&mut self) -> Option<&mut Client> {
+    pub(crate) fn client(&mut self) -> Option<&mut Client>
+        ensures* lends { sem 𝓛 (lends_client self.entry result) }
+        ensures value { option_copied_mut result ≡ client_of self.old.thread }
+    {
         self.thread.client()
     }
 
     /// The next thread of the same heap.
-    pub(crate) fn fork(&mut self, alloc: Global) -> Result<Thread, Status> {
+    pub(crate) fn fork(&mut self, alloc: Global) -> Result<Thread, Status>
+        ensures registers { IfOk result (λ made. RegistersAt (heap_of self.old.thread) made) }
+        ensures refused { IfErr result RegisterRefused }
+        ensures same { self.new.thread ≡ self.old.thread }
+    {
         self.thread.fork(alloc)
     }
 
     /// The thread goes on with its way out.
-    pub(crate) fn leave(&mut self) -> Result<(), Status> {
+    pub(crate) fn leave(&mut self) -> Result<(), Status>
+        ensures gone { OnOk result (self.new.thread ≡ stages.Gone) }
+        ensures refused { IfErr result (LeaveRefused self.old.thread self.new.thread) }
+    {
         self.thread.leave()
     }
 
     /// What the thread has made and freed.
-    pub(crate) fn ledger(&self) -> Result<Ledger, Status> {
+    pub(crate) fn ledger(&self) -> Result<Ledger, Status>
+        ensures ledger { IfOk result (LedgerOf self.now.thread) }
+        ensures gone { OnErr result (self.now.thread ≡ stages.Gone) }
+    {
         self.thread.ledger()
     }
 }

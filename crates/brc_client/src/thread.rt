@@ -1,8 +1,9 @@
 //! A thread from its registration to its end.
 
+ghost use Rattle.std.specs.Option.{option_copied_mut};
 ghost use Rattle.std.specs.Prelude.{◌≡◌, IfOk, IfErr, OnOk, OnErr};
 ghost use Rattle.brc_client.specs.declared.thread.Stage.TheVariants as stages;
-ghost use Rattle.brc_client.specs.Ends.{heap_of, LeaveRefused, RegistersAt, RegisterRefused, LedgerOf};
+ghost use Rattle.brc_client.specs.Ends.{client_of, heap_of, LeaveRefused, RegistersAt, RegisterRefused, LedgerOf};
 
 use crate::client::Client;
 use crate::numbers::{Numbers, PLACES};
@@ -151,11 +152,19 @@ fn leave(client: Client) -> (Stage, Result<(), Status>)
 }
 
 impl Stage {
+    ghost use Rattle.std.specs.Borrow.{sem};
+    ghost use Rattle.brc_client.specs.Lending.{lends_of_stage};
+
+    /// The client of a thread that hasn't left.
     #[inline(always)]
-    fn client(&mut self) -> Option<&mut Client> {
-        match self {
-            Stage::Works(client) => Some(client),
-            _ => None,
+    fn client(&mut self) -> Option<&mut Client>
+        ensures* lends { sem 𝓛 (lends_of_stage self.entry result) }
+        ensures value { option_copied_mut result ≡ client_of self.old }
+    {
+        if let Stage::Works(client) = self {
+            Some(client)
+        } else {
+            None
         }
     }
 
@@ -174,8 +183,13 @@ impl Stage {
 }
 
 impl Thread {
+    ghost use Rattle.std.specs.Borrow.{sem};
+    ghost use Rattle.brc_client.specs.Lending.{lends_of_thread};
+
     /// One that is gathered already: room for another.
-    pub fn gone() -> Thread {
+    pub fn gone() -> Thread
+        ensures { result ≡ stages.Gone }
+    {
         Thread {
             stage: Stage::Gone,
             first: 0,
@@ -184,7 +198,10 @@ impl Thread {
 
     /// Its calls, while it hasn't left. None after that.
     #[inline(always)]
-    pub fn client(&mut self) -> Option<&mut Client> {
+    pub fn client(&mut self) -> Option<&mut Client>
+        ensures* lends { sem 𝓛 (lends_of_thread self.entry result) }
+        ensures value { option_copied_mut result ≡ client_of self.old }
+    {
         self.stage.client()
     }
 
