@@ -1,18 +1,15 @@
 -- What an export comes to: which call was made on what C's variable leads to, and what C learns of its answer.
-use Rattle.std.specs.Prelude.{◌≡◌, ◌≢◌, ◌⊎◌, ℕ, Bool, true, false, Option, Some, None, Result, Ok, Err, IfOk, IfErr}
-use Rattle.std.specs.Prelude.{OnOk, OnErr, IfSome}
+use Rattle.std.specs.Prelude.{◌≡◌, ◌⊎◌, ⊤, ℕ, Bool, true, false, Option, Some, None, Result, Ok, Err}
 use Rattle.brc_words.specs.declared.kind.Kind.{Kind}
 use Rattle.brc_words.specs.declared.kind.Kind.TheVariants as kinds
-use Rattle.brc_words.specs.declared.fault.Fault.TheVariants as faults
 use Rattle.brc_client.specs.Numbers.{status_number}
 use Rattle.brc_client.specs.Clients.{ClientSeen}
 use Rattle.brc_client.specs.declared.status.Status.{Status}
 use Rattle.brc_client.specs.declared.status.Status.TheVariants as statuses
 use Rattle.brc_client.specs.declared.thread.Stage.{Stage}
 use Rattle.brc_client.specs.declared.thread.Stage.TheVariants as stages
-use Rattle.brc_client.specs.declared.owner.OwnerStage.{OwnerStage}
-use Rattle.brc_client.specs.declared.owner.Left.{Left}
-use Rattle.brc_client.specs.Ends.{client_of, ClosedAs, CloseRefused, LeaveRefused, LedgerOf, Shows, report_of}
+use Rattle.brc_client.specs.Ends.{client_of}
+use Rattle.brc_c.specs.declared.held.Held.{Held}
 
 -- ---- what C learns
 
@@ -80,20 +77,13 @@ module _ {T : Type 0} where
       → Result T Status → Type 0
   OrNotText call old new answer = call old new answer ⊎ ((answer ≡ Err statuses.NotText) × (new ≡ old))
 
+-- An export on a thread's client: it made this call, returned its answer's number, and wrote what it gave.
+module _ {T : Type 0} where
+  abbrev pub Does : (ClientSeen → ClientSeen → Result T Status → Type 0) → Held → Held → ℕ
+      → (Result T Status → Type 0) → Type 0
+  Does call old new code writes = Carries (ByClient call) old.thread new.thread code writes
+
 -- a call that is never refused
 abbrev pub Always : (ClientSeen → ClientSeen → Type 0) → ClientSeen → ClientSeen → Result (Unit {0}) Status → Type 0
 Always call old new (Ok done) = call old new
 Always call old new (Err status) = ⊥
-
--- ---- of a thread, and of a heap
-
--- the thread is gathered; or it isn't yet
-pub record Leaves (old new : Stage) (answer : Result (Unit {0}) Status) : Type 0 where
-  pub gone : OnOk answer (new ≡ stages.Gone)
-  pub refused : IfErr answer (LeaveRefused old new)
-
--- the heap is closed, with this report; or it isn't
-pub record Closes (old new : OwnerStage) (answer : Result Left Status) : Type 0 where
-  pub closed : OnOk answer (ClosedAs old new)
-  pub left : IfOk answer (λ left. IfSome (report_of new) (λ report. Shows report left))
-  pub refused : IfErr answer (CloseRefused old new)

@@ -1,6 +1,13 @@
 //! Dictionaries: values beside keys, which are integers or texts.
 
 ghost use Rattle.std.specs.Prelude.{◌≡◌, ◌≢◌};
+ghost use Rattle.brc_count.specs.block.declared.key_ref.KeyRef.TheVariants as lent;
+ghost use Rattle.brc_places.specs.Calls.{GaveBy, TookBy};
+ghost use Rattle.brc_places.specs.declared.giving.GiveBy.TheVariants as giving;
+ghost use Rattle.brc_places.specs.declared.taking.TakeBy.TheVariants as taking;
+ghost use Rattle.brc_client.specs.Answers.{Gives, GivesPair, Takes};
+ghost use Rattle.brc_c.specs.Calls.{GivesText, DeletesText, PutsText, KeyWritten, WritesPair};
+ghost use Rattle.brc_c.specs.Exports.{Does, OrNotText, Writes, itself, old_number};
 
 use crate::outs::{gone, write, write_old};
 use crate::slots::CThread;
@@ -27,6 +34,8 @@ pub extern "C" fn brc_dict_put_int(
     old: &mut u64,
 ) -> u32
     ensures kept { result ≢ 0 → old.new ≡ old.old }
+    ensures does { Does (Takes (TookBy (taking.Put (lent.Int key))) dict value) thread.old.value thread.new.value result
+        (Writes old_number old.old old.new) }
 {
     match thread.as_mut().client() {
         Some(client) => write_old(
@@ -47,6 +56,8 @@ pub extern "C" fn brc_dict_put_text(
     old: &mut u64,
 ) -> u32
     ensures kept { result ≢ 0 → old.new ≡ old.old }
+    ensures does { Does (OrNotText (Takes (PutsText key.now) dict value)) thread.old.value thread.new.value result
+        (Writes old_number old.old old.new) }
 {
     match thread.as_mut().client() {
         Some(client) => match text_of(key) {
@@ -68,6 +79,8 @@ pub extern "C" fn brc_dict_find_int(
     value: &mut u64,
 ) -> u32
     ensures kept { result ≢ 0 → value.new ≡ value.old }
+    ensures does { Does (Gives (GaveBy (giving.Find (lent.Int key))) dict) thread.old.value thread.new.value result
+        (Writes itself value.old value.new) }
 {
     match thread.as_mut().client() {
         Some(client) => write(client.give(dict, GiveBy::Find(KeyRef::Int(key))), value),
@@ -83,6 +96,8 @@ pub extern "C" fn brc_dict_find_text(
     value: &mut u64,
 ) -> u32
     ensures kept { result ≢ 0 → value.new ≡ value.old }
+    ensures does { Does (OrNotText (Gives (GivesText key.now) dict)) thread.old.value thread.new.value result
+        (Writes itself value.old value.new) }
 {
     match thread.as_mut().client() {
         Some(client) => match text_of(key) {
@@ -101,6 +116,8 @@ pub extern "C" fn brc_dict_del_int(
     value: &mut u64,
 ) -> u32
     ensures kept { result ≢ 0 → value.new ≡ value.old }
+    ensures does { Does (Gives (GaveBy (giving.Delete (lent.Int key))) dict) thread.old.value thread.new.value result
+        (Writes itself value.old value.new) }
 {
     match thread.as_mut().client() {
         Some(client) => write(client.give(dict, GiveBy::Delete(KeyRef::Int(key))), value),
@@ -116,6 +133,8 @@ pub extern "C" fn brc_dict_del_text(
     value: &mut u64,
 ) -> u32
     ensures kept { result ≢ 0 → value.new ≡ value.old }
+    ensures does { Does (OrNotText (Gives (DeletesText key.now) dict)) thread.old.value thread.new.value result
+        (Writes itself value.old value.new) }
 {
     match thread.as_mut().client() {
         Some(client) => match text_of(key) {
@@ -137,6 +156,8 @@ pub extern "C" fn brc_dict_pair(
     value: &mut u64,
 ) -> u32
     ensures kept { result ≢ 0 → (key.new ≡ key.old) × (to.new ≡ to.old) × (value.new ≡ value.old) }
+    ensures does { Does (GivesPair dict index) thread.old.value thread.new.value result
+        (WritesPair value.old value.new key.old key.new to.old to.new) }
 {
     match thread.as_mut().client() {
         Some(client) => match client.pair(alloc, dict, index) {
@@ -152,7 +173,9 @@ pub extern "C" fn brc_dict_pair(
 }
 
 /// The key is written; of a text, as many bytes as there is room for.
-fn write_key(found: &Key<Global>, key: &mut CKey, to: &mut [u8]) {
+fn write_key(found: &Key<Global>, key: &mut CKey, to: &mut [u8])
+    ensures { KeyWritten found.now key.new to.old to.new }
+{
     match found {
         Key::Int(number) => {
             key.number = *number;

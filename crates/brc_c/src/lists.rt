@@ -1,6 +1,11 @@
 //! Lists and mailboxes: references go in and come out.
 
 ghost use Rattle.std.specs.Prelude.{◌≡◌, ◌≢◌};
+ghost use Rattle.brc_places.specs.Calls.{GaveBy, TookBy};
+ghost use Rattle.brc_places.specs.declared.giving.GiveBy.TheVariants as giving;
+ghost use Rattle.brc_places.specs.declared.taking.TakeBy.TheVariants as taking;
+ghost use Rattle.brc_client.specs.Answers.{Gives, Takes};
+ghost use Rattle.brc_c.specs.Exports.{Does, Writes, WritesNothing, itself, old_number};
 
 use crate::outs::{gone, status_of_taking, write, write_old};
 use crate::slots::CThread;
@@ -8,7 +13,9 @@ use brc_client::{GiveBy, TakeBy};
 use std::alloc::Global;
 
 #[unsafe(no_mangle)]
-pub extern "C" fn brc_list_push(alloc: Global, thread: &mut CThread, list: u64, value: u64) -> u32 {
+pub extern "C" fn brc_list_push(alloc: Global, thread: &mut CThread, list: u64, value: u64) -> u32
+    ensures does { Does (Takes (TookBy taking.Push) list value) thread.old.value thread.new.value result WritesNothing }
+{
     match thread.as_mut().client() {
         Some(client) => status_of_taking(client.take(alloc, list, TakeBy::Push, value)),
         None => gone(),
@@ -18,6 +25,8 @@ pub extern "C" fn brc_list_push(alloc: Global, thread: &mut CThread, list: u64, 
 #[unsafe(no_mangle)]
 pub extern "C" fn brc_list_pop(thread: &mut CThread, list: u64, value: &mut u64) -> u32
     ensures kept { result ≢ 0 → value.new ≡ value.old }
+    ensures does { Does (Gives (GaveBy giving.Pop) list) thread.old.value thread.new.value result
+        (Writes itself value.old value.new) }
 {
     match thread.as_mut().client() {
         Some(client) => write(client.give(list, GiveBy::Pop), value),
@@ -28,6 +37,8 @@ pub extern "C" fn brc_list_pop(thread: &mut CThread, list: u64, value: &mut u64)
 #[unsafe(no_mangle)]
 pub extern "C" fn brc_list_take(thread: &mut CThread, list: u64, index: u32, value: &mut u64) -> u32
     ensures kept { result ≢ 0 → value.new ≡ value.old }
+    ensures does { Does (Gives (GaveBy (giving.Take index)) list) thread.old.value thread.new.value result
+        (Writes itself value.old value.new) }
 {
     match thread.as_mut().client() {
         Some(client) => write(client.give(list, GiveBy::Take(index)), value),
@@ -38,6 +49,8 @@ pub extern "C" fn brc_list_take(thread: &mut CThread, list: u64, index: u32, val
 #[unsafe(no_mangle)]
 pub extern "C" fn brc_list_get(thread: &mut CThread, list: u64, index: u32, value: &mut u64) -> u32
     ensures kept { result ≢ 0 → value.new ≡ value.old }
+    ensures does { Does (Gives (GaveBy (giving.Get index)) list) thread.old.value thread.new.value result
+        (Writes itself value.old value.new) }
 {
     match thread.as_mut().client() {
         Some(client) => write(client.give(list, GiveBy::Get(index)), value),
@@ -55,6 +68,8 @@ pub extern "C" fn brc_list_set(
     old: &mut u64,
 ) -> u32
     ensures kept { result ≢ 0 → old.new ≡ old.old }
+    ensures does { Does (Takes (TookBy (taking.Set index)) list value) thread.old.value thread.new.value result
+        (Writes old_number old.old old.new) }
 {
     match thread.as_mut().client() {
         Some(client) => write_old(client.take(alloc, list, TakeBy::Set(index), value), old),
@@ -63,7 +78,10 @@ pub extern "C" fn brc_list_set(
 }
 
 #[unsafe(no_mangle)]
-pub extern "C" fn brc_send(alloc: Global, thread: &mut CThread, mailbox: u64, value: u64) -> u32 {
+pub extern "C" fn brc_send(alloc: Global, thread: &mut CThread, mailbox: u64, value: u64) -> u32
+    ensures does { Does (Takes (TookBy taking.Send) mailbox value) thread.old.value thread.new.value result
+        WritesNothing }
+{
     match thread.as_mut().client() {
         Some(client) => status_of_taking(client.take(alloc, mailbox, TakeBy::Send, value)),
         None => gone(),
@@ -73,6 +91,8 @@ pub extern "C" fn brc_send(alloc: Global, thread: &mut CThread, mailbox: u64, va
 #[unsafe(no_mangle)]
 pub extern "C" fn brc_recv(thread: &mut CThread, mailbox: u64, value: &mut u64) -> u32
     ensures kept { result ≢ 0 → value.new ≡ value.old }
+    ensures does { Does (Gives (GaveBy giving.Receive) mailbox) thread.old.value thread.new.value result
+        (Writes itself value.old value.new) }
 {
     match thread.as_mut().client() {
         Some(client) => write(client.give(mailbox, GiveBy::Receive), value),

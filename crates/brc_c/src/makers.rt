@@ -1,8 +1,13 @@
 //! Makers: a reference to an immortal, or to a new object.
 
 ghost use Rattle.std.specs.Prelude.{◌≡◌, ◌≢◌};
+ghost use Rattle.brc_places.specs.Calls.{MadeBy};
+ghost use Rattle.brc_places.specs.declared.place_makers.Make.TheVariants as making;
+ghost use Rattle.brc_client.specs.Answers.{Makes};
+ghost use Rattle.brc_c.specs.Calls.{MakesText, MakesTruth};
+ghost use Rattle.brc_c.specs.Exports.{Does, OrNotText, Writes, itself};
 
-use crate::outs::{gone, write};
+use crate::outs::{gone, says_yes, write};
 use crate::slots::CThread;
 use brc_client::{Make, text_of};
 use std::alloc::Global;
@@ -10,6 +15,8 @@ use std::alloc::Global;
 #[unsafe(no_mangle)]
 pub extern "C" fn brc_none(alloc: Global, thread: &mut CThread, made: &mut u64) -> u32
     ensures kept { result ≢ 0 → made.new ≡ made.old }
+    ensures does { Does (Makes (MadeBy making.Nothing)) thread.old.value thread.new.value result
+        (Writes itself made.old made.new) }
 {
     match thread.as_mut().client() {
         Some(client) => write(client.make(alloc, Make::Nothing), made),
@@ -25,9 +32,11 @@ pub extern "C" fn brc_truth(
     made: &mut u64,
 ) -> u32
     ensures kept { result ≢ 0 → made.new ≡ made.old }
+    ensures does { Does (MakesTruth is_true) thread.old.value thread.new.value result
+        (Writes itself made.old made.new) }
 {
     match thread.as_mut().client() {
-        Some(client) => write(client.make(alloc, Make::Truth(is_true != 0)), made),
+        Some(client) => write(client.make(alloc, Make::Truth(says_yes(is_true))), made),
         None => gone(),
     }
 }
@@ -35,6 +44,8 @@ pub extern "C" fn brc_truth(
 #[unsafe(no_mangle)]
 pub extern "C" fn brc_globals(alloc: Global, thread: &mut CThread, made: &mut u64) -> u32
     ensures kept { result ≢ 0 → made.new ≡ made.old }
+    ensures does { Does (Makes (MadeBy making.Globals)) thread.old.value thread.new.value result
+        (Writes itself made.old made.new) }
 {
     match thread.as_mut().client() {
         Some(client) => write(client.make(alloc, Make::Globals), made),
@@ -50,6 +61,8 @@ pub extern "C" fn brc_new_int(
     made: &mut u64,
 ) -> u32
     ensures kept { result ≢ 0 → made.new ≡ made.old }
+    ensures does { Does (Makes (MadeBy (making.Int value))) thread.old.value thread.new.value result
+        (Writes itself made.old made.new) }
 {
     match thread.as_mut().client() {
         Some(client) => write(client.make(alloc, Make::Int(value)), made),
@@ -60,6 +73,8 @@ pub extern "C" fn brc_new_int(
 #[unsafe(no_mangle)]
 pub extern "C" fn brc_new_list(alloc: Global, thread: &mut CThread, made: &mut u64) -> u32
     ensures kept { result ≢ 0 → made.new ≡ made.old }
+    ensures does { Does (Makes (MadeBy making.«List»)) thread.old.value thread.new.value result
+        (Writes itself made.old made.new) }
 {
     match thread.as_mut().client() {
         Some(client) => write(client.make(alloc, Make::List), made),
@@ -70,6 +85,8 @@ pub extern "C" fn brc_new_list(alloc: Global, thread: &mut CThread, made: &mut u
 #[unsafe(no_mangle)]
 pub extern "C" fn brc_new_dict(alloc: Global, thread: &mut CThread, made: &mut u64) -> u32
     ensures kept { result ≢ 0 → made.new ≡ made.old }
+    ensures does { Does (Makes (MadeBy making.Dict)) thread.old.value thread.new.value result
+        (Writes itself made.old made.new) }
 {
     match thread.as_mut().client() {
         Some(client) => write(client.make(alloc, Make::Dict), made),
@@ -80,6 +97,8 @@ pub extern "C" fn brc_new_dict(alloc: Global, thread: &mut CThread, made: &mut u
 #[unsafe(no_mangle)]
 pub extern "C" fn brc_new_mailbox(alloc: Global, thread: &mut CThread, made: &mut u64) -> u32
     ensures kept { result ≢ 0 → made.new ≡ made.old }
+    ensures does { Does (Makes (MadeBy making.Mailbox)) thread.old.value thread.new.value result
+        (Writes itself made.old made.new) }
 {
     match thread.as_mut().client() {
         Some(client) => write(client.make(alloc, Make::Mailbox), made),
@@ -95,6 +114,8 @@ pub extern "C" fn brc_new_text(
     made: &mut u64,
 ) -> u32
     ensures kept { result ≢ 0 → made.new ≡ made.old }
+    ensures does { Does (OrNotText (Makes (MakesText bytes.now))) thread.old.value thread.new.value result
+        (Writes itself made.old made.new) }
 {
     match thread.as_mut().client() {
         Some(client) => match text_of(bytes) {

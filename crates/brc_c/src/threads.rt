@@ -1,9 +1,14 @@
 //! Threads: registered, counted, at work, and on their way out.
 
 ghost use Rattle.std.specs.Prelude.{◌≡◌, ◌≢◌};
+ghost use Rattle.brc_client.specs.Answers.{Polls, TakesApart, Counts, LetsAllGo};
+ghost use Rattle.brc_client.specs.Ends.{open_at, heap_of};
+ghost use Rattle.brc_c.specs.Calls.{ClaimsAt};
+ghost use Rattle.brc_c.specs.Ends.{Registers, Leaves, TellsLedger, WritesLedger};
+ghost use Rattle.brc_c.specs.Exports.{Carries, Does, OnClient, Always, WritesNothing, code_of};
 
 use crate::held::Held;
-use crate::outs::{gone, status_of};
+use crate::outs::{gone, says_yes, status_of};
 use crate::parts::Parts;
 use crate::slots::{CHeap, CThread};
 use brc_client::{Status, Thread};
@@ -16,6 +21,7 @@ use std::alloc::Global;
 #[unsafe(no_mangle)]
 pub extern "C" fn brc_thread_new(alloc: Global, heap: &mut CHeap, at: &mut *mut u8) -> u32
     ensures kept { result ≢ 0 → at.new ≡ at.old }
+    ensures carries { Carries (Registers open_at) heap.old.value heap.new.value result WritesNothing }
 {
     match Box::new(alloc, Held::empty()) {
         Ok(room) => hand_out(room, heap.as_mut().register(alloc), at),
@@ -26,6 +32,8 @@ pub extern "C" fn brc_thread_new(alloc: Global, heap: &mut CHeap, at: &mut *mut 
 #[unsafe(no_mangle)]
 pub extern "C" fn brc_thread_fork(alloc: Global, thread: &mut CThread, at: &mut *mut u8) -> u32
     ensures kept { result ≢ 0 → at.new ≡ at.old }
+    ensures carries { Carries (Registers heap_of) thread.old.value.thread thread.new.value.thread result
+        WritesNothing }
 {
     match Box::new(alloc, Held::empty()) {
         Ok(room) => hand_out(room, thread.as_mut().fork(alloc), at),
@@ -35,6 +43,7 @@ pub extern "C" fn brc_thread_fork(alloc: Global, thread: &mut CThread, at: &mut 
 
 /// The thread goes into the room, and the room to C.
 fn hand_out(room: Box<Held, Global>, made: Result<Thread, Status>, at: &mut *mut u8) -> u32
+    ensures code { result ≡ code_of made }
     ensures kept { result ≢ 0 → at.new ≡ at.old }
 {
     match made {
@@ -49,7 +58,9 @@ fn hand_out(room: Box<Held, Global>, made: Result<Thread, Status>, at: &mut *mut
 }
 
 #[unsafe(no_mangle)]
-pub extern "C" fn brc_thread_leave(thread: &mut CThread) -> u32 {
+pub extern "C" fn brc_thread_leave(thread: &mut CThread) -> u32
+    ensures carries { Carries Leaves thread.old.value.thread thread.new.value.thread result WritesNothing }
+{
     status_of(thread.as_mut().leave())
 }
 
@@ -61,6 +72,8 @@ pub extern "C" fn brc_thread_drop(thread: CThread) {
 #[unsafe(no_mangle)]
 pub extern "C" fn brc_ledger(thread: &mut CThread, allocs: &mut u64, frees: &mut u64) -> u32
     ensures kept { result ≢ 0 → (allocs.new ≡ allocs.old) × (frees.new ≡ frees.old) }
+    ensures carries { Carries TellsLedger thread.old.value.thread thread.new.value.thread result
+        (WritesLedger allocs.old allocs.new frees.old frees.new) }
 {
     match thread.as_mut().ledger() {
         Ok(ledger) => {
@@ -73,7 +86,10 @@ pub extern "C" fn brc_ledger(thread: &mut CThread, allocs: &mut u64, frees: &mut
 }
 
 #[unsafe(no_mangle)]
-pub extern "C" fn brc_poll(thread: &mut CThread) -> u64 {
+pub extern "C" fn brc_poll(thread: &mut CThread) -> u64
+    ensures carries { OnClient (λ was is. Polls was is result) (result ≡ 0)
+        thread.old.value.thread thread.new.value.thread }
+{
     match thread.as_mut().client() {
         Some(client) => client.poll(),
         None => 0,
@@ -81,7 +97,10 @@ pub extern "C" fn brc_poll(thread: &mut CThread) -> u64 {
 }
 
 #[unsafe(no_mangle)]
-pub extern "C" fn brc_work(thread: &mut CThread, turns: usize) -> usize {
+pub extern "C" fn brc_work(thread: &mut CThread, turns: usize) -> usize
+    ensures carries { OnClient (λ was is. TakesApart turns was is result) (result ≡ turns)
+        thread.old.value.thread thread.new.value.thread }
+{
     match thread.as_mut().client() {
         Some(client) => client.work(turns),
         None => turns,
@@ -89,7 +108,10 @@ pub extern "C" fn brc_work(thread: &mut CThread, turns: usize) -> usize {
 }
 
 #[unsafe(no_mangle)]
-pub extern "C" fn brc_count(thread: &mut CThread) -> usize {
+pub extern "C" fn brc_count(thread: &mut CThread) -> usize
+    ensures carries { OnClient (λ was is. Counts was is result) (result ≡ 0)
+        thread.old.value.thread thread.new.value.thread }
+{
     match thread.as_mut().client() {
         Some(client) => client.count(),
         None => 0,
@@ -97,7 +119,9 @@ pub extern "C" fn brc_count(thread: &mut CThread) -> usize {
 }
 
 #[unsafe(no_mangle)]
-pub extern "C" fn brc_release_all(thread: &mut CThread) -> u32 {
+pub extern "C" fn brc_release_all(thread: &mut CThread) -> u32
+    ensures does { Does (Always LetsAllGo) thread.old.value thread.new.value result WritesNothing }
+{
     match thread.as_mut().client() {
         Some(client) => {
             client.release_all();
@@ -108,10 +132,12 @@ pub extern "C" fn brc_release_all(thread: &mut CThread) -> u32 {
 }
 
 #[unsafe(no_mangle)]
-pub extern "C" fn brc_claim(thread: &mut CThread, cell: u32, near_last: u32) -> u32 {
+pub extern "C" fn brc_claim(thread: &mut CThread, cell: u32, near_last: u32) -> u32
+    ensures does { Does (Always (ClaimsAt cell near_last)) thread.old.value thread.new.value result WritesNothing }
+{
     match thread.as_mut().client() {
         Some(client) => {
-            client.claim(cell, near_last != 0);
+            client.claim(cell, says_yes(near_last));
             0
         }
         None => gone(),

@@ -1,6 +1,6 @@
 -- The clauses of each call by numbers as one fact, of the client before it and behind it and of its answer. Who makes
 -- such a call for somebody else, as an export for C does, cites it.
-use Rattle.std.specs.Prelude.{◌≡◌, ◌≢◌, ◌<◌, ◌≤◌, ◌⊎◌, ℕ, Bool, [], Option, Some, Result, Ok, Err, IfOk, IfErr, OnOk}
+use Rattle.std.specs.Prelude.{◌≡◌, ◌≢◌, ◌<◌, ◌≤◌, ◌⊎◌, ℕ, Bool, List, [], Option, Some, Result, Ok, Err, IfOk, IfErr, OnOk}
 use Rattle.std.specs.Prelude.{OnErr, IfSome, IsTrue, IsFalse}
 use Rattle.std.specs.declared.alloc.Global.{Global}
 use Rattle.brc_words.specs.declared.fault.Fault.{Fault}
@@ -95,10 +95,10 @@ pub record FindsTruth (number : ℕ) (old new : ClientSeen) (answer : Result Boo
       × (cell_in old.frame k ≢ Some 2)) old new number)
   pub same : new ≡ old
 
--- the client has the text of the number's object; or why it hasn't
-pub record FindsText (number : ℕ) (old new : ClientSeen) (answer : Result (Unit {0}) Status) : Type 0 where
-  pub looked : Looks (Reads old.frame new.frame new.text) old new number answer
-  pub keeps : KeepsNumbers old new
+-- the text in the place, as `Reads` has it
+abbrev pub ReadsOut : FrameSeen Global → FrameSeen Global → ℕ → Result (List ℕ) Fault → Type 0
+ReadsOut old new k (Ok text) = Reads old new text k (Ok tt)
+ReadsOut old new k (Err fault) = Reads old new [] k (Err fault)
 
 -- whether two numbers name references to one object
 pub record FindsSame (one other : ℕ) (old new : ClientSeen) (answer : Result Bool Status) : Type 0 where

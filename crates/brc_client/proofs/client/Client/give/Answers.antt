@@ -1,6 +1,6 @@
 use Rattle.std.proofs.Common.{refl}
 use Rattle.brc_client.proofs.Placed.{keeps, vacant}
-use Rattle.brc_client.proofs.Named.{names_given, names_kept, names_this}
+use Rattle.brc_client.proofs.Named.{names_given, names_kept}
 use Rattle.brc_client.proofs.client.Client.give.Goals as goal
 
 pub invariant_of-self-in-Err : goal.invariant_of-self-in-Err
@@ -11,11 +11,9 @@ pub returns-in-Ok-clause-gave : goal.returns-in-Ok-clause-gave
 returns-in-Ok-clause-gave c =
     let gains = rw c.frame.ensures.frame at c.in-Ok.ensures.gains in
     let did = rw c.frame.ensures.frame at c.in-Ok.ensures.did in
-    let named = rw (← c.self.view_is) at c.in_ok-place.ensures.named in
     rw (← c.self.view_is) (record {
-      handle = c.in-Some.object.now;
-      names = names_this _ c.args.container c.in_ok-place.place c.in-Some.object.now c.in_ok-place.ensures.place named
-          c.in-Some.ensures;
+      handle = c.in_ok-object.object.now;
+      names = c.in_ok-object.ensures.named;
       so = record {
         given = c.in-Ok.given;
         did = did;
