@@ -9,11 +9,12 @@ use Rattle.brc_words.specs.declared.fault.Fault.{Fault}
 use Rattle.brc_count.specs.declared.handed.HandedBack.{HandedBack}
 use Rattle.brc_count.specs.Frames.{FrameSeen, HandleSeen}
 use Rattle.brc_handles.specs.Handles.{slot}
+use Rattle.brc_client.specs.declared.status.Status.{Status}
 use Rattle.brc_client.specs.declared.status.Status.TheVariants as statuses
-use Rattle.brc_client.specs.Numbers.{NumbersSeen, number_at, place_in, stamp_in, once_more}
+use Rattle.brc_client.specs.Numbers.{NumbersSeen, number_at, place_in, stamp_in, once_more, MisSpelt}
 use Rattle.brc_places.specs.Placing.{TakesNot, NoHandle, ValueRefused as TakenBack}
 use Rattle.brc_client.specs.Calls.{PutsNot, ValueRefused}
-use Rattle.brc_client.specs.Clients.{ClientSeen, NamesAs, Names, NamesNone, KeepsNames, SpendsName}
+use Rattle.brc_client.specs.Clients.{ClientSeen, NamesIn, NamesNoneIn, NamesAs, Names, KeepsNames, SpendsName}
 
 -- ---- the arithmetic of numbers
 
@@ -28,15 +29,13 @@ once_more_differs uses same = omega (arith, same)
 -- ---- a number is looked at
 
 -- it is spelled as its place is now, and a handle is there
-pub named : (client : ClientSeen) (number place : ℕ) (handle : HandleSeen) → place ≡ place_in number
-    → number ≡ number_at client.numbers place → Some handle ≡ slot client.handles place → Names client number
-named client number place handle is spelled there = (
-  handle,
-  record {
-    there = ap (slot client.handles) (sym is) ∙ sym there;
-    spelled = spelled ∙ ap (number_at client.numbers) is;
-  },
-)
+pub found : (handles : List (Option HandleSeen)) (numbers : NumbersSeen) (number place : ℕ) (handle : HandleSeen)
+    → place ≡ place_in number → number ≡ number_at numbers place → Some handle ≡ slot handles place
+    → NamesIn handles numbers number handle
+found handles numbers number place handle is spelled there = record {
+  there = ap (slot handles) (sym is) ∙ sym there;
+  spelled = spelled ∙ ap (number_at numbers) is;
+}
 
 -- the handle that is there is the one that it names
 pub names_this : (client : ClientSeen) (number place : ℕ) (handle : HandleSeen) → place ≡ place_in number
@@ -47,13 +46,22 @@ names_this client number place handle is names there = record {
 }
 
 -- or none is
-pub stale : (client : ClientSeen) (number place : ℕ) → place ≡ place_in number → stamp_in number ≡ client.numbers.stamp
-    → None ≡ slot client.handles place → NamesNone client number statuses.Stale
-stale client number place is stamp none = (
+pub stale : (handles : List (Option HandleSeen)) (numbers : NumbersSeen) (number place : ℕ) → place ≡ place_in number
+    → stamp_in number ≡ numbers.stamp → None ≡ slot handles place → NamesNoneIn handles numbers number statuses.Stale
+stale handles numbers number place is stamp none = (
   stamp,
-  λ names.
-      (let off : None ≡ Some names.0 = none ∙ ap (slot client.handles) is ∙ names.1.there in let f : ⊥ = cc in f),
+  λ names. (let off : None ≡ Some names.0 = none ∙ ap (slot handles) is ∙ names.1.there in let f : ⊥ = cc in f),
 )
+
+-- a number that is spelled otherwise names none
+pub misspelt : (handles : List (Option HandleSeen)) (numbers : NumbersSeen) (number : ℕ) (status : Status)
+    → MisSpelt numbers number status → NamesNoneIn handles numbers number status
+misspelt handles numbers number statuses.Foreign why = why
+misspelt handles numbers number statuses.Stale why = (why.0, λ names. why.1 names.1.spelled)
+misspelt handles numbers number (statuses.Fault fault) why = why
+misspelt handles numbers number statuses.Same why = why
+misspelt handles numbers number statuses.Gone why = why
+misspelt handles numbers number statuses.NotText why = why
 
 -- ---- a handle came
 

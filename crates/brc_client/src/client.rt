@@ -63,7 +63,7 @@ pub(crate) fn insert(handles: &mut Handles<Global>, numbers: &Numbers, given: Ha
 }
 
 /// The handle that the number names. Foreign, then Stale, if it names none.
-#[tactic(auto, using(crate::proofs::Named::stale))]
+#[tactic(auto, using(crate::proofs::Named::found, crate::proofs::Named::stale, crate::proofs::Named::misspelt))]
 #[inline(always)]
 pub(crate) fn find<'h>(
     handles: &'h Handles<Global>,

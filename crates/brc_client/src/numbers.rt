@@ -22,14 +22,15 @@ pub struct Numbers {
 }
 
 impl Model for Numbers {
-    ghost use Rattle.std.specs.Prelude.{◌≡◌, ◌<◌, length};
+    ghost use Rattle.std.specs.Prelude.{◌≡◌, ◌<◌, ◌*◌, length};
     ghost use Rattle.brc_client.specs.Numbers.{NumbersSeen};
 
     ghost Value = { NumbersSeen };
 
     ghost view = { λ n. record { stamp = n.stamp; uses = n.uses.items } };
 
-    ghost invariant = { λ n. (0 < n.stamp) × (n.stamp < 65536) × (length n.uses.items ≡ 65536) };
+    ghost invariant = { λ n. (0 < n.stamp) × (n.stamp < 65536) × (n.base ≡ n.stamp * 281474976710656)
+        × (length n.uses.items ≡ 65536) };
 }
 
 impl Numbers {
@@ -68,7 +69,8 @@ impl Numbers {
     #[inline(always)]
     pub(crate) fn number(&self, place: usize) -> u64
         requires inside { place < 65536 }
-        ensures { result ≡ number_at self.now place }
+        ensures number { result ≡ number_at self.now place }
+        ensures stamp { stamp_in result ≡ self.now.stamp }
     {
         self.base + u64::from(self.uses[place]) * 65_536 + place as u64
     }
