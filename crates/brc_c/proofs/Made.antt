@@ -12,7 +12,7 @@ use Rattle.brc_c.specs.declared.held.Held.{Held}
 use Rattle.brc_c.specs.Exports.{code_of, OnClient, IsMade, HasLeft, Does}
 
 -- a thread with this client works
-works_of : (stage : Stage) (client : ClientSeen) → Some client ≡ client_of stage → stage ≡ stages.Works client
+pub works_of : (stage : Stage) (client : ClientSeen) → Some client ≡ client_of stage → stage ≡ stages.Works client
 works_of (stages.Works was) client is =
     let same : was ≡ client = cc in ap (λ (c : ClientSeen). stages.Works c) same
 works_of (stages.Leaves left) client is = absurd (let f : ⊥ = cc in f)

@@ -7,7 +7,7 @@ ghost use Rattle.brc_places.specs.declared.taking.TakeBy.TheVariants as taking;
 ghost use Rattle.brc_client.specs.Answers.{Gives, Takes};
 ghost use Rattle.brc_c.specs.Exports.{Does, Writes, WritesNothing, itself, old_number};
 
-use crate::outs::{gone, status_of_taking, write, write_old};
+use crate::calls::{exchange, give, put};
 use crate::slots::CThread;
 use brc_client::{GiveBy, TakeBy};
 use std::alloc::Global;
@@ -16,10 +16,7 @@ use std::alloc::Global;
 pub extern "C" fn brc_list_push(alloc: Global, thread: &mut CThread, list: u64, value: u64) -> u32
     ensures does { Does (Takes (TookBy taking.Push) list value) thread.old.value thread.new.value result WritesNothing }
 {
-    match thread.as_mut().client() {
-        Some(client) => status_of_taking(client.take(alloc, list, TakeBy::Push, value)),
-        None => gone(),
-    }
+    put(alloc, thread, list, TakeBy::Push, value)
 }
 
 #[unsafe(no_mangle)]
@@ -28,10 +25,7 @@ pub extern "C" fn brc_list_pop(thread: &mut CThread, list: u64, value: &mut u64)
     ensures does { Does (Gives (GaveBy giving.Pop) list) thread.old.value thread.new.value result
         (Writes itself value.old value.new) }
 {
-    match thread.as_mut().client() {
-        Some(client) => write(client.give(list, GiveBy::Pop), value),
-        None => gone(),
-    }
+    give(thread, list, GiveBy::Pop, value)
 }
 
 #[unsafe(no_mangle)]
@@ -40,10 +34,7 @@ pub extern "C" fn brc_list_take(thread: &mut CThread, list: u64, index: u32, val
     ensures does { Does (Gives (GaveBy (giving.Take index)) list) thread.old.value thread.new.value result
         (Writes itself value.old value.new) }
 {
-    match thread.as_mut().client() {
-        Some(client) => write(client.give(list, GiveBy::Take(index)), value),
-        None => gone(),
-    }
+    give(thread, list, GiveBy::Take(index), value)
 }
 
 #[unsafe(no_mangle)]
@@ -52,10 +43,7 @@ pub extern "C" fn brc_list_get(thread: &mut CThread, list: u64, index: u32, valu
     ensures does { Does (Gives (GaveBy (giving.Get index)) list) thread.old.value thread.new.value result
         (Writes itself value.old value.new) }
 {
-    match thread.as_mut().client() {
-        Some(client) => write(client.give(list, GiveBy::Get(index)), value),
-        None => gone(),
-    }
+    give(thread, list, GiveBy::Get(index), value)
 }
 
 #[unsafe(no_mangle)]
@@ -71,10 +59,7 @@ pub extern "C" fn brc_list_set(
     ensures does { Does (Takes (TookBy (taking.Set index)) list value) thread.old.value thread.new.value result
         (Writes old_number old.old old.new) }
 {
-    match thread.as_mut().client() {
-        Some(client) => write_old(client.take(alloc, list, TakeBy::Set(index), value), old),
-        None => gone(),
-    }
+    exchange(alloc, thread, list, TakeBy::Set(index), value, old)
 }
 
 #[unsafe(no_mangle)]
@@ -82,10 +67,7 @@ pub extern "C" fn brc_send(alloc: Global, thread: &mut CThread, mailbox: u64, va
     ensures does { Does (Takes (TookBy taking.Send) mailbox value) thread.old.value thread.new.value result
         WritesNothing }
 {
-    match thread.as_mut().client() {
-        Some(client) => status_of_taking(client.take(alloc, mailbox, TakeBy::Send, value)),
-        None => gone(),
-    }
+    put(alloc, thread, mailbox, TakeBy::Send, value)
 }
 
 #[unsafe(no_mangle)]
@@ -94,8 +76,5 @@ pub extern "C" fn brc_recv(thread: &mut CThread, mailbox: u64, value: &mut u64) 
     ensures does { Does (Gives (GaveBy giving.Receive) mailbox) thread.old.value thread.new.value result
         (Writes itself value.old value.new) }
 {
-    match thread.as_mut().client() {
-        Some(client) => write(client.give(mailbox, GiveBy::Receive), value),
-        None => gone(),
-    }
+    give(thread, mailbox, GiveBy::Receive, value)
 }

@@ -7,6 +7,7 @@ ghost use Rattle.brc_client.specs.Answers.{Makes};
 ghost use Rattle.brc_c.specs.Calls.{MakesText, MakesTruth};
 ghost use Rattle.brc_c.specs.Exports.{Does, OrNotText, Writes, itself};
 
+use crate::calls::make;
 use crate::outs::{gone, says_yes, write};
 use crate::slots::CThread;
 use brc_client::{Make, text_of};
@@ -18,10 +19,7 @@ pub extern "C" fn brc_none(alloc: Global, thread: &mut CThread, made: &mut u64) 
     ensures does { Does (Makes (MadeBy making.Nothing)) thread.old.value thread.new.value result
         (Writes itself made.old made.new) }
 {
-    match thread.as_mut().client() {
-        Some(client) => write(client.make(alloc, Make::Nothing), made),
-        None => gone(),
-    }
+    make(alloc, thread, Make::Nothing, made)
 }
 
 #[unsafe(no_mangle)]
@@ -35,10 +33,7 @@ pub extern "C" fn brc_truth(
     ensures does { Does (MakesTruth is_true) thread.old.value thread.new.value result
         (Writes itself made.old made.new) }
 {
-    match thread.as_mut().client() {
-        Some(client) => write(client.make(alloc, Make::Truth(says_yes(is_true))), made),
-        None => gone(),
-    }
+    make(alloc, thread, Make::Truth(says_yes(is_true)), made)
 }
 
 #[unsafe(no_mangle)]
@@ -47,10 +42,7 @@ pub extern "C" fn brc_globals(alloc: Global, thread: &mut CThread, made: &mut u6
     ensures does { Does (Makes (MadeBy making.Globals)) thread.old.value thread.new.value result
         (Writes itself made.old made.new) }
 {
-    match thread.as_mut().client() {
-        Some(client) => write(client.make(alloc, Make::Globals), made),
-        None => gone(),
-    }
+    make(alloc, thread, Make::Globals, made)
 }
 
 #[unsafe(no_mangle)]
@@ -64,10 +56,7 @@ pub extern "C" fn brc_new_int(
     ensures does { Does (Makes (MadeBy (making.Int value))) thread.old.value thread.new.value result
         (Writes itself made.old made.new) }
 {
-    match thread.as_mut().client() {
-        Some(client) => write(client.make(alloc, Make::Int(value)), made),
-        None => gone(),
-    }
+    make(alloc, thread, Make::Int(value), made)
 }
 
 #[unsafe(no_mangle)]
@@ -76,10 +65,7 @@ pub extern "C" fn brc_new_list(alloc: Global, thread: &mut CThread, made: &mut u
     ensures does { Does (Makes (MadeBy making.«List»)) thread.old.value thread.new.value result
         (Writes itself made.old made.new) }
 {
-    match thread.as_mut().client() {
-        Some(client) => write(client.make(alloc, Make::List), made),
-        None => gone(),
-    }
+    make(alloc, thread, Make::List, made)
 }
 
 #[unsafe(no_mangle)]
@@ -88,10 +74,7 @@ pub extern "C" fn brc_new_dict(alloc: Global, thread: &mut CThread, made: &mut u
     ensures does { Does (Makes (MadeBy making.Dict)) thread.old.value thread.new.value result
         (Writes itself made.old made.new) }
 {
-    match thread.as_mut().client() {
-        Some(client) => write(client.make(alloc, Make::Dict), made),
-        None => gone(),
-    }
+    make(alloc, thread, Make::Dict, made)
 }
 
 #[unsafe(no_mangle)]
@@ -100,10 +83,7 @@ pub extern "C" fn brc_new_mailbox(alloc: Global, thread: &mut CThread, made: &mu
     ensures does { Does (Makes (MadeBy making.Mailbox)) thread.old.value thread.new.value result
         (Writes itself made.old made.new) }
 {
-    match thread.as_mut().client() {
-        Some(client) => write(client.make(alloc, Make::Mailbox), made),
-        None => gone(),
-    }
+    make(alloc, thread, Make::Mailbox, made)
 }
 
 #[unsafe(no_mangle)]
