@@ -12,7 +12,7 @@ use std::alloc::Global;
 
 /// What is made has a number, which is written.
 #[inline(always)]
-pub(crate) fn make(alloc: Global, thread: &mut CThread, by: Make<'_>, made: &mut u64) -> u32
+pub(crate) fn make_by(alloc: Global, thread: &mut CThread, by: Make<'_>, made: &mut u64) -> u32
     ensures kept { result ≢ 0 → made.new ≡ made.old }
     ensures does { Does (Makes (MadeBy by.entry)) thread.old.value thread.new.value result
         (Writes itself made.old made.new) }
@@ -25,7 +25,7 @@ pub(crate) fn make(alloc: Global, thread: &mut CThread, by: Make<'_>, made: &mut
 
 /// What a container gives has a number, which is written.
 #[inline(always)]
-pub(crate) fn give(thread: &mut CThread, container: u64, by: GiveBy<'_>, given: &mut u64) -> u32
+pub(crate) fn give_by(thread: &mut CThread, container: u64, by: GiveBy<'_>, given: &mut u64) -> u32
     ensures kept { result ≢ 0 → given.new ≡ given.old }
     ensures does { Does (Gives (GaveBy by.entry) container) thread.old.value thread.new.value result
         (Writes itself given.old given.new) }
@@ -38,7 +38,7 @@ pub(crate) fn give(thread: &mut CThread, container: u64, by: GiveBy<'_>, given: 
 
 /// A value goes into a container, and nothing comes out for it.
 #[inline(always)]
-pub(crate) fn put(
+pub(crate) fn put_by(
     alloc: Global,
     thread: &mut CThread,
     container: u64,
@@ -55,7 +55,7 @@ pub(crate) fn put(
 
 /// A value goes into a container. The number of what came out for it is written, or 0.
 #[inline(always)]
-pub(crate) fn exchange(
+pub(crate) fn exchange_by(
     alloc: Global,
     thread: &mut CThread,
     container: u64,

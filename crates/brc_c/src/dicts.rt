@@ -9,7 +9,7 @@ ghost use Rattle.brc_client.specs.Answers.{Gives, GivesPair, Takes};
 ghost use Rattle.brc_c.specs.Calls.{GivesText, DeletesText, PutsText, KeyWritten, WritesPair};
 ghost use Rattle.brc_c.specs.Exports.{Does, OrNotText, Writes, itself, old_number};
 
-use crate::calls::{exchange, give};
+use crate::calls::{exchange_by, give_by};
 use crate::outs::{gone, write, write_old};
 use crate::slots::CThread;
 use brc_client::{GiveBy, KeyRef, TakeBy, copy_prefix, text_of};
@@ -38,7 +38,7 @@ pub extern "C" fn brc_dict_put_int(
     ensures does { Does (Takes (TookBy (taking.Put (lent.Int key))) dict value) thread.old.value thread.new.value result
         (Writes old_number old.old old.new) }
 {
-    exchange(
+    exchange_by(
         alloc,
         thread,
         dict,
@@ -84,7 +84,7 @@ pub extern "C" fn brc_dict_find_int(
     ensures does { Does (Gives (GaveBy (giving.Find (lent.Int key))) dict) thread.old.value thread.new.value result
         (Writes itself value.old value.new) }
 {
-    give(thread, dict, GiveBy::Find(KeyRef::Int(key)), value)
+    give_by(thread, dict, GiveBy::Find(KeyRef::Int(key)), value)
 }
 
 #[unsafe(no_mangle)]
@@ -118,7 +118,7 @@ pub extern "C" fn brc_dict_del_int(
     ensures does { Does (Gives (GaveBy (giving.Delete (lent.Int key))) dict) thread.old.value thread.new.value result
         (Writes itself value.old value.new) }
 {
-    give(thread, dict, GiveBy::Delete(KeyRef::Int(key)), value)
+    give_by(thread, dict, GiveBy::Delete(KeyRef::Int(key)), value)
 }
 
 #[unsafe(no_mangle)]

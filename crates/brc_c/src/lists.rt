@@ -7,7 +7,7 @@ ghost use Rattle.brc_places.specs.declared.taking.TakeBy.TheVariants as taking;
 ghost use Rattle.brc_client.specs.Answers.{Gives, Takes};
 ghost use Rattle.brc_c.specs.Exports.{Does, Writes, WritesNothing, itself, old_number};
 
-use crate::calls::{exchange, give, put};
+use crate::calls::{exchange_by, give_by, put_by};
 use crate::slots::CThread;
 use brc_client::{GiveBy, TakeBy};
 use std::alloc::Global;
@@ -16,7 +16,7 @@ use std::alloc::Global;
 pub extern "C" fn brc_list_push(alloc: Global, thread: &mut CThread, list: u64, value: u64) -> u32
     ensures does { Does (Takes (TookBy taking.Push) list value) thread.old.value thread.new.value result WritesNothing }
 {
-    put(alloc, thread, list, TakeBy::Push, value)
+    put_by(alloc, thread, list, TakeBy::Push, value)
 }
 
 #[unsafe(no_mangle)]
@@ -25,7 +25,7 @@ pub extern "C" fn brc_list_pop(thread: &mut CThread, list: u64, value: &mut u64)
     ensures does { Does (Gives (GaveBy giving.Pop) list) thread.old.value thread.new.value result
         (Writes itself value.old value.new) }
 {
-    give(thread, list, GiveBy::Pop, value)
+    give_by(thread, list, GiveBy::Pop, value)
 }
 
 #[unsafe(no_mangle)]
@@ -34,7 +34,7 @@ pub extern "C" fn brc_list_take(thread: &mut CThread, list: u64, index: u32, val
     ensures does { Does (Gives (GaveBy (giving.Take index)) list) thread.old.value thread.new.value result
         (Writes itself value.old value.new) }
 {
-    give(thread, list, GiveBy::Take(index), value)
+    give_by(thread, list, GiveBy::Take(index), value)
 }
 
 #[unsafe(no_mangle)]
@@ -43,7 +43,7 @@ pub extern "C" fn brc_list_get(thread: &mut CThread, list: u64, index: u32, valu
     ensures does { Does (Gives (GaveBy (giving.Get index)) list) thread.old.value thread.new.value result
         (Writes itself value.old value.new) }
 {
-    give(thread, list, GiveBy::Get(index), value)
+    give_by(thread, list, GiveBy::Get(index), value)
 }
 
 #[unsafe(no_mangle)]
@@ -59,7 +59,7 @@ pub extern "C" fn brc_list_set(
     ensures does { Does (Takes (TookBy (taking.Set index)) list value) thread.old.value thread.new.value result
         (Writes old_number old.old old.new) }
 {
-    exchange(alloc, thread, list, TakeBy::Set(index), value, old)
+    exchange_by(alloc, thread, list, TakeBy::Set(index), value, old)
 }
 
 #[unsafe(no_mangle)]
@@ -67,7 +67,7 @@ pub extern "C" fn brc_send(alloc: Global, thread: &mut CThread, mailbox: u64, va
     ensures does { Does (Takes (TookBy taking.Send) mailbox value) thread.old.value thread.new.value result
         WritesNothing }
 {
-    put(alloc, thread, mailbox, TakeBy::Send, value)
+    put_by(alloc, thread, mailbox, TakeBy::Send, value)
 }
 
 #[unsafe(no_mangle)]
@@ -76,5 +76,5 @@ pub extern "C" fn brc_recv(thread: &mut CThread, mailbox: u64, value: &mut u64) 
     ensures does { Does (Gives (GaveBy giving.Receive) mailbox) thread.old.value thread.new.value result
         (Writes itself value.old value.new) }
 {
-    give(thread, mailbox, GiveBy::Receive, value)
+    give_by(thread, mailbox, GiveBy::Receive, value)
 }

@@ -7,7 +7,7 @@ ghost use Rattle.brc_client.specs.Answers.{Makes};
 ghost use Rattle.brc_c.specs.Calls.{MakesText, MakesTruth};
 ghost use Rattle.brc_c.specs.Exports.{Does, OrNotText, Writes, itself};
 
-use crate::calls::make;
+use crate::calls::make_by;
 use crate::outs::{gone, says_yes, write};
 use crate::slots::CThread;
 use brc_client::{Make, text_of};
@@ -19,7 +19,7 @@ pub extern "C" fn brc_none(alloc: Global, thread: &mut CThread, made: &mut u64) 
     ensures does { Does (Makes (MadeBy making.Nothing)) thread.old.value thread.new.value result
         (Writes itself made.old made.new) }
 {
-    make(alloc, thread, Make::Nothing, made)
+    make_by(alloc, thread, Make::Nothing, made)
 }
 
 #[unsafe(no_mangle)]
@@ -33,7 +33,7 @@ pub extern "C" fn brc_truth(
     ensures does { Does (MakesTruth is_true) thread.old.value thread.new.value result
         (Writes itself made.old made.new) }
 {
-    make(alloc, thread, Make::Truth(says_yes(is_true)), made)
+    make_by(alloc, thread, Make::Truth(says_yes(is_true)), made)
 }
 
 #[unsafe(no_mangle)]
@@ -42,7 +42,7 @@ pub extern "C" fn brc_globals(alloc: Global, thread: &mut CThread, made: &mut u6
     ensures does { Does (Makes (MadeBy making.Globals)) thread.old.value thread.new.value result
         (Writes itself made.old made.new) }
 {
-    make(alloc, thread, Make::Globals, made)
+    make_by(alloc, thread, Make::Globals, made)
 }
 
 #[unsafe(no_mangle)]
@@ -56,7 +56,7 @@ pub extern "C" fn brc_new_int(
     ensures does { Does (Makes (MadeBy (making.Int value))) thread.old.value thread.new.value result
         (Writes itself made.old made.new) }
 {
-    make(alloc, thread, Make::Int(value), made)
+    make_by(alloc, thread, Make::Int(value), made)
 }
 
 #[unsafe(no_mangle)]
@@ -65,7 +65,7 @@ pub extern "C" fn brc_new_list(alloc: Global, thread: &mut CThread, made: &mut u
     ensures does { Does (Makes (MadeBy making.«List»)) thread.old.value thread.new.value result
         (Writes itself made.old made.new) }
 {
-    make(alloc, thread, Make::List, made)
+    make_by(alloc, thread, Make::List, made)
 }
 
 #[unsafe(no_mangle)]
@@ -74,7 +74,7 @@ pub extern "C" fn brc_new_dict(alloc: Global, thread: &mut CThread, made: &mut u
     ensures does { Does (Makes (MadeBy making.Dict)) thread.old.value thread.new.value result
         (Writes itself made.old made.new) }
 {
-    make(alloc, thread, Make::Dict, made)
+    make_by(alloc, thread, Make::Dict, made)
 }
 
 #[unsafe(no_mangle)]
@@ -83,7 +83,7 @@ pub extern "C" fn brc_new_mailbox(alloc: Global, thread: &mut CThread, made: &mu
     ensures does { Does (Makes (MadeBy making.Mailbox)) thread.old.value thread.new.value result
         (Writes itself made.old made.new) }
 {
-    make(alloc, thread, Make::Mailbox, made)
+    make_by(alloc, thread, Make::Mailbox, made)
 }
 
 #[unsafe(no_mangle)]
