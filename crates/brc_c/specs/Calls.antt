@@ -11,7 +11,7 @@ use Rattle.brc_count.specs.declared.handed.HandedBack.{HandedBack}
 use Rattle.brc_count.specs.Frames.{FrameSeen, HandleSeen}
 use Rattle.brc_count.specs.Making.{Made}
 use Rattle.brc_dicts.specs.Calls.{DictPut, DictFind, DictDel}
-use Rattle.brc_places.specs.declared.place_makers.Make.TheVariants as makes
+use Rattle.brc_places.specs.declared.place_makers.Make.TheVariants as making
 use Rattle.brc_places.specs.Calls.{HandleOr, RefusedText, MadeBy}
 use Rattle.brc_client.specs.declared.status.Status.{Status}
 use Rattle.brc_client.specs.Clients.{ClientSeen}
@@ -24,7 +24,7 @@ is_yes zero = false
 is_yes (suc n) = true
 
 abbrev pub MakesTruth : ℕ → ClientSeen → ClientSeen → Result ℕ Status → Type 0
-MakesTruth is_true = Makes (MadeBy (makes.Truth (is_yes is_true)))
+MakesTruth is_true = Makes (MadeBy (making.Truth (is_yes is_true)))
 
 abbrev pub ClaimsAt : ℕ → ℕ → ClientSeen → ClientSeen → Type 0
 ClaimsAt cell near_last = ClaimsFrom cell (is_yes near_last)
