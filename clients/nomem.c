@@ -96,6 +96,27 @@ static void take(brc_thread *t, brc_ref list, brc_ref dict, brc_ref mailbox, int
     TRY(brc_release(t, one));
 }
 
+/* Each other call that makes a reference, and a set. */
+static void change(brc_thread *t, brc_ref list, brc_ref dict, int i) {
+    brc_ref none, truth, globals, one, old;
+    TRY(brc_none(t, &none));
+    TRY(brc_truth(t, 1, &truth));
+    TRY(brc_globals(t, &globals));
+    TRY(brc_list_get(t, list, 0, &one));
+    TRY(brc_list_push(t, list, none));
+    TRY(brc_list_set(t, list, 0, truth, &old));
+    TRY(brc_list_take(t, list, 0, &truth));
+    TRY(brc_release(t, truth));
+    TRY(brc_list_push(t, list, old));
+    TRY(brc_release(t, one));
+    TRY(brc_dict_find_int(t, dict, i, &one));
+    TRY(brc_dict_put_int(t, globals, i, one, &old));
+    if (old != BRC_NONE) fail(__LINE__, BRC_OK);
+    TRY(brc_dict_del_int(t, globals, i, &one));
+    TRY(brc_release(t, one));
+    TRY(brc_release(t, globals));
+}
+
 static void life(void) {
     brc_heap heap;
     brc_thread t, forked;
@@ -113,6 +134,7 @@ static void life(void) {
     TRY(brc_new_dict(&t, &dict));
     TRY(brc_new_mailbox(&t, &mailbox));
     for (int i = 0; i < ROUNDS; i++) fill(&t, list, dict, mailbox, i);
+    for (int i = 0; i < ROUNDS; i++) change(&t, list, dict, i);
     for (int i = 0; i < ROUNDS; i += 2) take(&t, list, dict, mailbox, i);
     brc_poll(&t);
     brc_work(&t, 10);

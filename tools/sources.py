@@ -85,6 +85,9 @@ def signature(lines, at):
             said.append(line.strip())
         if now is None and line.rstrip().endswith(("{", ";", "{}")):
             break
+        # (a call without a body ends with its last clause; a `;` within a clause ends a part of a record)
+        if now is not None and line.rstrip().endswith(";") and sum(it.count("{") - it.count("}") for it in now) == 0:
+            break
         at += 1
     text = re.sub(r"\s+", " ", " ".join(said)).rstrip("{; ").strip()
     return text.replace("( ", "(").replace(", )", ")"), [re.sub(r"\s+", " ", " ".join(it)) for it in clauses]

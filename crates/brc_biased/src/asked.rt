@@ -14,6 +14,7 @@ ghost use Rattle.brc_biased.specs.Up.{KnowsPart};
 
 use brc_table::block::Block;
 use brc_table::{Found, HeapTable, ThreadSeat};
+use brc_words::is_closed_word;
 use std::alloc::Allocator;
 
 /// The reference is in the hand, and the word turned to queued: the thread whose object it is gets it into its queue
@@ -35,8 +36,11 @@ pub(crate) fn hand_over<A: Allocator>(
     ensures counts { SameCounts table.now.cells seat.old.log seat.new.log }
     ensures keeps { FillsNoPlace table.now.cells seat.old.log seat.new.log }
 {
+    // The owner may untie the object right after this look, leave, and its number may be another thread's then. A stale
+    // number does no harm: the word found below is closed, or its bearer finds the object merged.
     let owner = table.load_owner(seat, cell);
     if owner == 0 {
+        // Others may count down beside this. Only the step that brings the merged count to 0 takes the block.
         let Found {
             number: _number,
             block,
@@ -44,14 +48,19 @@ pub(crate) fn hand_over<A: Allocator>(
         return block;
     }
     let owner = owner as u32;
+    // Once the bit is in an open word, the owner may take it and free the object at once: it isn't touched from here on.
     let found = table.enqueue(seat, cell, owner);
-    if found < 1 << 63 {
-        let _told = table.nudge(seat, owner, cell / 32);
-        return None;
+    if is_closed_word(found) {
+        // The owner is leaving, or has left. It handed over what it owned before it closed a word, so the object is
+        // nobody's.
+        let Found {
+            number: _number,
+            block,
+        } = table.last_shut(seat, cell);
+        return block;
     }
-    let Found {
-        number: _number,
-        block,
-    } = table.last_shut(seat, cell);
-    block
+
+    // The bit may be gone by now, or the number another thread's: the next poll there finds nothing.
+    let _told = table.nudge(seat, owner, cell / 32);
+    None
 }

@@ -24,7 +24,7 @@ use crate::home::HasTable;
 use crate::owned::clear_owned;
 use brc_table::block::Block;
 use brc_table::{Found, HeapTable, ThreadSeat};
-use brc_words::FIRST_MORTAL;
+use brc_words::{FIRST_MORTAL, is_merged_word};
 use std::alloc::Allocator;
 
 /// The object was found not merged: it is made nobody's, its local count joins the shared one, and the entry's
@@ -51,10 +51,18 @@ pub(crate) fn merge_popped<A: Allocator>(
         (if c == cell then 0 else counts_seen table.now.cells seat.old.log c) }
     ensures keeps { FillsNoPlace table.now.cells seat.old.log seat.new.log }
 {
+    // From here on nobody owns the object, and this thread alone merges it; the popped bit keeps it alive. It is untied
+    // first, since after the merge another thread may free the cell, and somebody may claim it.
     table.untie_popped(seat, cell, shared);
+
+    // Nobody else writes the local word, so it stays as it is looked at.
     let _limit = table.local_limit();
     let local = table.load_local(seat, cell);
+
+    // Others may count up and down on the shared word before this sum; it finds their counts there.
     let _shared = table.merge_add(seat, cell, local as u32);
+
+    // Whoever brings the merged count to 0 takes the block: this step, or one of another thread's after it.
     let Found {
         number: _number,
         block,
@@ -85,8 +93,10 @@ impl<H: HasTable<A>, A: Allocator> Counter<H, A> {
         ensures keeps { FillsNoPlace self.old.heap.cells self.old.seat.log self.new.seat.log }
     {
         let table = self.heap.table();
+
+        // A merged object stays merged. One that isn't is merged by nobody else, since it is this thread's.
         let shared = table.load_shared(&mut self.seat, cell);
-        if shared % 4 == 3 {
+        if is_merged_word(shared) {
             let Found {
                 number: _number,
                 block,

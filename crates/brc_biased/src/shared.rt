@@ -16,10 +16,8 @@ use crate::asked::hand_over;
 use brc_table::block::Block;
 use brc_table::law::world::Dropped;
 use brc_table::{Found, HeapTable, ThreadSeat};
+use brc_words::{has_count, is_risen_word};
 use std::alloc::Allocator;
-
-/// The least shared word in default with a count above 0.
-const ONE_COUNTED: u64 = (1 << 42) + 4;
 
 /// The reference goes in one event: the object was seen queued or merged.
 #[inline(always)]
@@ -43,6 +41,7 @@ pub(crate) fn release_risen<A: Allocator>(
     ensures counts { SameCounts table.now.cells seat.old.log seat.new.log }
     ensures keeps { FillsNoPlace table.now.cells seat.old.log seat.new.log }
 {
+    // Others may count down beside this. Only the step that brings a merged count to 0 takes the block.
     let Found {
         number: _number,
         block,
@@ -71,8 +70,10 @@ pub(crate) fn release_asking<A: Allocator>(
     ensures counts { SameCounts table.now.cells seat.old.log seat.new.log }
     ensures keeps { FillsNoPlace table.now.cells seat.old.log seat.new.log }
 {
+    // Others may count, ask or merge before this step: the reference that goes keeps the object alive until then. Who
+    // finds default is the one who asked, and its hand keeps the object alive now.
     let found = table.ask(seat, drop, cell);
-    if found % 4 != 0 {
+    if is_risen_word(found) {
         return release_risen(table, seat, drop, cell);
     }
     hand_over(table, seat, cell)
@@ -100,13 +101,15 @@ pub(crate) fn release_shared<A: Allocator>(
     ensures counts { SameCounts table.now.cells seat.old.log seat.new.log }
     ensures keeps { FillsNoPlace table.now.cells seat.old.log seat.new.log }
 {
+    // The word may move after this look. States only rise, so a risen one is still risen, and a count is tried once.
     let word = table.load_shared(seat, cell);
-    if word % 4 != 0 {
+    if is_risen_word(word) {
         return release_risen(table, seat, drop, cell);
     }
-    if word < ONE_COUNTED {
+    if !has_count(word) {
         return release_asking(table, seat, drop, cell);
     }
+    // If nobody stepped in between, the count goes down, and stays 0 or more.
     match table.shared_down(seat, drop, cell, word) {
         Ok(()) => None,
         Err(_) => release_asking(table, seat, drop, cell),

@@ -15,7 +15,7 @@ ghost use Rattle.brc_biased.specs.Up.{Raising, CountsHere, RaisedImmortal, Raise
 use crate::counter::Counter;
 use crate::home::HasTable;
 use brc_table::law::world::Source;
-use brc_words::FIRST_MORTAL;
+use brc_words::{FIRST_MORTAL, is_risen_word};
 use std::alloc::Allocator;
 
 impl<H: HasTable<A>, A: Allocator> Counter<H, A> {
@@ -62,7 +62,9 @@ impl<H: HasTable<A>, A: Allocator> Counter<H, A> {
             let _found = table.immortal_up(&mut self.seat, source, place, cell);
             return false;
         }
+
+        // Others may count, ask or merge beside this: what the new reference comes from keeps the object alive.
         let found = table.shared_up(&mut self.seat, source, place, cell);
-        found % 4 != 0
+        is_risen_word(found)
     }
 }

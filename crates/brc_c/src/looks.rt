@@ -1,7 +1,7 @@
 //! What an object is: its kind, how many entries it has, its number, its truth, its text.
 
 ghost use Rattle.std.specs.Prelude.{◌≡◌, ◌≢◌};
-ghost use Rattle.brc_containers.specs.Looking.{KindOf, LenOf, IntOf};
+ghost use Rattle.brc_things.specs.Looking.{KindOf, LenOf, IntOf};
 ghost use Rattle.brc_client.specs.Answers.{Finds, FindsTruth, ReadsOut};
 ghost use Rattle.brc_c.specs.Calls.{WritesText};
 ghost use Rattle.brc_c.specs.Exports.{Does, Writes, code_of, itself, truth_number, kind_number};

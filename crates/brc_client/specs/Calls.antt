@@ -10,7 +10,7 @@ use Rattle.brc_count.specs.declared.handed.HandedBack.{HandedBack}
 use Rattle.brc_count.specs.Frames.{FrameSeen, HandleSeen, GivenHandle, Refused, IsAsBefore, place_seen}
 use Rattle.brc_count.specs.Locking.{cell_in}
 use Rattle.brc_count.specs.Owned.{Loses}
-use Rattle.brc_containers.specs.Looking.{LooksAt, RefusedCopy, IsText}
+use Rattle.brc_things.specs.Looking.{LooksAt, RefusedCopy, IsText}
 use Rattle.brc_handles.specs.Handles.{slot}
 use Rattle.brc_client.specs.declared.status.Status.{Status}
 use Rattle.brc_client.specs.declared.status.Status.TheVariants as statuses

@@ -4,14 +4,14 @@ ghost use Rattle.std.specs.Prelude.{◌≡◌, ◌≢◌, ◌⊎◌, Some, IfOk,
 ghost use Rattle.brc_words.specs.declared.fault.Fault.TheVariants as faults;
 ghost use Rattle.brc_count.specs.Locking.{cell_in};
 ghost use Rattle.brc_things.specs.Makers.{truth_cell};
-ghost use Rattle.brc_containers.specs.Looking.{KindOf, LenOf, IntOf};
+ghost use Rattle.brc_things.specs.Looking.{KindOf, LenOf, IntOf};
 ghost use Rattle.brc_client.specs.Clients.{Names, NamesNone, KeepsNumbers};
 ghost use Rattle.brc_client.specs.Calls.{OfNamed, RefusedOf, Looks, Reads, IsOne};
 
 use crate::client::{Client, find};
 use crate::status::Status;
-use brc_containers::{try_int_of, try_kind_of, try_len_of, try_text_into};
 use brc_heap::{same_object, truth_of};
+use brc_things::{try_int_of, try_kind_of, try_len_of, try_text_into};
 use brc_words::Kind;
 
 impl Client {

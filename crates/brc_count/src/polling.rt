@@ -74,6 +74,8 @@ impl<H: HasTable<A>, A: Allocator> Holdings<H, A> {
         ensures popped { popped_seen self.new ≡ popped_seen self.old }
         ensures own { OwnLog self.old.heap.cells self.old.seat.log }
     {
+        // Who puts an entry in sets its bit first and tells the thread after that. So what is told after this swap stays
+        // for the next poll, with its bits.
         self.counter.wake()
     }
 
@@ -88,6 +90,8 @@ impl<H: HasTable<A>, A: Allocator> Holdings<H, A> {
         ensures popped { popped_seen self.new ≡ popped_told (Some word) result (popped_seen self.old) }
         ensures found { word_at (popped_seen self.old) word ≡ 0 → word_at (popped_seen self.new) word ≡ result }
     {
+        // All bits come out in one swap. A bit that is set after it stays for the next poll. The popped bits keep their
+        // objects alive now.
         let bits = self.counter.drain(word);
         join(&mut self.popped, word as usize, bits);
         bits

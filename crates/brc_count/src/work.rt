@@ -40,6 +40,9 @@ impl<H: HasTable<A>, A: Allocator> Holdings<H, A> {
             return false;
         };
         let cell = block.cell();
+
+        // From here on another thread may claim the cell and put a block of its own home. This one isn't in the cell's slot
+        // any more.
         self.counter.free(cell);
         self.start.freed(cell);
         self.ledger.frees += 1;

@@ -17,7 +17,7 @@ use Rattle.brc_count.specs.law.world.declared.event.Change.TheVariants.{Keep}
 use Rattle.brc_count.specs.table.Shown.{contents_of}
 use Rattle.brc_count.specs.Frames.{FrameSeen, Refused}
 use Rattle.brc_count.specs.Locking.{UnlockedBy}
-use Rattle.brc_containers.specs.Changing.{RefusedEntry, RefusedPlace}
+use Rattle.brc_things.specs.Changing.{RefusedEntry, RefusedPlace}
 use Rattle.brc_dicts.specs.Plain.{first_of, second_of, plain_key_at, plain_value_at}
 use Rattle.brc_dicts.specs.Indexing.{ReadsUnlocked, IsAt, IsPast, NoPair, MissesKey, MissesPair}
 use Rattle.brc_dicts.proofs.Shown.{pairs_back}

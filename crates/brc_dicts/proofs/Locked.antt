@@ -20,9 +20,9 @@ use Rattle.brc_count.specs.Frames.{FrameSeen, HandleSeen, GivenHandle, Refused, 
 use Rattle.brc_count.specs.Locking.{IsLocked, Began, UnlockedBy, KeepsThread, KeepsFrame, ChangesPlace, cell_in}
 use Rattle.brc_count.specs.Locking.{contents_found, entries_found}
 use Rattle.brc_count.proofs.Refusing.{refused_alike}
-use Rattle.brc_containers.specs.Changing.{PlainCall, Changes, KeepsAllPlaces, CallPuts, Swaps, CallTakes, Shares}
-use Rattle.brc_containers.specs.Changing.{RefusedPlainly}
-use Rattle.brc_containers.specs.Changing.{RefusedForWant, RefusedPlace}
+use Rattle.brc_things.specs.Changing.{PlainCall, Changes, KeepsAllPlaces, CallPuts, Swaps, CallTakes, Shares}
+use Rattle.brc_things.specs.Changing.{RefusedPlainly}
+use Rattle.brc_things.specs.Changing.{RefusedForWant, RefusedPlace}
 use Rattle.brc_lock.proofs.Kept.{thread_kept_on}
 use Rattle.brc_dicts.specs.Since.{JustLocked}
 use Rattle.brc_dicts.specs.Plain.{dict_of, plain_put}

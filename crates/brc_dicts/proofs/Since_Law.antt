@@ -8,8 +8,8 @@ use Rattle.brc_count.specs.Frames.{FrameSeen}
 use Rattle.brc_count.specs.Locking.{KeepsThread, KeepsFrame}
 use Rattle.brc_lock.specs.Waiting.{BeginsLate}
 use Rattle.brc_lock.proofs.Kept.{thread_kept_on, frame_kept_on}
-use Rattle.brc_containers.specs.Called.{Looked, HandsOut, TakesIn}
-use Rattle.brc_containers.specs.Changing.{KeepsAllPlaces}
+use Rattle.brc_things.specs.Called.{Looked, HandsOut, TakesIn}
+use Rattle.brc_things.specs.Changing.{KeepsAllPlaces}
 use Rattle.brc_dicts.specs.Since.{JustLocked, Since}
 
 module _ {A : Type 0} where

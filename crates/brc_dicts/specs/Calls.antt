@@ -4,8 +4,8 @@ use Rattle.brc_words.specs.declared.fault.Fault.{Fault}
 use Rattle.brc_words.specs.declared.key.Key.{Key}
 use Rattle.brc_count.specs.declared.handed.HandedBack.{HandedBack}
 use Rattle.brc_count.specs.Frames.{FrameSeen, HandleSeen}
-use Rattle.brc_containers.specs.Called.{Looked, HandsOut, TakesIn}
-use Rattle.brc_containers.specs.Changing.{Shares, CallTakes, RefusedEntry, RefusedPlace}
+use Rattle.brc_things.specs.Called.{Looked, HandsOut, TakesIn}
+use Rattle.brc_things.specs.Changing.{Shares, CallTakes, RefusedEntry, RefusedPlace}
 use Rattle.brc_dicts.specs.Indexing.{ReadsUnlocked, SharesPair}
 use Rattle.brc_dicts.specs.Plain.{plain_find, plain_del, plain_place, plain_key_at, plain_value_at}
 use Rattle.brc_dicts.specs.Putting.{HasPut, RefusedPut}

@@ -13,7 +13,7 @@ use Rattle.brc_count.specs.law.rule.declared.contents.PlainKey.TheVariants as pl
 use Rattle.brc_count.specs.law.rule.declared.contents.Contents.{Contents}
 use Rattle.brc_count.specs.law.rule.declared.contents.Contents.TheVariants.{Dict}
 use Rattle.brc_count.specs.table.Shown.{plain_key}
-use Rattle.brc_containers.specs.Changing.{PlainCall}
+use Rattle.brc_things.specs.Changing.{PlainCall}
 
 module _ {A : Type 0} where
   -- the key that is shown so

@@ -8,7 +8,7 @@ use Rattle.brc_count.specs.law.world.declared.event.Change.TheVariants.{Keep}
 use Rattle.brc_count.specs.law.rule.declared.contents.Contents.{Contents}
 use Rattle.brc_count.specs.Frames.{FrameSeen, HandleSeen}
 use Rattle.brc_count.specs.Locking.{Busy, cell_in}
-use Rattle.brc_containers.specs.Changing.{PlainCall, Changes, CallPuts, Swaps, RefusedPlainly}
+use Rattle.brc_things.specs.Changing.{PlainCall, Changes, CallPuts, Swaps, RefusedPlainly}
 use Rattle.brc_count.specs.Owned.{Keeps, Loses}
 use Rattle.brc_dicts.specs.Plain.{plain_put}
 

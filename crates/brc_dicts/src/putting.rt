@@ -10,7 +10,7 @@ ghost use Rattle.brc_count.specs.table.Shown.{contents_of};
 ghost use Rattle.brc_count.specs.Frames.{IsUnlocked, Owns};
 ghost use Rattle.brc_count.specs.Locking.{IsLocked, cell_locked, place_locked, contents_found, KeepsThread, KeepsFrame};
 ghost use Rattle.brc_count.specs.Owned.{Keeps};
-ghost use Rattle.brc_containers.specs.Called.{Late};
+ghost use Rattle.brc_things.specs.Called.{Late};
 ghost use Rattle.brc_dicts.specs.Calls.{DictPut};
 ghost use Rattle.brc_dicts.specs.Putting.{RefusedRoomFor, HasPut, OwnsPut, RefusedPut};
 ghost use Rattle.brc_dicts.specs.Seeking.{HasKeyAt, IsAbsent};

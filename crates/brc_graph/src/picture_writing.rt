@@ -7,8 +7,7 @@ ghost use Rattle.brc_graph.specs.Pictures.{held_text, entry_text, ring_head, rin
 ghost use Rattle.brc_graph.specs.Pictures.{graph_text};
 
 use crate::drawn::{Drawn, Graph};
-use brc_output::put_parts;
-use brc_text::{Keyword, put_bytes, put_numbers_line};
+use brc_text::{Keyword, put_bytes, put_numbers_line, put_parts};
 use brc_words::Fault;
 use itoa::Buffer;
 use std::alloc::Allocator;

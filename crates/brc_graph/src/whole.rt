@@ -6,7 +6,7 @@ ghost use Rattle.brc_graph.specs.Draws.{Draws, undrawn_of};
 use crate::picture_writing::write_graph;
 use crate::reading::read_graph;
 use crate::undrawn::Undrawn;
-use brc_input::read_input;
+use brc_text::read_input;
 use brc_words::Fault;
 use std::alloc::Global;
 use std::io::{Read, Write};

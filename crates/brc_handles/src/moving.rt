@@ -2,8 +2,8 @@
 //!
 //! None of these does anything to the frame. It is there so that each says what the frame owns.
 
-ghost use Rattle.std.specs.Prelude.{◌≡◌, ◌≢◌, ◌≤◌, ◌+◌, ℕ, Some, None, [], ◌∷◌, ◌++◌, OnOk, OnErr, IfOk, IfErr, IfSome};
-ghost use Rattle.std.specs.Prelude.{IfNone, MatchOption, length, slice_set};
+ghost use Rattle.std.specs.Prelude.{◌≡◌, ◌≢◌, ◌≤◌, ◌+◌, ◌⊎◌, ℕ, Some, None, [], ◌∷◌, ◌++◌, OnOk, OnErr, IfOk, IfErr};
+ghost use Rattle.std.specs.Prelude.{IfSome, IfNone, MatchOption, length, slice_set};
 ghost use Rattle.brc_words.specs.declared.fault.Fault.TheVariants.{NoSuchPlace};
 ghost use Rattle.brc_count.specs.Frames.{HandleSeen, Owns};
 ghost use Rattle.brc_handles.specs.Handles.{slot, filled, IsApart, OwnsEach, Swapped};
@@ -121,6 +121,7 @@ impl<A: Allocator> Handles<A> {
 
         ensures swapped { OnOk result (Swapped self.old self.new one other) }
         ensures refused { IfErr result (λ fault. fault ≡ NoSuchPlace) }
+        ensures past { OnErr result ((length self.old ≤ one) ⊎ (length self.old ≤ other)) }
         ensures unchanged { OnErr result (self.new ≡ self.old) }
     {
         if one >= self.slots.len() || other >= self.slots.len() {

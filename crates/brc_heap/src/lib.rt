@@ -38,10 +38,6 @@ pub use fixed::Frame;
 pub use brc_things::{new_dict, new_int, new_list, new_mailbox, new_text, none, truth};
 
 // what they are and hold
-pub use brc_containers::{
-    int_of, kind_of, len_of, text_into, text_of, try_int_of, try_kind_of, try_len_of,
-    try_text_into, try_text_of,
-};
 pub use brc_count::block::KeyRef;
 pub use brc_dicts::{
     dict_del, dict_del_by, dict_find, dict_find_by, dict_key, dict_key_by, dict_pair, dict_put,
@@ -51,6 +47,10 @@ pub use brc_dicts::{
 pub use brc_lists::{
     list_get, list_pop, list_push, list_set, list_take, recv, send, try_list_get, try_list_pop,
     try_list_push, try_list_set, try_list_take, try_recv, try_send,
+};
+pub use brc_things::{
+    int_of, kind_of, len_of, text_into, text_of, try_int_of, try_kind_of, try_len_of,
+    try_text_into, try_text_of,
 };
 
 // plain values

@@ -12,9 +12,9 @@ use Rattle.brc_count.specs.Frames.{FrameSeen, HandleSeen, Owns, Refused, IsAsBef
 use Rattle.brc_count.specs.Locking.{cell_in}
 use Rattle.brc_count.specs.Making.{RefusedMaking}
 use Rattle.brc_things.specs.Makers.{RefusedTo}
-use Rattle.brc_containers.specs.Called.{Late}
-use Rattle.brc_containers.specs.Changing.{PlainCall, RefusedPlainly, RefusedCall, RefusedEntry, RefusedPlace}
-use Rattle.brc_containers.specs.Looking.{RefusedLook, RefusedCopy, LenOf, IntOf, TextOf}
+use Rattle.brc_things.specs.Called.{Late}
+use Rattle.brc_things.specs.Changing.{PlainCall, RefusedPlainly, RefusedCall, RefusedEntry, RefusedPlace}
+use Rattle.brc_things.specs.Looking.{RefusedLook, RefusedCopy, LenOf, IntOf, TextOf}
 use Rattle.brc_lists.specs.Calls.{PutsValue, SwapsValue, TakesEntry, SharesEntry}
 use Rattle.brc_dicts.specs.Calls.{DictPut}
 use Rattle.brc_dicts.specs.Plain.{plain_put}

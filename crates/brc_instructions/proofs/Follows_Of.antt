@@ -14,8 +14,8 @@ use Rattle.brc_count.specs.Locking.{Busy, cell_in}
 use Rattle.brc_count.specs.Making.{Made, RefusedMaking}
 use Rattle.brc_things.specs.Makers.{Answered, RefusedTo, small_cell}
 use Rattle.brc_handles.specs.Handles.{slot, OwnsEach, IsApart}
-use Rattle.brc_containers.specs.Called.{Late}
-use Rattle.brc_containers.specs.Changing.{PlainCall, RefusedCall, RefusedEntry, RefusedPlace}
+use Rattle.brc_things.specs.Called.{Late}
+use Rattle.brc_things.specs.Changing.{PlainCall, RefusedCall, RefusedEntry, RefusedPlace}
 use Rattle.brc_lists.specs.Calls.{PutsValue, SwapsValue, TakesEntry, SharesEntry}
 use Rattle.brc_dicts.specs.Calls.{DictPut}
 use Rattle.brc_dicts.specs.Plain.{plain_put}

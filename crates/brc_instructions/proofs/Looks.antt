@@ -5,8 +5,8 @@ use Rattle.brc_words.specs.declared.fault.Fault.TheVariants as faults
 use Rattle.brc_words.specs.declared.kind.Kind.{Kind}
 use Rattle.brc_count.specs.law.rule.declared.contents.Contents.{Contents}
 use Rattle.brc_count.specs.Frames.{FrameSeen}
-use Rattle.brc_containers.specs.Called.{Late}
-use Rattle.brc_containers.specs.Looking.{RefusedLook, RefusedCopy, LenOf, IntOf, TextOf, KindOf}
+use Rattle.brc_things.specs.Called.{Late}
+use Rattle.brc_things.specs.Looking.{RefusedLook, RefusedCopy, LenOf, IntOf, TextOf, KindOf}
 use Rattle.brc_count.specs.law.living.Later.{IsLater}
 use Rattle.law_isolation.proofs.Later_Calls.{later_looks, later_late}
 use Rattle.brc_instructions.proofs.Follows_Of.{later_busy}

@@ -18,10 +18,10 @@ use Rattle.brc_count.specs.declared.handed.HandedBack.{HandedBack}
 use Rattle.brc_count.specs.Frames.{FrameSeen, HandleSeen}
 use Rattle.brc_count.specs.Locking.{Began, KeepsThread, KeepsFrame, ChangesPlace, contents_found}
 use Rattle.brc_count.proofs.Refusing.{refused_alike}
-use Rattle.brc_containers.specs.Called.{HandsOut}
-use Rattle.brc_containers.specs.Changing.{PlainCall, Changes, KeepsAllPlaces, CallPuts, Swaps, CallTakes, Shares}
-use Rattle.brc_containers.specs.Changing.{RefusedPlainly}
-use Rattle.brc_containers.specs.Changing.{RefusedForWant, RefusedCall, RefusedEntry, RefusedPlace}
+use Rattle.brc_things.specs.Called.{HandsOut}
+use Rattle.brc_things.specs.Changing.{PlainCall, Changes, KeepsAllPlaces, CallPuts, Swaps, CallTakes, Shares}
+use Rattle.brc_things.specs.Changing.{RefusedPlainly}
+use Rattle.brc_things.specs.Changing.{RefusedForWant, RefusedCall, RefusedEntry, RefusedPlace}
 use Rattle.brc_lock.proofs.Kept.{thread_kept_on, frame_kept_on}
 use Rattle.brc_lists.specs.Calls.{PutsValue, SwapsValue, TakesEntry, SharesEntry}
 use Rattle.brc_lists.specs.Within.{EndsWith, PutsIn, SwapsIn, TakesOut, SharesOut, RefusesPlainly, RefusesEntry}

@@ -1,14 +1,14 @@
 -- What each call on a list or a mailbox does, told once for both its forms: from the frame `old` that its locking began
--- from (`brc_containers`, `specs/Called.antt`), on the object in place k. The faults come in the order that
--- `brc_containers` says.
+-- from (`brc_things`, `specs/Called.antt`), on the object in place k. The faults come in the order that
+-- `brc_things` says.
 use Rattle.std.specs.Prelude.{◌≡◌, ℕ, Some, Result}
 use Rattle.brc_words.specs.declared.fault.Fault.{Fault}
 use Rattle.brc_count.specs.declared.handed.HandedBack.{HandedBack}
 use Rattle.brc_count.specs.Frames.{FrameSeen, HandleSeen}
 use Rattle.brc_count.specs.Locking.{cell_in}
-use Rattle.brc_containers.specs.Called.{HandsOut, TakesIn}
-use Rattle.brc_containers.specs.Changing.{PlainCall, CallPuts, Swaps, CallTakes, Shares, RefusedCall, RefusedEntry}
-use Rattle.brc_containers.specs.Changing.{RefusedPlace}
+use Rattle.brc_things.specs.Called.{HandsOut, TakesIn}
+use Rattle.brc_things.specs.Changing.{PlainCall, CallPuts, Swaps, CallTakes, Shares, RefusedCall, RefusedEntry}
+use Rattle.brc_things.specs.Changing.{RefusedPlace}
 use Rattle.brc_lists.specs.Plain.{plain_push, plain_pop, plain_take_at, plain_get, plain_set, plain_send, plain_receive}
 
 module _ {A : Type 0} where

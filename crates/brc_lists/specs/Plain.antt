@@ -8,7 +8,7 @@ use Rattle.brc_plain.specs.Lists as lists
 use Rattle.brc_plain.specs.Queues as queues
 use Rattle.brc_count.specs.law.rule.declared.contents.Contents.{Contents}
 use Rattle.brc_count.specs.law.rule.declared.contents.Contents.TheVariants as contents
-use Rattle.brc_containers.specs.Changing.{PlainCall}
+use Rattle.brc_things.specs.Changing.{PlainCall}
 
 module _ {R : Type 0} where
   -- the entries that are left are an object's again

@@ -7,7 +7,7 @@ use Rattle.brc_words.specs.declared.kind.Kind.TheVariants as kinds
 use Rattle.brc_words.specs.declared.limits.TheConstants.{MOST_ENTRIES}
 use Rattle.brc_plain.specs.Outcomes.{leaving}
 use Rattle.brc_plain.specs.Lists as lists
-use Rattle.brc_containers.specs.Changing.{PlainCall}
+use Rattle.brc_things.specs.Changing.{PlainCall}
 use Rattle.brc_lists.specs.Plain.{on_list, on_mailbox}
 
 -- a list, or a mailbox

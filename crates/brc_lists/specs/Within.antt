@@ -12,7 +12,7 @@ use Rattle.brc_count.specs.Frames.{FrameSeen, HandleSeen, GivenHandle, Refused}
 use Rattle.brc_count.specs.Locking.{IsLocked, KeepsFrame, ChangesPlace, UnlockedBy, cell_in, cell_locked}
 use Rattle.brc_count.specs.Locking.{contents_found}
 use Rattle.brc_count.specs.Locking.{entries_found}
-use Rattle.brc_containers.specs.Changing.{PlainCall, KeepsAllPlaces}
+use Rattle.brc_things.specs.Changing.{PlainCall, KeepsAllPlaces}
 
 module _ {A : Type 0} where
   -- an object is locked, and its block has what was found

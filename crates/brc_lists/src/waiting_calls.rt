@@ -1,11 +1,11 @@
 //! The forms that wait: they try again until the object isn't locked by another thread. What each does then is what its
-//! form with `try_` does, from the frame that the lost tries left (`lost_tries_change_nothing` of `brc_containers`).
+//! form with `try_` does, from the frame that the lost tries left (`lost_tries_change_nothing` of `brc_things`).
 
 ghost use Rattle.std.specs.Prelude.{◌≡◌, ◌≢◌, IfOk, IfErr, OnOk, OnErr};
 ghost use Rattle.brc_words.specs.declared.fault.Fault.TheVariants as faults;
 ghost use Rattle.brc_count.specs.Frames.{IsUnlocked, Owns};
 ghost use Rattle.brc_count.specs.Owned.{Keeps, Gains, Loses};
-ghost use Rattle.brc_containers.specs.Called.{Late};
+ghost use Rattle.brc_things.specs.Called.{Late};
 ghost use Rattle.brc_lists.specs.Calls.{ListPush, ListPop, ListTake, ListGet, ListSet, MailboxSend, MailboxReceive};
 
 use crate::within::{put_locked, share_locked, swap_locked, take_locked};

@@ -12,7 +12,7 @@ ghost use Rattle.brc_count.specs.table.Shown.{contents_of};
 ghost use Rattle.brc_count.specs.Frames.{IsUnlocked, IsAsBefore, Owns};
 ghost use Rattle.brc_count.specs.Locking.{KeepsThread, KeepsFrame, contents_found, place_locked};
 ghost use Rattle.brc_count.specs.Owned.{Keeps, Gains, Loses};
-ghost use Rattle.brc_containers.specs.Changing.{KeepsAllPlaces};
+ghost use Rattle.brc_things.specs.Changing.{KeepsAllPlaces};
 ghost use Rattle.brc_lists.specs.Plain.{plain_get, plain_set};
 ghost use Rattle.brc_lists.specs.Rows.{is_row, plain_put, plain_at, plain_take};
 ghost use Rattle.brc_lists.specs.Within.{HasLockedList, EndsWith, PutsIn, SwapsIn, TakesOut, SharesOut, RefusesPlainly};

@@ -86,7 +86,7 @@ pub fn try_lock<'f, H: HasTable<A>, A: Allocator>(
 ) -> Result<Locked<'f, H, A, Block<A>>, Fault>
     requires owned { Owns frame.old handle.now }
     requires unlocked { IsUnlocked frame.old }
-    ensures* rests { sem 𝓛 (RestsIfErr (the_row H.row A.row H.Home A.Allocator) frame.entry (λ l. l.frame.ghost_name)
+    ensures* rests { sem 𝓛 (RestsIfErr (the_row H.row A.row H.HasTable A.Allocator) frame.entry (λ l. l.frame.ghost_name)
         result (λ last. IsBusy frame.entry.now last handle.now.place)) }
     ensures same_reference { IfOk result (λ l. l.frame.ghost_name ≡ frame.entry.ghost_name) }
     ensures began { IfOk result (λ l. Began frame.old l.frame.now handle.now.place l.block) }

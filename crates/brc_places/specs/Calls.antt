@@ -11,7 +11,7 @@ use Rattle.brc_count.specs.declared.handed.HandedBack.{HandedBack}
 use Rattle.brc_count.specs.Frames.{FrameSeen, HandleSeen, GivenHandle, Refused, IsAsBefore}
 use Rattle.brc_count.specs.Making.{Made, RefusedMaking}
 use Rattle.brc_things.specs.Makers.{small_cell, truth_cell, Answered, RefusedTo}
-use Rattle.brc_containers.specs.Called.{Late}
+use Rattle.brc_things.specs.Called.{Late}
 use Rattle.brc_lists.specs.Calls.{ListPush, ListPop, ListTake, ListGet, ListSet, MailboxSend, MailboxReceive}
 use Rattle.brc_dicts.specs.Calls.{DictPut, DictFind, DictDel}
 use Rattle.brc_places.specs.declared.place_makers.Make.{Make}

@@ -2,3 +2,4 @@ pub mod Placing
 pub mod Calls
 pub mod Reading
 pub mod Stacking
+pub mod Stack_Turns

@@ -5,16 +5,16 @@ ghost use Rattle.brc_words.specs.declared.fault.Fault.TheVariants as faults;
 ghost use Rattle.brc_count.specs.Frames.{IsUnlocked};
 ghost use Rattle.brc_handles.specs.Handles.{OwnsEach};
 ghost use Rattle.brc_handles.specs.Standing.{KeepsStanding};
-ghost use Rattle.brc_containers.specs.Called.{Late};
-ghost use Rattle.brc_containers.specs.Looking.{KindOf, LenOf, IntOf, TextOf};
+ghost use Rattle.brc_things.specs.Called.{Late};
+ghost use Rattle.brc_things.specs.Looking.{KindOf, LenOf, IntOf, TextOf};
 ghost use Rattle.brc_places.specs.Reading.{ReadsPlace};
 
-use brc_containers::{
-    int_of, kind_of, len_of, text_of, try_int_of, try_kind_of, try_len_of, try_text_of,
-};
 use brc_count::Frame;
 use brc_count::biased::HasTable;
 use brc_handles::Handles;
+use brc_things::{
+    int_of, kind_of, len_of, text_of, try_int_of, try_kind_of, try_len_of, try_text_of,
+};
 use brc_words::{Fault, Kind, Text};
 use std::alloc::Allocator;
 use std::sync::Wait;

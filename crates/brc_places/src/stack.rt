@@ -1,13 +1,13 @@
 //! A stack of handles, whose last place is its top.
 
-ghost use Rattle.std.specs.Prelude.{◌≡◌, ◌≢◌, ◌+◌, ◌-◌, ◌<◌, ◌⊎◌, [], ◌∷◌, ◌++◌, Some, None, Err, IfErr, IfSome, IfNone};
-ghost use Rattle.std.specs.Prelude.{OnOk, OnErr, MatchOption, length};
+ghost use Rattle.std.specs.Prelude.{◌≡◌, ◌≢◌, ◌+◌, ◌-◌, ◌<◌, ◌≤◌, ◌⊎◌, [], ◌∷◌, ◌++◌, Some, None, Err, IfErr, IfSome};
+ghost use Rattle.std.specs.Prelude.{IfNone, OnOk, OnErr, MatchOption, length};
 ghost use Rattle.std.specs.Option.{option_copied};
 ghost use Rattle.brc_words.specs.declared.fault.Fault.TheVariants as faults;
 ghost use Rattle.brc_count.specs.Frames.{HandleSeen, IsUnlocked, Owns, Refused};
 ghost use Rattle.brc_count.specs.Owned.{Loses};
-ghost use Rattle.brc_containers.specs.Called.{Late};
-ghost use Rattle.brc_containers.specs.Looking.{IntOf};
+ghost use Rattle.brc_things.specs.Called.{Late};
+ghost use Rattle.brc_things.specs.Looking.{IntOf};
 ghost use Rattle.brc_handles.specs.Handles.{slot, filled, IsApart, OwnsEach, Retains, Swapped};
 ghost use Rattle.brc_handles.specs.Standing.{KeepsStanding};
 ghost use Rattle.brc_places.specs.declared.placing.To.TheVariants as tos;
@@ -195,6 +195,7 @@ impl<A: Allocator> Stack<A> {
         ensures refused { IfErr result (λ fault. (fault ≡ faults.NoSuchPlace) ⊎ (fault ≡ faults.OutOfMemory)
             ⊎ Refused frame.old fault) }
         ensures missing { slot self.old index ≡ None → (result ≡ Err faults.NoSuchPlace) × (frame.new ≡ frame.old) }
+        ensures none { result ≡ Err faults.NoSuchPlace → slot self.old index ≡ None }
         ensures unchanged { OnErr result (self.new ≡ self.old) }
     {
         if self.handles.get(index).is_none() {
@@ -212,6 +213,7 @@ impl<A: Allocator> Stack<A> {
         ensures more { OnOk result (Retains frame.old frame.new self.old self.new (length self.old - 1)) }
         ensures refused { IfErr result (λ fault. (fault ≡ faults.NoSuchPlace) ⊎ (fault ≡ faults.OutOfMemory)
             ⊎ Refused frame.old fault) }
+        ensures none { result ≡ Err faults.NoSuchPlace → slot self.old (length self.old - 1) ≡ None }
         ensures unchanged { OnErr result (self.new ≡ self.old) }
     {
         let top = self.len().saturating_sub(1);
@@ -229,6 +231,7 @@ impl<A: Allocator> Stack<A> {
 
         ensures swapped { OnOk result (Swapped self.old self.new (length self.old - 1) (length self.old - 2)) }
         ensures refused { IfErr result (λ fault. fault ≡ faults.NoSuchPlace) }
+        ensures few { OnErr result (length self.old < 2) }
         ensures unchanged { OnErr result (self.new ≡ self.old) }
     {
         let len = self.handles.len();
@@ -303,6 +306,8 @@ impl<A: Allocator> Stack<A> {
         ensures stands { KeepsStanding frame.old frame.new self.old self.new }
         ensures stored { OnOk result (Stores frame.old frame.new self.old self.new index) }
         ensures refused { IfErr result (λ fault. (fault ≡ faults.NoSuchPlace) × (frame.new ≡ frame.old)) }
+        ensures none { OnErr result (((length self.old ≤ index + 1) × (self.new ≡ self.old))
+            ⊎ (self.old ≡ self.new ++ None ∷ [])) }
     {
         if index >= self.len().saturating_sub(1) {
             return Err(Fault::NoSuchPlace);

@@ -8,8 +8,7 @@ ghost use Rattle.brc_program.specs.Explanations.{why_line, condition_of as condi
 
 use crate::facts::{LineFact, put_facts};
 use brc_excerpt::{Excerpt, put_quoted};
-use brc_output::put_parts;
-use brc_text::{Keyword, put_bytes};
+use brc_text::{Keyword, put_bytes, put_parts};
 use brc_trace::{Cause, Refused, Why};
 use brc_words::Fault;
 use std::io::Write;

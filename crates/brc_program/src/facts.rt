@@ -8,8 +8,7 @@ ghost use Rattle.brc_program.specs.Explanations.{owner_text, fact_text};
 
 use crate::phrases::put_finer;
 use brc_core::{Hand, Refusal, Status, Step};
-use brc_output::put_parts;
-use brc_text::put_bytes;
+use brc_text::{put_bytes, put_parts};
 use brc_trace::{Finer, word_of_phase, word_of_state, word_of_status};
 use brc_words::{Fault, Kind, Owner, State};
 use itoa::Buffer;

@@ -5,7 +5,7 @@ ghost use Rattle.brc_text.specs.Puts.{PutsText};
 ghost use Rattle.brc_program.specs.Explanations.{phrase_text, own_phrase as own_words, told_phrase as told_words};
 ghost use Rattle.brc_program.specs.Explanations.{cell_phrase as cell_words, finer_phrase};
 
-use brc_output::put_parts;
+use brc_text::put_parts;
 use brc_trace::{CellReason, Finer, OwnReason, ToldReason};
 use brc_words::Fault;
 use itoa::Buffer;

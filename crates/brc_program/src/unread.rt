@@ -8,9 +8,8 @@ ghost use Rattle.brc_program.specs.Unreads.{unread_line, word_of};
 
 use crate::command::{behind_name, brc_command};
 use brc_excerpt::{Excerpt, put_quoted};
-use brc_output::put_parts;
 use brc_run_text::MOST_TURNS;
-use brc_text::{number_of, put_bytes};
+use brc_text::{number_of, put_bytes, put_parts};
 use brc_words::{FEWEST_CELLS, Fault, MOST_CELLS, MOST_LOCAL};
 use clap::error::ErrorKind;
 use clap::{ArgMatches, Error};

@@ -18,6 +18,7 @@ ghost use Rattle.brc_table.specs.Seated.{IsSameSeat};
 ghost use Rattle.brc_queue.specs.Queue.{IsEnqueued, hand_left};
 
 use brc_table::{HeapTable, ThreadSeat};
+use brc_words::is_closed_word;
 use std::alloc::Allocator;
 
 /// What became of a reference that was to go into a queue.
@@ -46,7 +47,7 @@ pub fn enqueue<A: Allocator>(
     ensures keeps { KeepsNotes table.now.cells seat.old.log seat.new.log }
 {
     let found = table.enqueue(seat, cell, owner);
-    if found >= 1 << 63 {
+    if is_closed_word(found) {
         Enqueued::Closed
     } else {
         Enqueued::Accepted

@@ -12,6 +12,28 @@ use brc_words::Fault;
 use std::alloc::{Allocator, Global};
 use std::sync::Wait;
 
+/// What the threads of one run share, and how much each works between two lines.
+pub(crate) struct RunContext<'s, G> {
+    pub(crate) alloc: Global,
+    pub(crate) heap: &'s Heap<Global>,
+    pub(crate) board: &'s Board<Global>,
+    pub(crate) gate: &'s G,
+    pub(crate) budget: usize,
+}
+
+// By hand, since a derive would ask the same of the gate.
+impl<'s, G> Drop for RunContext<'s, G> {
+    fn drop(self) {
+        let Self {
+            alloc: _alloc,
+            heap: _heap,
+            board: _board,
+            gate: _gate,
+            budget: _budget,
+        } = self;
+    }
+}
+
 /// What a section's thread hands back.
 #[derive(Drop)]
 pub(crate) struct Done<A: Allocator> {
@@ -68,33 +90,29 @@ pub(crate) fn register_all(
 }
 
 /// A section's thread, from its first step to its last: it runs the section, unless that counts as ended, and retires.
-pub(crate) fn run_one<R: Wait, G: Gate, A: Allocator + Copy>(
+pub(crate) fn run_one<R: Wait, G: Gate>(
     rt: &R,
-    alloc: A,
-    heap: &Heap<A>,
-    resting: Resting<A>,
-    section: &Section<A>,
+    context: &RunContext<'_, G>,
+    resting: Resting<Global>,
+    section: &Section<Global>,
     number: u32,
-    budget: usize,
-    board: &Board<A>,
-    gate: &G,
-) -> Done<A>
-    requires ready { IsReady heap.now resting }
-    ensures { CameBack heap.now (G.may_refuse gate.now) number section.now result }
+) -> Done<Global>
+    requires ready { IsReady context.now.heap.now resting }
+    ensures { CameBack context.now.heap.now (G.may_refuse context.now.gate.now) number section.now result }
 {
-    let mut mutator = resting.wake(heap);
-    let end = if board.has_ended(rt, number) {
+    let mut mutator = resting.wake(context.heap);
+    let end = if context.board.has_ended(rt, number) {
         None
     } else {
         Some(run_section(
             rt,
-            alloc,
+            context.alloc,
             &mut mutator,
             section,
             number,
-            budget,
-            board,
-            gate,
+            context.budget,
+            context.board,
+            context.gate,
         ))
     };
     Done {

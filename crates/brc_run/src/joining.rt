@@ -5,7 +5,7 @@ ghost use Rattle.brc_script.specs.declared.script.Section.{Section as section_da
 ghost use Rattle.brc_count.specs.table.Seated.{TableSeen};
 ghost use Rattle.brc_run.specs.Runs.{CameBack, IsBegun, IsReady, InOrder};
 
-use crate::crew::{Done, run_one};
+use crate::crew::{Done, RunContext, run_one};
 use crate::starting::{Begun, begin, end_from};
 use brc_heap::{Heap, Resting};
 use brc_script::Section;
@@ -20,22 +20,19 @@ use std::thread::{Scope, Threads};
 fn begin_each<'s, E: 's, R: Threads + Wait + Sync, G: Gate>(
     rt: &'s R,
     scope: &Scope<'s, E>,
-    alloc: Global,
-    heap: &'s Heap<Global>,
+    context: &RunContext<'s, G>,
     crew: Vec<Resting<Global>>,
     sections: &'s [Section<Global>],
-    budget: usize,
-    board: &'s Board<Global>,
-    gate: &'s G,
     begun: Vec<Begun<'s, G>>,
 ) -> Vec<Begun<'s, G>>
-    requires ready { All (IsReady heap.now) crew.items }
+    requires ready { All (IsReady context.now.heap.now) crew.items }
     requires crew { length crew.items ≡ length sections.now }
     requires few { length sections.now < 64 }
     requires none { begun.items ≡ [] }
     requires room { length sections.now ≤ vec_capacity begun }
 
-    ensures begun { InOrder (IsBegun heap.now gate.now (G.may_refuse gate.now)) 1 sections.now result.items }
+    ensures begun { InOrder (IsBegun context.now.heap.now context.now.gate.now (G.may_refuse context.now.gate.now)) 1
+        sections.now result.items }
 {
     let mut begun = begun;
     let mut crew = crew.into_iter();
@@ -44,9 +41,7 @@ fn begin_each<'s, E: 's, R: Threads + Wait + Sync, G: Gate>(
         let Some(resting) = crew.next() else {
             unreachable!()
         };
-        begun.push_reserved(begin(
-            rt, scope, alloc, heap, resting, section, number, budget, board, gate,
-        ));
+        begun.push_reserved(begin(rt, scope, context, resting, section, number));
         number += 1;
     }
     begun
@@ -76,24 +71,21 @@ fn join_each<R: Threads, G: Gate>(
 #[tactic(auto, using(crate::proofs::Ordered::none_yet, crate::proofs::Ordered::one_more, crate::proofs::Ordered::all_along, crate::proofs::One_Heap::first_at, crate::proofs::One_Heap::others_at))]
 fn leave_all_out<R: Wait, G: Gate>(
     rt: &R,
-    alloc: Global,
-    heap: &Heap<Global>,
+    context: &RunContext<'_, G>,
     crew: Vec<Resting<Global>>,
     sections: &[Section<Global>],
-    budget: usize,
-    board: &Board<Global>,
-    gate: &G,
     done: Vec<Done<Global>>,
 ) -> Vec<Done<Global>>
-    requires ready { All (IsReady heap.now) crew.items }
+    requires ready { All (IsReady context.now.heap.now) crew.items }
     requires crew { length crew.items ≡ length sections.now }
     requires few { length sections.now < 64 }
     requires none { done.items ≡ [] }
     requires room { length sections.now ≤ vec_capacity done }
 
-    ensures done { InOrder (CameBack heap.now (G.may_refuse gate.now)) 1 sections.now result.items }
+    ensures done { InOrder (CameBack context.now.heap.now (G.may_refuse context.now.gate.now)) 1 sections.now
+        result.items }
 {
-    end_from(rt, board, 1);
+    end_from(rt, context.board, 1);
     let mut done = done;
     let mut crew = crew.into_iter();
     let mut number = 1;
@@ -101,9 +93,7 @@ fn leave_all_out<R: Wait, G: Gate>(
         let Some(resting) = crew.next() else {
             unreachable!()
         };
-        done.push_reserved(run_one(
-            rt, alloc, heap, resting, section, number, budget, board, gate,
-        ));
+        done.push_reserved(run_one(rt, context, resting, section, number));
         number += 1;
     }
     done
@@ -113,31 +103,26 @@ fn leave_all_out<R: Wait, G: Gate>(
 fn run_in<'s, E: 's, R: Threads + Wait + Sync, G: Gate>(
     rt: &'s R,
     scope: &Scope<'s, E>,
-    alloc: Global,
-    heap: &'s Heap<Global>,
+    context: &RunContext<'s, G>,
     crew: Vec<Resting<Global>>,
     sections: &'s [Section<Global>],
-    budget: usize,
-    board: &'s Board<Global>,
-    gate: &'s G,
     done: Vec<Done<Global>>,
 ) -> Vec<Done<Global>>
-    requires ready { All (IsReady heap.now) crew.items }
+    requires ready { All (IsReady context.now.heap.now) crew.items }
     requires crew { length crew.items ≡ length sections.now }
     requires few { length sections.now < 64 }
     requires none { done.items ≡ [] }
     requires room { length sections.now ≤ vec_capacity done }
 
-    ensures done { InOrder (CameBack heap.now (G.may_refuse gate.now)) 1 sections.now result.items }
+    ensures done { InOrder (CameBack context.now.heap.now (G.may_refuse context.now.gate.now)) 1 sections.now
+        result.items }
 {
-    match Vec::with_capacity(alloc, sections.len()) {
+    match Vec::with_capacity(context.alloc, sections.len()) {
         Ok(begun) => {
-            let begun = begin_each(
-                rt, scope, alloc, heap, crew, sections, budget, board, gate, begun,
-            );
+            let begun = begin_each(rt, scope, context, crew, sections, begun);
             join_each(rt, begun, done)
         }
-        Err(_) => leave_all_out(rt, alloc, heap, crew, sections, budget, board, gate, done),
+        Err(_) => leave_all_out(rt, context, crew, sections, done),
     }
 }
 
@@ -173,9 +158,14 @@ pub(crate) fn run_all<R: Threads + Wait + Sync, G: Gate>(
             ensures done { InOrder (CameBack heap.entry.now (G.may_refuse gate.entry.now)) 1 sections.entry.now
                 result.items }
         {
-            run_in(
-                rt, scope, alloc, heap, crew, sections, budget, board, gate, done,
-            )
+            let context = RunContext {
+                alloc,
+                heap,
+                board,
+                gate,
+                budget,
+            };
+            run_in(rt, scope, &context, crew, sections, done)
         },
     )
 }

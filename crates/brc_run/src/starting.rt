@@ -5,7 +5,7 @@ ghost use Rattle.brc_script.specs.declared.script.Section.{Section as section_da
 ghost use Rattle.brc_count.specs.table.Seated.{TableSeen};
 ghost use Rattle.brc_run.specs.Runs.{CameBack, IsBegun, IsReady};
 
-use crate::crew::{Done, run_one};
+use crate::crew::{Done, RunContext, run_one};
 use brc_heap::{Heap, Resting};
 use brc_script::Section;
 use brc_section::{Board, Gate};
@@ -76,27 +76,28 @@ pub(crate) fn end_from(rt: &impl Wait, board: &Board<Global>, number: u32) {
 }
 
 /// Begins a section: on a thread of its own, if no thread was refused before. Where none can be had now, this section and
-/// those after it count as ended.
+/// those after it count as ended. The thread takes the context's parts along one by one, since what it promises is said of
+/// each.
 pub(crate) fn begin<'s, E: 's, R: Threads + Wait + Sync, G: Gate>(
     rt: &'s R,
     scope: &Scope<'s, E>,
-    alloc: Global,
-    heap: &'s Heap<Global>,
+    context: &RunContext<'s, G>,
     resting: Resting<Global>,
     section: &'s Section<Global>,
     number: u32,
-    budget: usize,
-    board: &'s Board<Global>,
-    gate: &'s G,
 ) -> Begun<'s, G>
-    requires ready { IsReady heap.now resting }
-    ensures { IsBegun heap.now gate.now (G.may_refuse gate.now) number section.now result }
+    requires ready { IsReady context.now.heap.now resting }
+    ensures { IsBegun context.now.heap.now context.now.gate.now (G.may_refuse context.now.gate.now) number section.now
+        result }
 {
-    if board.has_ended(rt, number) {
-        return Begun::LeftOut(run_one(
-            rt, alloc, heap, resting, section, number, budget, board, gate,
-        ));
+    if context.board.has_ended(rt, number) {
+        return Begun::LeftOut(run_one(rt, context, resting, section, number));
     }
+    let alloc = context.alloc;
+    let heap = context.heap;
+    let board = context.board;
+    let gate = context.gate;
+    let budget = context.budget;
     let given = Given {
         number,
         heap,
@@ -109,9 +110,14 @@ pub(crate) fn begin<'s, E: 's, R: Threads + Wait + Sync, G: Gate>(
             requires ready { IsReady heap.now resting }
             ensures done { CameBack heap.entry.now (G.may_refuse gate.entry.now) number section.entry.now result }
         {
-            run_one(
-                rt, alloc, heap, resting, section, number, budget, board, gate,
-            )
+            let context = RunContext {
+                alloc,
+                heap,
+                board,
+                gate,
+                budget,
+            };
+            run_one(rt, &context, resting, section, number)
         },
     );
     match started {

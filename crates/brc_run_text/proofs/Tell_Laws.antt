@@ -6,7 +6,7 @@ use Rattle.brc_script.specs.declared.script.Section.{Section}
 use Rattle.brc_run.specs.Words.{SectionEnd}
 use Rattle.brc_report.specs.declared.report.Report.{Report}
 use Rattle.brc_report.specs.Texts.{report_text}
-use Rattle.brc_output.specs.Sections.{section_text}
+use Rattle.brc_run_text.specs.Sections.{section_text}
 use Rattle.brc_run_text.specs.Tellings.{sections_text, run_text}
 
 no_ends : {A : Type 0} (B : Type 0) (sections : List (Section A)) → sections_text {B = B} sections [] ≡ []

@@ -4,7 +4,7 @@ use Rattle.brc_script.specs.declared.script.Section.{Section}
 use Rattle.brc_run.specs.Words.{SectionEnd}
 use Rattle.brc_report.specs.declared.report.Report.{Report}
 use Rattle.brc_report.specs.Texts.{report_text}
-use Rattle.brc_output.specs.Sections.{section_text}
+use Rattle.brc_run_text.specs.Sections.{section_text}
 
 module _ {A B : Type 0} where
   -- the sections in the script's order: what each printed, and the fault that ended it

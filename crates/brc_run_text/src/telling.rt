@@ -5,7 +5,7 @@ ghost use Rattle.std.specs.List.{list_any};
 ghost use Rattle.brc_text.specs.Puts.{PutsText};
 ghost use Rattle.brc_run_text.specs.Tellings.{sections_text, run_text, ends_by_fault};
 
-use brc_output::write_section;
+use crate::section::write_section;
 use brc_report::write_report;
 use brc_run::{RunReport, SectionEnd};
 use brc_script::{Script, Section};

@@ -7,9 +7,9 @@ ghost use Rattle.brc_run_text.specs.Scripts_Run.{Runs};
 
 use crate::ended::RunEnded;
 use crate::telling::{has_fault, write_run};
-use brc_input::read_input;
 use brc_run::{Gate, RunOptions, run_sections};
 use brc_script::parse;
+use brc_text::read_input;
 use brc_words::Fault;
 use std::alloc::Global;
 use std::io::{Read, Write};

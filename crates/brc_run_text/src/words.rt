@@ -4,9 +4,8 @@ ghost use Rattle.brc_run_text.specs.Notes.{PutsSome};
 
 use crate::phrases::Phrase;
 use brc_excerpt::{Excerpt, put_quoted};
-use brc_output::put_parts;
 use brc_script::Register;
-use brc_text::put_bytes;
+use brc_text::{put_bytes, put_parts};
 use brc_words::{Fault, Text};
 use itoa::Buffer;
 use std::alloc::Allocator;

@@ -36,6 +36,24 @@ pub(crate) struct Halt {
     pub(crate) line: u32,
 }
 
+/// What each line of one section is run with: who asks for memory, whose section it is, and the gate before each line.
+pub(crate) struct LineContext<'c, G, A: Allocator + Copy> {
+    pub(crate) alloc: A,
+    pub(crate) seated: &'c SectionContext<'c, A>,
+    pub(crate) gate: &'c G,
+}
+
+// By hand, since a derive would ask the same of the gate.
+impl<'c, G, A: Allocator + Copy> Drop for LineContext<'c, G, A> {
+    fn drop(self) {
+        let Self {
+            alloc: _alloc,
+            seated: _seated,
+            gate: _gate,
+        } = self;
+    }
+}
+
 /// What was shown, as one line more; OutOfMemory where it can't be had. A fault stays a fault.
 #[inline(always)]
 fn note<A: Allocator>(lines: &mut Vec<u8, A>, read: Result<Shown<A>, Fault>) -> Done
@@ -123,32 +141,42 @@ fn do_line<R: Wait, H: HasTable<A>, A: Allocator + Copy>(
 #[inline(always)]
 fn run_line<R: Wait, G: Gate, H: HasTable<A>, A: Allocator + Copy>(
     rt: &R,
-    alloc: A,
     frame: &mut Frame<H, A>,
     registers: &mut Registers<A>,
     lines: &mut Vec<u8, A>,
     line: &Line<A>,
     key: Option<&Key<A>>,
-    seated: &SectionContext<'_, A>,
-    gate: &G,
+    context: &LineContext<'_, G, A>,
 ) -> Result<(), Halt>
     requires stands { OwnsRegisters frame.old registers.old }
     ensures stands { OwnsRegisters frame.new registers.new }
     ensures heap { frame.new.heap ≡ frame.old.heap }
     ensures line { IfErr result (λ halt. line.now.number ≡ halt.line) }
-    ensures busy { IfErr result (λ halt. halt.fault ≡ faults.Busy → G.may_refuse gate.now seated.now.number halt.line) }
+    ensures busy { IfErr result (λ halt. halt.fault ≡ faults.Busy
+        → G.may_refuse context.now.gate.now context.now.seated.now.number halt.line) }
     ensures runs { RunsOn frame.old registers.old lines.old.items frame.new registers.new lines.new.items
         (line.now ∷ []) result }
     ensures wants { AreOwn (line.now ∷ []) → HaltsForCause frame.old frame.new result }
 {
     let number = line.number();
+    let gate = context.gate;
+    let seated = context.seated;
     if !gate.at(rt, seated.number, number) {
         return Err(Halt {
             fault: Fault::Busy,
             line: number,
         });
     }
-    match do_line(rt, alloc, frame, registers, lines, line, key, seated) {
+    match do_line(
+        rt,
+        context.alloc,
+        frame,
+        registers,
+        lines,
+        line,
+        key,
+        seated,
+    ) {
         Ok(()) => {
             tell_made(gate, seated.number, line, frame, registers);
             Ok(())
@@ -166,26 +194,25 @@ fn run_line<R: Wait, G: Gate, H: HasTable<A>, A: Allocator + Copy>(
 /// These lines in order, up to the first fault.
 fn run_lines<R: Wait, G: Gate, H: HasTable<A>, A: Allocator + Copy>(
     rt: &R,
-    alloc: A,
     frame: &mut Frame<H, A>,
     registers: &mut Registers<A>,
     lines: &mut Vec<u8, A>,
     body: &[Line<A>],
     keys: &[Option<Key<A>>],
-    seated: &SectionContext<'_, A>,
-    gate: &G,
+    context: &LineContext<'_, G, A>,
 ) -> Result<(), Halt>
     requires stands { OwnsRegisters frame.old registers.old }
     ensures stands { OwnsRegisters frame.new registers.new }
     ensures heap { frame.new.heap ≡ frame.old.heap }
     ensures line { IfErr result (λ halt. IsLineIn halt.line body.now) }
-    ensures busy { IfErr result (λ halt. halt.fault ≡ faults.Busy → G.may_refuse gate.now seated.now.number halt.line) }
+    ensures busy { IfErr result (λ halt. halt.fault ≡ faults.Busy
+        → G.may_refuse context.now.gate.now context.now.seated.now.number halt.line) }
     ensures runs { RunsOn frame.old registers.old lines.old.items frame.new registers.new lines.new.items body.now result }
     ensures wants { AreOwn body.now → HaltsForCause frame.old frame.new result }
 {
     for (at, line) in body.iter().enumerate() {
         let key = name_at(keys, at);
-        match run_line(rt, alloc, frame, registers, lines, line, key, seated, gate) {
+        match run_line(rt, frame, registers, lines, line, key, context) {
             Ok(()) => {}
             Err(halt) => return Err(halt),
         }
@@ -196,28 +223,27 @@ fn run_lines<R: Wait, G: Gate, H: HasTable<A>, A: Allocator + Copy>(
 /// These lines so many times, up to the first fault.
 fn run_times<R: Wait, G: Gate, H: HasTable<A>, A: Allocator + Copy>(
     rt: &R,
-    alloc: A,
     frame: &mut Frame<H, A>,
     registers: &mut Registers<A>,
     lines: &mut Vec<u8, A>,
     times: u32,
     body: &[Line<A>],
     keys: &[Option<Key<A>>],
-    seated: &SectionContext<'_, A>,
-    gate: &G,
+    context: &LineContext<'_, G, A>,
 ) -> Result<(), Halt>
     requires stands { OwnsRegisters frame.old registers.old }
     ensures stands { OwnsRegisters frame.new registers.new }
     ensures heap { frame.new.heap ≡ frame.old.heap }
     ensures line { IfErr result (λ halt. IsLineIn halt.line body.now) }
-    ensures busy { IfErr result (λ halt. halt.fault ≡ faults.Busy → G.may_refuse gate.now seated.now.number halt.line) }
+    ensures busy { IfErr result (λ halt. halt.fault ≡ faults.Busy
+        → G.may_refuse context.now.gate.now context.now.seated.now.number halt.line) }
     ensures runs { RunsOn frame.old registers.old lines.old.items frame.new registers.new lines.new.items
         (repeat times body.now) result }
     ensures wants { AreOwn (repeat times body.now) → HaltsForCause frame.old frame.new result }
 {
     for turn in 0..times {
         let _done = turn;
-        match run_lines(rt, alloc, frame, registers, lines, body, keys, seated, gate) {
+        match run_lines(rt, frame, registers, lines, body, keys, context) {
             Ok(()) => {}
             Err(halt) => return Err(halt),
         }
@@ -228,20 +254,19 @@ fn run_times<R: Wait, G: Gate, H: HasTable<A>, A: Allocator + Copy>(
 /// A piece of the section, up to the first fault.
 fn run_piece<R: Wait, G: Gate, H: HasTable<A>, A: Allocator + Copy>(
     rt: &R,
-    alloc: A,
     frame: &mut Frame<H, A>,
     registers: &mut Registers<A>,
     lines: &mut Vec<u8, A>,
     piece: &Piece<A>,
     keys: &[Option<Key<A>>],
-    seated: &SectionContext<'_, A>,
-    gate: &G,
+    context: &LineContext<'_, G, A>,
 ) -> Result<(), Halt>
     requires stands { OwnsRegisters frame.old registers.old }
     ensures stands { OwnsRegisters frame.new registers.new }
     ensures heap { frame.new.heap ≡ frame.old.heap }
     ensures line { IfErr result (λ halt. IsLineOf halt.line (piece.now ∷ [])) }
-    ensures busy { IfErr result (λ halt. halt.fault ≡ faults.Busy → G.may_refuse gate.now seated.now.number halt.line) }
+    ensures busy { IfErr result (λ halt. halt.fault ≡ faults.Busy
+        → G.may_refuse context.now.gate.now context.now.seated.now.number halt.line) }
     ensures runs { RunsOn frame.old registers.old lines.old.items frame.new registers.new lines.new.items
         (written_out (piece.now ∷ [])) result }
     ensures wants { AreOwn (written_out (piece.now ∷ [])) → HaltsForCause frame.old frame.new result }
@@ -249,19 +274,17 @@ fn run_piece<R: Wait, G: Gate, H: HasTable<A>, A: Allocator + Copy>(
     match piece {
         Piece::One(line) => {
             let key = name_at(keys, 0);
-            run_line(rt, alloc, frame, registers, lines, line, key, seated, gate)
+            run_line(rt, frame, registers, lines, line, key, context)
         }
         Piece::Repeat { times, lines: body } => run_times(
             rt,
-            alloc,
             frame,
             registers,
             lines,
             *times,
             body.as_slice(),
             keys,
-            seated,
-            gate,
+            context,
         ),
     }
 }
@@ -270,29 +293,26 @@ fn run_piece<R: Wait, G: Gate, H: HasTable<A>, A: Allocator + Copy>(
 #[tactic(auto, using(crate::proofs::Lines_In::piece_at))]
 pub(crate) fn run_pieces<R: Wait, G: Gate, H: HasTable<A>, A: Allocator + Copy>(
     rt: &R,
-    alloc: A,
     frame: &mut Frame<H, A>,
     registers: &mut Registers<A>,
     lines: &mut Vec<u8, A>,
     pieces: &[Piece<A>],
     names: &Names<A>,
-    seated: &SectionContext<'_, A>,
-    gate: &G,
+    context: &LineContext<'_, G, A>,
 ) -> Result<(), Halt>
     requires stands { OwnsRegisters frame.old registers.old }
     ensures stands { OwnsRegisters frame.new registers.new }
     ensures heap { frame.new.heap ≡ frame.old.heap }
     ensures line { IfErr result (λ halt. IsLineOf halt.line pieces.now) }
-    ensures busy { IfErr result (λ halt. halt.fault ≡ faults.Busy → G.may_refuse gate.now seated.now.number halt.line) }
+    ensures busy { IfErr result (λ halt. halt.fault ≡ faults.Busy
+        → G.may_refuse context.now.gate.now context.now.seated.now.number halt.line) }
     ensures runs { RunsOn frame.old registers.old lines.old.items frame.new registers.new lines.new.items
         (written_out pieces.now) result }
     ensures wants { AreOwn (written_out pieces.now) → HaltsForCause frame.old frame.new result }
 {
     for (at, piece) in pieces.iter().enumerate() {
         let keys = names.piece(at);
-        match run_piece(
-            rt, alloc, frame, registers, lines, piece, keys, seated, gate,
-        ) {
+        match run_piece(rt, frame, registers, lines, piece, keys, context) {
             Ok(()) => {}
             Err(halt) => return Err(halt),
         }

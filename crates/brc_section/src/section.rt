@@ -15,7 +15,7 @@ ghost use Rattle.brc_section.specs.Isolation.{is_own_end, Prints};
 
 use crate::board::Board;
 use crate::gate::Gate;
-use crate::running::{Halt, run_pieces};
+use crate::running::{Halt, LineContext, run_pieces};
 use crate::shared_names::Names;
 use crate::waiting::SectionContext;
 use brc_count::Frame;
@@ -118,17 +118,12 @@ fn run_over<R: Wait, G: Gate, H: HasTable<A>, A: Allocator + Copy>(
         Err(fault) => return Some(Halt { fault, line: first }),
     };
     let names = Names::of(alloc, section);
-    let ran = run_pieces(
-        rt,
+    let context = LineContext {
         alloc,
-        frame,
-        &mut registers,
-        lines,
-        pieces,
-        &names,
         seated,
         gate,
-    );
+    };
+    let ran = run_pieces(rt, frame, &mut registers, lines, pieces, &names, &context);
     registers.release_all(frame);
     halt_of(ran)
 }

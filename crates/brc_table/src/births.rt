@@ -23,7 +23,7 @@ use crate::moving::{claim_by, give, give_bit, put_in};
 use crate::seats::ThreadSeat;
 use crate::table::HeapTable;
 use brc_block::Block;
-use brc_words::Kind;
+use brc_words::{Kind, NO_COUNT};
 use law::known::{Field, Word};
 use law::world::Step;
 use std::alloc::Allocator;
@@ -90,7 +90,7 @@ impl<A: Allocator> HeapTable<A> {
     {
         let word = Word::Of(Field::Shared, cell);
         let step = Step::InitShared(cell);
-        store(self, &mut seat.place, word, 1 << 42, step);
+        store(self, &mut seat.place, word, NO_COUNT, step);
     }
 
     /// Birth: the block is put home, and the place of the frame has the first reference to it.

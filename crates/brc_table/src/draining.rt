@@ -14,6 +14,7 @@ use crate::layout::spot_of;
 use crate::machine::Place;
 use crate::table::HeapTable;
 use atomic_table::Play;
+use brc_words::CLOSED_BIT;
 use law::known::Word;
 use law::rule::View;
 use law::world::Step;
@@ -90,5 +91,5 @@ pub(crate) fn take_and_close<A: Allocator, M: Draining>(
     table
         .table
         .shared
-        .fetch_or::<LogDrains<M>>(seat, at, 1 << 63)
+        .fetch_or::<LogDrains<M>>(seat, at, CLOSED_BIT)
 }

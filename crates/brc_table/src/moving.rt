@@ -29,6 +29,7 @@ use crate::machine::Place;
 use crate::table::HeapTable;
 use atomic_table::Play;
 use brc_block::Block;
+use brc_words::NO_COUNT;
 use law::known::{Field, Word};
 use law::rule::View;
 use law::world::Step;
@@ -198,7 +199,7 @@ fn takes(step: Step, number: u64) -> bool
     ensures { result ≡ takes_block step (cell_told step number) }
 {
     match step {
-        Step::SeeZero(_) => number == 1 << 42,
+        Step::SeeZero(_) => number == NO_COUNT,
         Step::MergeZero(_) | Step::MergeAdd(_) => number / 4 == 1 << 40,
         Step::LastDown(_) => number % 2 == 1 && number / 4 == (1 << 40) + 1,
         _ => false,

@@ -14,7 +14,7 @@ ghost use Rattle.brc_table.specs.Shown.{contents_of};
 use crate::layout::{COUNTS_FROM, bit, extent, free_words_for as free_words};
 use brc_block::{Block, Pairs, Payload};
 use brc_words::{
-    FEWEST_CELLS, FIRST_MORTAL, Fault, GLOBALS, IMMORTAL_LOCAL, MOST_CELLS, MOST_LOCAL,
+    FEWEST_CELLS, FIRST_MORTAL, Fault, GLOBALS, IMMORTAL_LOCAL, MOST_CELLS, MOST_LOCAL, NO_COUNT,
 };
 use std::alloc::{AllocError, AllocFailed, Allocator};
 
@@ -77,7 +77,7 @@ pub(crate) fn opening_words<A: Allocator>(alloc: A, cells: u32) -> Result<Vec<u6
     for cell in 0..cells {
         let counts = COUNTS_FROM + cell as usize * 16;
         made[counts] = opening_local(cell);
-        made[counts + 8] = 1 << 42;
+        made[counts + 8] = NO_COUNT;
     }
     Ok(made)
 }

@@ -3,3 +3,4 @@ pub mod KeywordLaws
 pub mod TokenLaws
 pub mod LineLaws
 pub mod PutLaws
+mod Input_Read

@@ -5,3 +5,4 @@ pub mod Tokens
 pub mod Lines
 pub mod Puts
 pub mod Headed
+pub mod Parts

@@ -1,4 +1,5 @@
-//! What all texts of the heap share: numbers, words, the tokens of a line, lines, and putting a text to a writer.
+//! What all texts of the heap share: numbers, words, the tokens of a line, lines, reading an input whole, and putting
+//! a text, or several, to a writer.
 //!
 //! A text has one spelling: what a reader here takes is what the writer here puts, byte for byte. The readers equal
 //! the definitions of `specs/`; that these read again what is spelled, and nothing else, is `proofs/NumberLaws.antt`,
@@ -9,12 +10,16 @@ mod headed;
 mod keyword;
 mod line;
 mod number;
+mod parts;
 mod putting;
 mod token;
+mod whole_input;
 
 pub use headed::{put_headed_line, put_numbers_line};
 pub use keyword::Keyword;
 pub use line::Words;
 pub use number::number_of;
+pub use parts::put_parts;
 pub use putting::{put_bytes, put_line};
 pub use token::{Letter, Token};
+pub use whole_input::read_input;

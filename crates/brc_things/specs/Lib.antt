@@ -1,1 +1,5 @@
 pub mod Makers
+pub mod Looking
+pub mod Changing
+pub mod Called
+pub mod History

@@ -13,7 +13,7 @@ use Rattle.brc_count.specs.Frames.{FrameSeen, HandleSeen, IsAsBefore, ReleasedOf
 use Rattle.brc_count.specs.Locking.{Began, UnlockedBy, KeepsThread, KeepsFrame, ChangesPlace, cell_in, contents_found}
 use Rattle.brc_count.specs.Locking.{entries_found}
 use Rattle.brc_count.specs.Owned.{Keeps, Gains, Loses}
-use Rattle.brc_containers.specs.Changing.{Changes}
+use Rattle.brc_things.specs.Changing.{Changes}
 use Rattle.brc_lock.proofs.Kept.{thread_kept_on}
 use Rattle.brc_thread.specs.Clearing.{TakesLast, TakesSome, OneTake}
 use Rattle.brc_thread.proofs.Payloads.{entries_shown, kind_shown}

@@ -46,7 +46,7 @@ impl<H: HasTable<A>, A: Allocator> Mutator<H, A> {
 
     /// Its frame, over which objects are made, retained and released.
     pub fn frame(&mut self) -> &mut Frame<H, A>
-        ensures* lends { sem 𝓛 (lends_frame H.row A.row H.Home A.Allocator self.entry result) }
+        ensures* lends { sem 𝓛 (lends_frame H.row A.row H.HasTable A.Allocator self.entry result) }
         ensures frame { result.now ≡ self.old }
     {
         &mut self.frame

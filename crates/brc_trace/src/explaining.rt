@@ -17,7 +17,7 @@ use crate::standing::{Standing, seen};
 use crate::trace::Trace;
 use crate::trace_reading::{head_number, read_trace};
 use brc_core::{Event, Refusal, StepFault, World};
-use brc_input::read_input;
+use brc_text::read_input;
 use brc_words::{Fault, MOST_INPUT, Reason};
 use std::alloc::{AllocError, Allocator};
 use std::io::{Read, Write};

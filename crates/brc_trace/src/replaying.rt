@@ -4,7 +4,7 @@ ghost use Rattle.brc_trace.specs.Replaying.{Replays};
 
 use crate::trace_steps::world_of;
 use crate::world_text::write_world;
-use brc_input::read_input;
+use brc_text::read_input;
 use brc_words::Fault;
 use std::alloc::Allocator;
 use std::io::{Read, Write};

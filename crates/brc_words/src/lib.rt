@@ -8,6 +8,7 @@ mod fault;
 mod key;
 mod kind;
 mod limits;
+mod look;
 mod owner;
 mod state;
 
@@ -18,6 +19,9 @@ pub use limits::{
     COUNTED_FROM, FEWEST_CELLS, FIRST_MORTAL, GLOBALS, IMMORTAL_LOCAL, MOST_BIRTHS, MOST_CELLS,
     MOST_ENTRIES, MOST_EVENTS, MOST_INPUT, MOST_LOCAL, MOST_PLACES, MOST_REGISTRATIONS,
     MOST_THREADS,
+};
+pub use look::{
+    CLOSED_BIT, NO_COUNT, ONE_COUNT, has_count, is_closed_word, is_merged_word, is_risen_word,
 };
 pub use owner::{Owner, OwnerWord};
 pub use state::{State, count_of, shared_word, state_of};

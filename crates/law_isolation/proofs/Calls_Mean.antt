@@ -11,8 +11,8 @@ use Rattle.brc_words.specs.declared.kind.Kind.TheVariants as kinds
 use Rattle.brc_count.specs.declared.handed.HandedBack.{HandedBack}
 use Rattle.brc_count.specs.Frames.{FrameSeen, HandleSeen}
 use Rattle.brc_handles.specs.Handles.{slot, IsApart}
-use Rattle.brc_containers.specs.Called.{Late}
-use Rattle.brc_containers.specs.Looking.{LenOf, IntOf, TextOf, KindOf}
+use Rattle.brc_things.specs.Called.{Late}
+use Rattle.brc_things.specs.Looking.{LenOf, IntOf, TextOf, KindOf}
 use Rattle.brc_lists.specs.Calls.{ListPush, ListPop, ListGet, ListSet, MailboxSend, MailboxReceive}
 use Rattle.brc_dicts.specs.Calls.{DictPut, DictFind, DictDel}
 use Rattle.brc_meaning.specs.declared.reference.Reference.{Reference}
@@ -22,7 +22,7 @@ use Rattle.brc_meaning.specs.declared.object.Object.TheVariants as objects
 use Rattle.brc_meaning.specs.declared.state.State.{State}
 use Rattle.brc_meaning.specs.Objects.{object_call, keyed_call, entries_in, number_in}
 use Rattle.brc_count.specs.law.living.Living.{OwnLog}
-use Rattle.brc_containers.specs.Changing.{PlainCall, RefusedPlainly}
+use Rattle.brc_things.specs.Changing.{PlainCall, RefusedPlainly}
 use Rattle.brc_lists.specs.Plain.{plain_push, plain_pop, plain_get, plain_set, plain_send, plain_receive}
 use Rattle.brc_dicts.specs.Plain.{plain_put, plain_find, plain_del}
 use Rattle.brc_dicts.specs.Putting.{RefusedPair}

@@ -10,7 +10,7 @@ use Rattle.brc_count.specs.law.rule.declared.contents.Contents.{Contents}
 use Rattle.brc_count.specs.Frames.{FrameSeen, HandleSeen}
 use Rattle.brc_count.specs.Locking.{cell_in}
 use Rattle.brc_handles.specs.Handles.{slot}
-use Rattle.brc_containers.specs.Changing.{PlainCall, RefusedPlainly}
+use Rattle.brc_things.specs.Changing.{PlainCall, RefusedPlainly}
 use Rattle.brc_plain.specs.Outcomes.{or_fault}
 use Rattle.brc_meaning.specs.declared.reference.Reference.{Reference}
 use Rattle.brc_meaning.specs.declared.reference.Reference.TheVariants as references

@@ -12,9 +12,9 @@ use Rattle.brc_count.specs.Locking.{KeepsFrame, cell_in}
 use Rattle.brc_handles.specs.Handles.{slot, IsApart}
 use Rattle.brc_lock.specs.Waiting.{Waits}
 use Rattle.brc_lock.proofs.Kept.{waits_frame}
-use Rattle.brc_containers.specs.Called.{Late}
-use Rattle.brc_containers.specs.Changing.{PlainCall, CallPuts, Swaps, CallTakes, Shares, RefusedPlainly, RefusedCall}
-use Rattle.brc_containers.specs.Changing.{RefusedEntry, RefusedPlace, KeepsAllPlaces}
+use Rattle.brc_things.specs.Called.{Late}
+use Rattle.brc_things.specs.Changing.{PlainCall, CallPuts, Swaps, CallTakes, Shares, RefusedPlainly, RefusedCall}
+use Rattle.brc_things.specs.Changing.{RefusedEntry, RefusedPlace, KeepsAllPlaces}
 use Rattle.brc_lists.specs.Calls.{PutsValue, SwapsValue, TakesEntry, SharesEntry}
 use Rattle.brc_meaning.specs.declared.reference.Reference.{Reference}
 use Rattle.brc_meaning.specs.declared.object.Object.{Object}

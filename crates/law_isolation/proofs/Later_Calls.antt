@@ -15,10 +15,10 @@ use Rattle.brc_count.specs.biased.Seeking.{ClaimsAround, PassesOver}
 use Rattle.brc_count.specs.Making.{Made}
 use Rattle.brc_count.specs.law.rule.Seen.{counts_seen}
 use Rattle.brc_lock.specs.Waiting.{Waits, IsBusy}
-use Rattle.brc_containers.specs.Called.{Late}
-use Rattle.brc_containers.specs.Changing.{PlainCall, Changes, CallPuts, Swaps, CallTakes, Shares, RefusedPlainly}
-use Rattle.brc_containers.specs.Changing.{RefusedForWant}
-use Rattle.brc_containers.specs.Looking.{LooksAt}
+use Rattle.brc_things.specs.Called.{Late}
+use Rattle.brc_things.specs.Changing.{PlainCall, Changes, CallPuts, Swaps, CallTakes, Shares, RefusedPlainly}
+use Rattle.brc_things.specs.Changing.{RefusedForWant}
+use Rattle.brc_things.specs.Looking.{LooksAt}
 use Rattle.brc_count.specs.law.living.Later.{IsLater}
 use Rattle.brc_count.proofs.law.living.Earlier.{later_same, later_one, later_both, later_is}
 

@@ -19,9 +19,9 @@ use Rattle.brc_count.specs.Locking.{KeepsThread, KeepsFrame}
 use Rattle.brc_handles.specs.Handles.{slot}
 use Rattle.brc_lock.specs.Waiting.{Waits}
 use Rattle.brc_lock.proofs.Kept.{waits_frame}
-use Rattle.brc_containers.specs.Looking.{IsInt, IsText, HoldsContainer, LooksAt, RefusedLook, RefusedCopy, LenOf, IntOf}
-use Rattle.brc_containers.specs.Looking.{TextOf, KindOf}
-use Rattle.brc_containers.specs.Called.{Late}
+use Rattle.brc_things.specs.Looking.{IsInt, IsText, HoldsContainer, LooksAt, RefusedLook, RefusedCopy, LenOf, IntOf}
+use Rattle.brc_things.specs.Looking.{TextOf, KindOf}
+use Rattle.brc_things.specs.Called.{Late}
 use Rattle.brc_meaning.specs.declared.reference.Reference.{Reference}
 use Rattle.brc_meaning.specs.declared.object.Object.{Object}
 use Rattle.brc_meaning.specs.declared.object.Object.TheVariants as objects

@@ -5,6 +5,7 @@ use Rattle.std.specs.Prelude.{◌≡◌, ℕ, ◌+◌, ◌-◌, ◌*◌, ◌/◌
 use Rattle.std.specs.Prelude.{negsuc, ◌-ℤ◌, List, [], ◌∷◌, length, replicate, bit_or, Option, Some, None, slice_set}
 use Rattle.std.specs.Prelude.{◌^◌, ◌≤◌, ◌<◌}
 use Rattle.brc_words.specs.declared.limits.TheConstants.{MOST_THREADS}
+use Rattle.brc_words.specs.declared.look.TheConstants.{CLOSED_BIT}
 use Rattle.brc_words.specs.Owners.{word_of}
 use Rattle.brc_words.specs.Shared.{bits_of}
 use Rattle.brc_words.specs.declared.state.State.{State}
@@ -52,7 +53,7 @@ word_in Mutex x = x.mutex
 
 -- bit 63 says that a queue word is closed
 abbrev pub closing_bit : Bool → ℕ
-closing_bit true = 9223372036854775808
+closing_bit true = CLOSED_BIT
 closing_bit false = 0
 
 abbrev pub spelled : Heap → Word → ℕ
@@ -123,7 +124,7 @@ meets_closed h _ = false
 
 -- In a closed queue word the other bits mean nothing: who was late leaves a bit in it, so nothing is told but bit 63.
 abbrev pub ToldBy : Bool → ℕ → ℕ → Type 0
-ToldBy true word number = 9223372036854775808 ≤ number
+ToldBy true word number = CLOSED_BIT ≤ number
 ToldBy false word number = number ≡ word
 
 -- the number is one that a thread's step may be told
@@ -267,7 +268,7 @@ cell_told (LocalDown drop) number = record no_cell { local = number + 1 }
 cell_told s number = record no_cell { count = count_told number; state = state_told number }
 
 abbrev pub is_shut_word : ℕ → Bool
-is_shut_word number = nat_le 9223372036854775808 number
+is_shut_word number = nat_le CLOSED_BIT number
 
 -- the bits of a queue word that were taken
 abbrev pub popped_told : Option ℕ → ℕ → List ℕ → List ℕ

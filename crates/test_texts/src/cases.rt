@@ -1,4 +1,4 @@
-//! A file of cases, read.
+//! A file of cases, read. A case that could never be run isn't skipped: a file that has one isn't read.
 
 use std::alloc::{AllocError, Global};
 use std::io::{self, Error, ErrorKind};
@@ -58,7 +58,7 @@ fn copies(alloc: Global, ways: &[String]) -> Result<Vec<String>, AllocError> {
 }
 
 /// A file that isn't written as it should be.
-fn no_case<T>() -> io::Result<T> {
+pub(crate) fn no_case<T>() -> io::Result<T> {
     Err(Error::from(ErrorKind::InvalidData))
 }
 
@@ -84,6 +84,17 @@ impl Reader {
         Ok(())
     }
 
+    /// Cases that follow are run so many times, and not never.
+    fn goes_so_often(&mut self, times: &str) -> io::Result<()> {
+        match times.parse::<u32>() {
+            Ok(0) | Err(_) => no_case(),
+            Ok(times) => {
+                self.times = times;
+                Ok(())
+            }
+        }
+    }
+
     /// A new case or piece, without a line.
     fn begin(&mut self, alloc: Global, name: &str, ways: Vec<String>) -> Result<(), AllocError> {
         self.cases.push(Case {
@@ -101,8 +112,9 @@ impl Reader {
         match mark {
             "" | "#" => {}
             "by" => self.goes_by(alloc, rest)?,
-            "times" => self.times = rest.parse::<u32>().unwrap_or(0),
+            "times" => self.goes_so_often(rest)?,
             "piece" => self.begin(alloc, rest, Vec::new(alloc))?,
+            "case" if self.ways.is_empty() => return no_case(),
             "case" => {
                 let ways = copies(alloc, self.ways.as_slice())?;
                 self.begin(alloc, rest, ways)?;
@@ -113,7 +125,8 @@ impl Reader {
         Ok(())
     }
 
-    /// A line of the last case: one of its text, one that must come out, or a piece of its text.
+    /// A line of the last case: one of its text, one that must come out, or a piece of its text. Of a piece nothing must
+    /// come out, since it isn't run.
     fn add(&mut self, alloc: Global, mark: &str, rest: &str) -> io::Result<()> {
         let piece = if mark == "+" {
             text_of(alloc, self.cases.as_slice(), rest)?
@@ -125,6 +138,7 @@ impl Reader {
         };
         match mark {
             "|" => add_line(&mut last.text, rest)?,
+            ">" if last.ways.is_empty() => return no_case(),
             ">" => add_line(&mut last.wanted, rest)?,
             "+" => last.text.push_str(piece.as_str())?,
             _ => return no_case(),

@@ -1,132 +1,110 @@
-//! The examples, run: each trace of `data/examples/` is replayed, and its world compared with the text that stands beside
-//! it; each script is run as its first line says, and its output compared; two texts are drawn, and the pictures compared.
+//! The examples of `data/examples/LIST`, run by the program: what it writes is compared with the file that stands beside
+//! its input, and its status with that of the list.
 
-use crate::asked::{SCRIPTS, read_script, tell};
-use crate::library::count_and_holders;
-use crate::programs::running;
+use crate::listed::{Kind, Listed, read_listed};
+use crate::tell_right;
 use brc_program::program;
-use brc_trace::run_replay;
-use brc_words::{Fault, Reason};
 use std::alloc::AllocGlobal;
 use std::io::Print;
 use std::rt::Files;
 use std::sync::Wait;
 use std::thread::Threads;
-use std::{fs, io};
+use std::{fs, io, str};
 
-/// The traces, by name.
-const NAMES: [&str; 15] = [
-    "adoption",
-    "ask_and_drain",
-    "asked_and_waiting",
-    "below_zero",
-    "counted_twice",
-    "handed_over",
-    "in_hand",
-    "local_limit",
-    "merge_at_zero",
-    "number_again",
-    "one_life",
-    "queue_again",
-    "shared_at_the_limit",
-    "stale_owner",
-    "yielded",
-];
+/// The status of an input that is refused: then nothing is written, and `NAME.error` is the error line.
+const REFUSED: u8 = 3;
 
-/// The texts that are drawn: the name, and what it ends with.
-const PICTURES: [(&str, &str); 2] = [("leak_by_a_cycle", "out"), ("asked_and_waiting", "world")];
-
-/// Whether the example's text for its world is this one.
-fn is_as_written<R: AllocGlobal + Files>(rt: &R, name: &str, world: &[u8]) -> io::Result<bool> {
-    let path = format!(in rt.alloc(); "examples/{name}.world")?;
-    let written = fs::read(rt, path.as_str())?;
-    Ok(written.as_slice() == world)
+/// The bytes of an example's file.
+fn file_of<R: AllocGlobal + Files>(rt: &R, name: &str, ending: &str) -> io::Result<Vec<u8>> {
+    let path = format!(in rt.alloc(); "examples/{name}.{ending}")?;
+    fs::read(rt, path.as_str())
 }
 
-/// Replays one trace, and prints what came of it.
-fn run_example<R: AllocGlobal + Files + Print>(rt: &R, name: &str) -> io::Result<()> {
-    let path = format!(in rt.alloc(); "examples/{name}.trace")?;
-    let trace = fs::read(rt, path.as_str())?;
-    let mut world = Vec::new(rt.alloc());
-    match run_replay(rt.alloc(), trace.as_slice(), &mut world) {
-        Ok(lives) => {
-            let text = if is_as_written(rt, name, world.as_slice())? {
-                "as written"
-            } else {
-                "ANOTHER"
-            };
-            let end = if lives {
-                "an object lives"
-            } else {
-                "nothing lives"
-            };
-            println!(rt; "{name}: its world is {text}, {end}")
-        }
-        Err(
-            Fault::BadTrace {
-                line,
-                reason: Reason::NotEnabled,
-            },
-        ) => println!(rt; "{name}: line {line} is not enabled"),
-        Err(_) => println!(rt; "{name}: NOT REPLAYED"),
+/// The words of the first line but for its first one; none where the bytes are no text.
+fn first_words<R: AllocGlobal>(rt: &R, script: &[u8]) -> io::Result<Vec<String>> {
+    let mut words = Vec::new(rt.alloc());
+    let Ok(text) = str::from_utf8(script) else {
+        return Ok(words);
+    };
+    let Some(line) = text.lines().next() else {
+        return Ok(words);
+    };
+    for word in line.split_whitespace().skip(1) {
+        words.push(String::from_str(rt.alloc(), word)?)?;
+    }
+    Ok(words)
+}
+
+/// `brc` and this word.
+fn brc_and<R: AllocGlobal>(rt: &R, word: &str) -> io::Result<Vec<String>> {
+    let mut words = Vec::new(rt.alloc());
+    words.push(String::from_str(rt.alloc(), "brc")?)?;
+    words.push(String::from_str(rt.alloc(), word)?)?;
+    Ok(words)
+}
+
+/// The words by which the program is run on the input.
+fn words_for<R: AllocGlobal>(rt: &R, kind: Kind, input: &[u8]) -> io::Result<Vec<String>> {
+    match kind {
+        Kind::Trace => brc_and(rt, "replay"),
+        Kind::Script => first_words(rt, input),
+        Kind::WorldPicture | Kind::OutputPicture => brc_and(rt, "graph"),
     }
 }
 
-/// Runs one script, and prints what came of it.
-fn run_script<R: AllocGlobal + Files + Print + Threads + Wait + Sync>(
+/// What the program must write, and its error lines.
+fn wanted_of<R: AllocGlobal + Files>(rt: &R, listed: Listed<'_>) -> io::Result<(Vec<u8>, Vec<u8>)> {
+    if listed.status == REFUSED {
+        let errors = file_of(rt, listed.name, "error")?;
+        return Ok((Vec::new(rt.alloc()), errors));
+    }
+    let output = file_of(rt, listed.name, listed.kind.output())?;
+    Ok((output, Vec::new(rt.alloc())))
+}
+
+/// Whether the program comes to what is written of the example. What it came to else is printed.
+fn is_as_written<R: AllocGlobal + Files + Print + Threads + Wait + Sync>(
     rt: &R,
-    name: &str,
-) -> io::Result<()> {
-    let asked = read_script(rt, name)?;
-    let mut output = Vec::new(rt.alloc());
-    let mut errors = Vec::new(rt.alloc());
+    listed: Listed<'_>,
+) -> io::Result<bool> {
+    let input = file_of(rt, listed.name, listed.kind.input())?;
+    let words = words_for(rt, listed.kind, input.as_slice())?;
+    let (output, errors) = wanted_of(rt, listed)?;
+    let mut written = Vec::new(rt.alloc());
+    let mut told = Vec::new(rt.alloc());
     let status = program(
         rt,
         rt.alloc(),
-        asked.words.as_slice(),
-        asked.script.as_slice(),
-        &mut output,
-        &mut errors,
+        words.as_slice(),
+        input.as_slice(),
+        &mut written,
+        &mut told,
     );
-    tell(rt, name, status, output.as_slice(), errors.as_slice())
+    let is_written = written.as_slice() == output.as_slice();
+    let is_told = told.as_slice() == errors.as_slice();
+    if is_written && is_told && status == listed.status {
+        return Ok(true);
+    }
+    let (name, ending) = (listed.name, listed.kind.input());
+    let written = str::from_utf8(written.as_slice()).unwrap_or("no text\n");
+    let told = str::from_utf8(told.as_slice()).unwrap_or("no text\n");
+    println!(rt; "{name}.{ending}, NOT RIGHT: status {status}\n{written}{told}")?;
+    Ok(false)
 }
 
-/// Draws one text, and prints whether that is the picture that stands beside it.
-fn draw_example<R: AllocGlobal + Files + Print + Threads + Wait + Sync>(
-    rt: &R,
-    name: &str,
-    ending: &str,
-) -> io::Result<()> {
-    let path = format!(in rt.alloc(); "examples/{name}.{ending}")?;
-    let text = fs::read(rt, path.as_str())?;
-    let path = format!(in rt.alloc(); "examples/{name}.dot")?;
-    let mut written = fs::read(rt, path.as_str())?;
-    written.extend_from_slice(b"status 0\n")?;
-    let mut picture = Vec::new(rt.alloc());
-    running(rt, "brc graph", text.as_slice(), &mut picture)?;
-    let is = if written.as_slice() == picture.as_slice() {
-        "as written"
-    } else {
-        "ANOTHER"
-    };
-    println!(rt; "{name}: its picture is {is}")
-}
-
-/// Runs all, and the library by hand.
+/// Runs all that the list names, and says whether all came out as they should.
 pub(crate) fn run_examples<R: AllocGlobal + Files + Print + Threads + Wait + Sync>(
     rt: &R,
 ) -> io::Result<()> {
-    for name in NAMES {
-        run_example(rt, name)?;
+    let list = fs::read_to_string(rt, "examples/LIST")?;
+    let (mut tried, mut right) = (0u32, 0u32);
+    for line in list.lines() {
+        if let Some(listed) = read_listed(line)? {
+            tried = tried.saturating_add(1);
+            if is_as_written(rt, listed)? {
+                right = right.saturating_add(1);
+            }
+        }
     }
-    for name in SCRIPTS {
-        run_script(rt, name)?;
-    }
-    for (name, ending) in PICTURES {
-        draw_example(rt, name, ending)?;
-    }
-    match count_and_holders(rt.alloc()) {
-        Ok((total, holders)) => println!(rt; "by the library: total {total}, {holders} holders"),
-        Err(_) => println!(rt; "by the library: NO WORLD"),
-    }
+    tell_right(rt, "examples", right, tried)
 }

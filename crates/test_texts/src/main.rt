@@ -1,15 +1,15 @@
-//! Texts, and what must come of each: the cases that stand in the files of `data/`, each run and compared. How a file
-//! is written says `data/README.md`.
+//! Texts, and what must come of each: the cases that stand in the files of `data/`, each run and compared, and the
+//! examples that `data/examples/LIST` names. How a file of cases is written says `data/README.md`.
 //!
-//! A line on standard output for each file says how many cases it has, and how many came out as they should. Above it
-//! stands what came of each that didn't. Behind them a line for each example says what came of it.
+//! A line on standard output for each file says that all is right. If something isn't, what came of it stands above, and
+//! the line says how many are right. A file without a case, and one that isn't there, is not right.
 #![tactic(auto)]
 
-mod asked;
 mod cases;
 mod examples;
 mod instructions;
 mod library;
+mod listed;
 mod programs;
 mod scripts;
 mod traces;
@@ -17,6 +17,7 @@ mod ways;
 
 use cases::{Case, read_cases};
 use examples::run_examples;
+use library::count_and_holders;
 use std::alloc::AllocGlobal;
 use std::io::Print;
 use std::rt::Files;
@@ -57,7 +58,7 @@ fn comes_out<R: AllocGlobal + Print + Threads + Wait + Sync>(
     }
     let name = case.name.as_str();
     let found = str::from_utf8(found.as_slice()).unwrap_or("no text\n");
-    println!(rt; "{name}, by {way}:\n{found}")?;
+    println!(rt; "{name}, by {way}, NOT RIGHT:\n{found}")?;
     Ok(false)
 }
 
@@ -76,7 +77,18 @@ fn is_as_wanted<R: AllocGlobal + Print + Threads + Wait + Sync>(
     Ok(true)
 }
 
-/// Runs the cases of a file, and says how many came out as they should.
+/// Says of so many texts how many came out as they should: all, as a rule.
+pub(crate) fn tell_right(rt: &impl Print, name: &str, right: u32, tried: u32) -> io::Result<()> {
+    if tried == 0 {
+        return println!(rt; "{name}: NONE WAS TRIED");
+    }
+    if right == tried {
+        return println!(rt; "{name}: all right");
+    }
+    println!(rt; "{name}: {right} of {tried} are right")
+}
+
+/// Runs the cases of a file, and says whether all came out as they should.
 fn run_file<R: AllocGlobal + Files + Print + Threads + Wait + Sync>(
     rt: &R,
     name: &str,
@@ -94,12 +106,16 @@ fn run_file<R: AllocGlobal + Files + Print + Threads + Wait + Sync>(
             right = right.saturating_add(1);
         }
     }
-    println!(rt; "{name}: {right} of {tried} cases")
+    tell_right(rt, name, right, tried)
 }
 
 fn main(rt: HostRuntime) -> io::Result<()> {
     for name in FILES {
         run_file(&rt, name)?;
     }
-    run_examples(&rt)
+    run_examples(&rt)?;
+    match count_and_holders(rt.alloc()) {
+        Ok((total, holders)) => println!(rt; "by the library: total {total}, {holders} holders"),
+        Err(_) => println!(rt; "by the library: NO WORLD"),
+    }
 }

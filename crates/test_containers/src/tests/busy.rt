@@ -6,11 +6,11 @@ ghost use Rattle.test_tools.specs.Calls.{OwnsBoth, OwnsOne, Parts, Stays};
 
 use crate::tests::calls::{Getting, Giving, gets, gets_none, gives};
 use crate::tests::threads::{a_heap, a_thread, is_empty};
-use brc_containers::try_int_of;
 use brc_count::biased::HasTable;
 use brc_count::block::Payload;
 use brc_count::{Frame, HandedBack, Handle};
 use brc_lock::try_lock;
+use brc_things::try_int_of;
 use brc_words::{Fault, GLOBALS};
 use std::alloc::Allocator;
 use std::process::Abort;

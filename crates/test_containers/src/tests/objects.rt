@@ -2,9 +2,9 @@
 
 ghost use Rattle.test_tools.specs.Calls.{OwnsOne, Parts, Stays};
 
-use brc_containers::{int_of, len_of};
 use brc_count::biased::HasTable;
 use brc_count::{Frame, Handle};
+use brc_things::{int_of, len_of};
 use std::alloc::Allocator;
 use std::process::Abort;
 use std::sync::Wait;

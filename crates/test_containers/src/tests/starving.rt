@@ -9,10 +9,9 @@ use crate::tests::calls::{Exchanging, Getting, Giving, exchanges, gets, gets_num
 use crate::tests::guards::Way;
 use crate::tests::objects::number_of;
 use crate::tests::threads::{a_heap, a_thread, is_empty};
-use brc_containers::{int_of, kind_of, len_of, try_int_of, try_kind_of, try_len_of};
 use brc_count::biased::HasTable;
 use brc_count::{Frame, Handle};
-use brc_things::none;
+use brc_things::{int_of, kind_of, len_of, none, try_int_of, try_kind_of, try_len_of};
 use brc_words::Kind;
 use linked_list_allocator::LocalHeap;
 use std::alloc::{Allocator, Global};

@@ -5,11 +5,11 @@ ghost use Rattle.test_tools.specs.Calls.{OwnsOne, Stays};
 
 use crate::tests::phases::{ends, entered, leaves, opened};
 use crate::tests::steps::{Step, lives};
-use brc_containers::{
-    int_of, kind_of, len_of, text_of, try_int_of, try_kind_of, try_len_of, try_text_of,
-};
 use brc_count::biased::HasTable;
 use brc_count::{Frame, Handle};
+use brc_things::{
+    int_of, kind_of, len_of, text_of, try_int_of, try_kind_of, try_len_of, try_text_of,
+};
 use brc_words::{Fault, GLOBALS, Kind, Text};
 use std::alloc::Allocator;
 use std::process::Abort;

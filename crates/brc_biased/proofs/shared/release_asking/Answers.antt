@@ -3,8 +3,8 @@ use Rattle.brc_biased.specs.Released.{AskedLate, AskTurned}
 use Rattle.brc_biased.proofs.Keeping.{fresh_before}
 use Rattle.brc_biased.proofs.shared.release_asking.Goals as goal
 
-pub returns-then-found-ne0-clause-told : goal.returns-then-found-ne0-clause-told
-returns-then-found-ne0-clause-told g c = AskedLate c.ask-found.result (search rules)
+pub returns-then-is_risen_word-clause-told : goal.returns-then-is_risen_word-clause-told
+returns-then-is_risen_word-clause-told g c = AskedLate c.ask-found.result (search rules)
     (rw c.ask-found.ensures.told at c.release_risen.ensures.told)
 
 pub returns-clause-told : goal.returns-clause-told

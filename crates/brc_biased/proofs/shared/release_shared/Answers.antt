@@ -3,17 +3,17 @@ use Rattle.brc_biased.specs.Released.{SharedRisen, SharedCounted, SharedNoCount,
 use Rattle.brc_biased.proofs.Keeping.{look_keeps, keeps_on}
 use Rattle.brc_biased.proofs.shared.release_shared.Goals as goal
 
-pub returns-then-word-ne0-clause-told : goal.returns-then-word-ne0-clause-told
-returns-then-word-ne0-clause-told g c = SharedRisen c.load_shared-word.result (search rules)
+pub returns-then-is_risen_word-clause-told : goal.returns-then-is_risen_word-clause-told
+returns-then-is_risen_word-clause-told g c = SharedRisen c.load_shared-word.result (search rules)
     (rw c.load_shared-word.ensures.told at c.release_risen.ensures.told)
 
-pub returns-then-word-lt-ONE_COUNTED-clause-told : goal.returns-then-word-lt-ONE_COUNTED-clause-told
-returns-then-word-lt-ONE_COUNTED-clause-told g c =
+pub returns-then-not-has_count-clause-told : goal.returns-then-not-has_count-clause-told
+returns-then-not-has_count-clause-told g c =
     SharedNoCount c.load_shared-word.result (search rules) (search rules)
     (rw c.load_shared-word.ensures.told at c.release_asking.ensures.told)
 
-pub returns-then-word-lt-ONE_COUNTED-clause-keeps : goal.returns-then-word-lt-ONE_COUNTED-clause-keeps
-returns-then-word-lt-ONE_COUNTED-clause-keeps g c =
+pub returns-then-not-has_count-clause-keeps : goal.returns-then-not-has_count-clause-keeps
+returns-then-not-has_count-clause-keeps g c =
     keeps_on (look_keeps c.load_shared-word.ensures.knows c.load_shared-word.ensures.keeps)
     c.release_asking.ensures.keeps
 

@@ -1,4 +1,4 @@
-use Rattle.brc_containers.specs.Changing.{RefusedPlace}
+use Rattle.brc_things.specs.Changing.{RefusedPlace}
 use Rattle.brc_dicts.specs.Plain.{plain_value_at}
 use Rattle.brc_dicts.specs.Indexing.{SharesPair}
 use Rattle.brc_dicts.proofs.Since_Law.{locked_late, hands_out}

@@ -1,4 +1,4 @@
-use Rattle.brc_containers.specs.Changing.{RefusedEntry}
+use Rattle.brc_things.specs.Changing.{RefusedEntry}
 use Rattle.brc_dicts.specs.Plain.{plain_key_at}
 use Rattle.brc_dicts.specs.Indexing.{ReadsUnlocked}
 use Rattle.brc_dicts.specs.Since.{JustLocked}

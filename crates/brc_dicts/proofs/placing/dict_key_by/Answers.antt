@@ -1,5 +1,5 @@
 use Rattle.brc_count.specs.block.Lent_Keys.{key_lent}
-use Rattle.brc_containers.specs.Changing.{RefusedEntry}
+use Rattle.brc_things.specs.Changing.{RefusedEntry}
 use Rattle.brc_dicts.specs.Plain.{plain_place}
 use Rattle.brc_dicts.specs.Indexing.{ReadsUnlocked}
 use Rattle.brc_dicts.proofs.Since_Law.{locked_late, looked}

@@ -1,5 +1,5 @@
 use Rattle.brc_count.specs.block.Lent_Keys.{key_lent}
-use Rattle.brc_containers.specs.Changing.{Shares, RefusedPlace}
+use Rattle.brc_things.specs.Changing.{Shares, RefusedPlace}
 use Rattle.brc_dicts.specs.Plain.{plain_find}
 use Rattle.brc_dicts.proofs.Since_Law.{locked_late, hands_out}
 use Rattle.brc_dicts.proofs.values.dict_find_by.Goals as goal

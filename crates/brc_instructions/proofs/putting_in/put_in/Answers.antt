@@ -1,6 +1,6 @@
 use Rattle.std.proofs.Common.{Some, None, Ok, Err, sym, subst}
 use Rattle.brc_count.specs.block.Lent_Keys.{key_lent}
-use Rattle.brc_containers.specs.Called.{Late}
+use Rattle.brc_things.specs.Called.{Late}
 use Rattle.brc_dicts.specs.Calls.{DictPut}
 use Rattle.brc_count.specs.Frames.{HandleSeen}
 use Rattle.brc_lists.specs.Plain.{plain_push, plain_set, plain_send}

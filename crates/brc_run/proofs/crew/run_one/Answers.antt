@@ -4,8 +4,8 @@ use Rattle.brc_run.proofs.crew.run_one.Goals.{then-has_ended, else-has_ended}
 
 pub returns : goal.returns
 returns g c =
-    let heap = c.args.heap.now in
-    let refuses = g.G.Gate.may_refuse c.args.gate.now in
+    let heap = c.args.context.now.heap.now in
+    let refuses = g.G.Gate.may_refuse c.args.context.now.gate.now in
     let number = c.args.number in
     let section = c.args.section.now in
     let resting = c.args.resting in

@@ -5,6 +5,6 @@ use Rattle.brc_run.proofs.joining.run_in.Goals as goal
 
 pub join_each-requires-clause-room : goal.join_each-requires-clause-room
 join_each-requires-clause-room g c =
-    let many = as_many (IsBegun c.args.heap.now c.args.gate.now (g.G.Gate.may_refuse c.args.gate.now)) 1
+    let many = as_many (IsBegun c.args.context.now.heap.now c.args.context.now.gate.now (g.G.Gate.may_refuse c.args.context.now.gate.now)) 1
     c.args.sections.now c.begin_each-begun.result.items c.begin_each-begun.ensures.begun in
     omega (arith, many)

@@ -21,22 +21,22 @@ spawn_with-started-requires-send-F g c κs within =
     }) in
     param_send 2 _
     (arg_send _ no _ (recorded_send (Struct (shape T)) T.D T.to T.to_one (struct_send (shape T) (
-      search (sendable, c.type_bounds.sync-R),
+      search (sendable, global_send),
       (
-        search (sendable, global_send),
+        search (sendable, heap_sync),
         (
-          search (sendable, heap_sync),
+          search (sendable, board_sync),
           (
-            search (sendable, resting_send),
+            search (sendable, c.type_bounds.sync-G),
             (
-              search (sendable, section_sync),
+              search sendable,
               (
-                search sendable,
+                search (sendable, c.type_bounds.sync-R),
                 (
-                  search sendable,
+                  search (sendable, resting_send),
                   (
-                    search (sendable, board_sync),
-                    (search (sendable, c.type_bounds.sync-G), tt),
+                    search (sendable, section_sync),
+                    (search sendable, tt),
                   ),
                 ),
               ),

@@ -4,8 +4,8 @@ use Rattle.brc_biased.proofs.Owning.{owns_gone, counts_gone, counts_apart}
 use Rattle.brc_biased.specs.Released.{SettledMerged, SettledMerging}
 use Rattle.brc_biased.proofs.counter.Counter.settle.Goals as goal
 
-pub returns-then-shared-eq3-clause-told : goal.returns-then-shared-eq3-clause-told
-returns-then-shared-eq3-clause-told g c =
+pub returns-then-is_merged_word-clause-told : goal.returns-then-is_merged_word-clause-told
+returns-then-is_merged_word-clause-told g c =
     rw (← c.self.view_is) (SettledMerged c.load_shared-shared.result (search rules) (search rules))
 
 pub returns-then-cell-ge-FIRST_MORTAL-clause-told : goal.returns-then-cell-ge-FIRST_MORTAL-clause-told
@@ -18,8 +18,8 @@ returns-else-cell-ge-FIRST_MORTAL-clause-told g c =
     rw (← c.self.view_is) (SettledMerging c.load_shared-shared.result (search rules)
     (rw c.load_shared-shared.ensures.told at c.merge_popped-block.ensures.told))
 
-pub returns-then-shared-eq3-clause-dead : goal.returns-then-shared-eq3-clause-dead
-returns-then-shared-eq3-clause-dead g c =
+pub returns-then-is_merged_word-clause-dead : goal.returns-then-is_merged_word-clause-dead
+returns-then-is_merged_word-clause-dead g c =
     let known = rw c.table-table.ensures at c.last_popped-number.ensures.knows.part in
     rw (← c.self.view_is) (dead_settled _ c.load_shared-shared.new.seat.log c.last_popped-number.new.seat.log
     c.args.cell c.last_popped-number.result.block known (search rules))
@@ -52,3 +52,13 @@ invariant_of-self-else-cell-ge-FIRST_MORTAL g c = record {
       c.self.invariant.fit (search rules) (search rules) (search rules);
   owns = c.self.invariant.owns;
 }
+
+pub returns-else-cell-ge-FIRST_MORTAL-clause-block : goal.returns-else-cell-ge-FIRST_MORTAL-clause-block
+returns-else-cell-ge-FIRST_MORTAL-clause-block g c =
+    let answers = rw c.table-table.ensures at c.merge_popped-block.ensures.block in
+    rw (← c.self.view_is) (record {
+      of_cell = answers.of_cell;
+      fresh = search rules;
+      entries = answers.entries;
+      out = search rules;
+    })

@@ -1,4 +1,0 @@
-pub mod Looking
-pub mod Changing
-pub mod Called
-pub mod History

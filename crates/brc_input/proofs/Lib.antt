@@ -1,1 +1,0 @@
-mod Input_Read

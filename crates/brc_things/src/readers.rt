@@ -1,0 +1,135 @@
+//! What an object is: its kind, its length, its integer, its text.
+
+ghost use Rattle.std.specs.Prelude.{◌≡◌, OnErr};
+ghost use Rattle.std.specs.String.{string_bytes};
+ghost use Rattle.brc_count.specs.Frames.{IsUnlocked, Owns};
+ghost use Rattle.brc_count.specs.Owned.{Keeps};
+ghost use Rattle.brc_things.specs.Looking.{KindOf, LenOf, IntOf, TextOf, TextInto};
+
+use crate::looking::{append_text, container_len, copy_of_text, int_in, is_text};
+use brc_count::biased::HasTable;
+use brc_count::{Frame, Handle};
+use brc_words::{Fault, Kind, Text};
+use std::alloc::{AllocError, Allocator};
+
+/// What kind of object the handle is a reference to. Busy where another thread has it locked.
+pub fn try_kind_of<H: HasTable<A>, A: Allocator>(
+    frame: &mut Frame<H, A>,
+    handle: &Handle<A>,
+) -> Result<Kind, Fault>
+    requires owned { Owns frame.old handle.now }
+    requires unlocked { IsUnlocked frame.old }
+    ensures looked { KindOf frame.old frame.new handle.now.place result }
+    ensures keeps { Keeps frame.old frame.new }
+    ensures unlocked { IsUnlocked frame.new }
+{
+    let Some(block) = frame.begin(handle) else {
+        return Err(Fault::Busy);
+    };
+    let kind = block.payload().kind();
+    frame.end_keep(block);
+    Ok(kind)
+}
+
+/// How many entries a list, a dictionary or a mailbox has. Busy where another thread has it locked, then WrongKind
+/// where the object is no container.
+pub fn try_len_of<H: HasTable<A>, A: Allocator>(
+    frame: &mut Frame<H, A>,
+    handle: &Handle<A>,
+) -> Result<usize, Fault>
+    requires owned { Owns frame.old handle.now }
+    requires unlocked { IsUnlocked frame.old }
+    ensures looked { LenOf frame.old frame.new handle.now.place result }
+    ensures keeps { Keeps frame.old frame.new }
+    ensures unlocked { IsUnlocked frame.new }
+{
+    let Some(block) = frame.begin(handle) else {
+        return Err(Fault::Busy);
+    };
+    let len = container_len(block.payload());
+    frame.end_keep(block);
+    match len {
+        Some(len) => Ok(len),
+        None => Err(Fault::WrongKind),
+    }
+}
+
+/// The number of an integer. Busy where another thread has the object locked, then WrongKind where it is no integer.
+pub fn try_int_of<H: HasTable<A>, A: Allocator>(
+    frame: &mut Frame<H, A>,
+    handle: &Handle<A>,
+) -> Result<i64, Fault>
+    requires owned { Owns frame.old handle.now }
+    requires unlocked { IsUnlocked frame.old }
+    ensures looked { IntOf frame.old frame.new handle.now.place result }
+    ensures keeps { Keeps frame.old frame.new }
+    ensures unlocked { IsUnlocked frame.new }
+{
+    let Some(block) = frame.begin(handle) else {
+        return Err(Fault::Busy);
+    };
+    let number = int_in(block.payload());
+    frame.end_keep(block);
+    match number {
+        Some(number) => Ok(number),
+        None => Err(Fault::WrongKind),
+    }
+}
+
+/// A copy of a text. Busy where another thread has the object locked, then WrongKind where it is no text, then
+/// OutOfMemory.
+pub fn try_text_of<H: HasTable<A>, A: Allocator>(
+    alloc: A,
+    frame: &mut Frame<H, A>,
+    handle: &Handle<A>,
+) -> Result<Text<A>, Fault>
+    requires owned { Owns frame.old handle.now }
+    requires unlocked { IsUnlocked frame.old }
+    ensures looked { TextOf frame.old frame.new handle.now.place result }
+    ensures keeps { Keeps frame.old frame.new }
+    ensures unlocked { IsUnlocked frame.new }
+{
+    let Some(block) = frame.begin(handle) else {
+        return Err(Fault::Busy);
+    };
+    if !is_text(block.payload()) {
+        frame.end_keep(block);
+        return Err(Fault::WrongKind);
+    }
+    let copy = copy_of_text(alloc, block.payload());
+    frame.end_keep(block);
+    match copy {
+        Some(text) => Ok(text),
+        None => Err(Fault::OutOfMemory),
+    }
+}
+
+/// A text, into a buffer of the caller's, behind what it has. Busy where another thread has the object locked, then
+/// WrongKind where it is no text, then OutOfMemory, where the buffer had no room for it; a refusal leaves the buffer's
+/// bytes as they were.
+pub fn try_text_into<H: HasTable<A>, A: Allocator, B: Allocator>(
+    frame: &mut Frame<H, A>,
+    handle: &Handle<A>,
+    buffer: &mut String<B>,
+) -> Result<(), Fault>
+    requires owned { Owns frame.old handle.now }
+    requires unlocked { IsUnlocked frame.old }
+    ensures looked { TextInto frame.old frame.new handle.now.place buffer.old buffer.new result }
+    ensures unchanged { OnErr result (string_bytes buffer.new ≡ string_bytes buffer.old) }
+    ensures keeps { Keeps frame.old frame.new }
+    ensures unlocked { IsUnlocked frame.new }
+{
+    let Some(block) = frame.begin(handle) else {
+        return Err(Fault::Busy);
+    };
+    if !is_text(block.payload()) {
+        frame.end_keep(block);
+        return Err(Fault::WrongKind);
+    }
+    let done = append_text(block.payload(), buffer);
+    frame.end_keep(block);
+    match done {
+        Ok(()) => Ok(()),
+        Err(AllocError) => Err(Fault::OutOfMemory),
+    }
+}
