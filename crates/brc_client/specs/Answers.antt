@@ -108,8 +108,8 @@ pub record FindsSame (one other : ℕ) (old new : ClientSeen) (answer : Result B
   pub same : new ≡ old
 
 -- how many references there are
-pub record Counts (old new : ClientSeen) (count : ℕ) : Type 0 where
-  pub count : count ≡ filled old.handles
+pub record Counts (old new : ClientSeen) (answer : ℕ) : Type 0 where
+  pub count : answer ≡ filled old.handles
   pub same : new ≡ old
 
 -- ---- between two calls
@@ -128,7 +128,7 @@ pub record TakesApart (turns : ℕ) (old new : ClientSeen) (spare : ℕ) : Type 
   pub keeps : KeepsNumbers old new
 
 -- claims begin with the cells beside this one
-pub record ClaimsFrom (cell : ℕ) (near : Bool) (old new : ClientSeen) : Type 0 where
+pub record ClaimsFrom (cell : ℕ) (beside : Bool) (old new : ClientSeen) : Type 0 where
   pub from : new.frame.from ≡ word_asked old.frame.heap.cells cell
-  pub near : new.frame.near ≡ near
+  pub near : new.frame.near ≡ beside
   pub keeps : KeepsNumbers old new

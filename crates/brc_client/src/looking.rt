@@ -8,7 +8,7 @@ ghost use Rattle.brc_things.specs.Looking.{KindOf, LenOf, IntOf};
 ghost use Rattle.brc_client.specs.Clients.{Names, NamesNone, KeepsNumbers};
 ghost use Rattle.brc_client.specs.Calls.{OfNamed, RefusedOf, Looks, Reads, IsOne};
 
-use crate::client::{Client, find};
+use crate::client::Client;
 use crate::status::Status;
 use brc_heap::{same_object, truth_of};
 use brc_things::{try_int_of, try_kind_of, try_len_of, try_text_into};
@@ -16,12 +16,15 @@ use brc_words::Kind;
 
 impl Client {
     /// What kind of object it is. Foreign, Stale; then Busy.
-    #[tactic(auto, using(crate::proofs::Placed::owned, crate::proofs::Placed::keeps))]
+    #[tactic(auto, using(crate::proofs::Placed::keeps))]
     pub fn kind(&mut self, number: u64) -> Result<Kind, Status>
         ensures looked { Looks (KindOf self.old.frame self.new.frame) self.old self.new number result }
         ensures keeps { KeepsNumbers self.old self.new }
     {
-        let object = find(&self.handles, &self.numbers, number)?;
+        let place = self.place_of(number)?;
+        let Some(object) = self.handles.get(place) else {
+            unreachable!()
+        };
         match try_kind_of(self.mutator.frame(), object) {
             Ok(kind) => Ok(kind),
             Err(fault) => Err(Status::Fault(fault)),
@@ -29,12 +32,15 @@ impl Client {
     }
 
     /// How many entries the container has. Foreign, Stale; then Busy, and WrongKind if it is no container.
-    #[tactic(auto, using(crate::proofs::Placed::owned, crate::proofs::Placed::keeps))]
+    #[tactic(auto, using(crate::proofs::Placed::keeps))]
     pub fn len(&mut self, number: u64) -> Result<usize, Status>
         ensures looked { Looks (LenOf self.old.frame self.new.frame) self.old self.new number result }
         ensures keeps { KeepsNumbers self.old self.new }
     {
-        let object = find(&self.handles, &self.numbers, number)?;
+        let place = self.place_of(number)?;
+        let Some(object) = self.handles.get(place) else {
+            unreachable!()
+        };
         match try_len_of(self.mutator.frame(), object) {
             Ok(len) => Ok(len),
             Err(fault) => Err(Status::Fault(fault)),
@@ -42,13 +48,16 @@ impl Client {
     }
 
     /// The number that the integer is. Foreign, Stale; then Busy, and WrongKind if it is none.
-    #[tactic(auto, using(crate::proofs::Placed::owned, crate::proofs::Placed::keeps))]
+    #[tactic(auto, using(crate::proofs::Placed::keeps))]
     #[inline]
     pub fn int(&mut self, number: u64) -> Result<i64, Status>
         ensures looked { Looks (IntOf self.old.frame self.new.frame) self.old self.new number result }
         ensures keeps { KeepsNumbers self.old self.new }
     {
-        let object = find(&self.handles, &self.numbers, number)?;
+        let place = self.place_of(number)?;
+        let Some(object) = self.handles.get(place) else {
+            unreachable!()
+        };
         match try_int_of(self.mutator.frame(), object) {
             Ok(value) => Ok(value),
             Err(fault) => Err(Status::Fault(fault)),
@@ -56,7 +65,6 @@ impl Client {
     }
 
     /// Whether the object is True or False. Foreign, Stale; then WrongKind if it is neither. It takes no lock.
-    #[tactic(auto, using(crate::proofs::Placed::owned))]
     pub fn truth(&mut self, number: u64) -> Result<bool, Status>
         ensures truth { IfOk result (λ is_true. OfNamed self.old number
             (λ object. cell_in self.old.frame object.place ≡ Some (truth_cell is_true))) }
@@ -64,7 +72,10 @@ impl Client {
             × (cell_in self.old.frame k ≢ Some 1) × (cell_in self.old.frame k ≢ Some 2)) self.old self.new number) }
         ensures same { self.new ≡ self.old }
     {
-        let object = find(&self.handles, &self.numbers, number)?;
+        let place = self.place_of(number)?;
+        let Some(object) = self.handles.get(place) else {
+            unreachable!()
+        };
         match truth_of(self.mutator.frame(), object) {
             Ok(is_true) => Ok(is_true),
             Err(fault) => Err(Status::Fault(fault)),
@@ -73,12 +84,15 @@ impl Client {
 
     /// The text is read into the client's own room, from where `shown` shows it. Foreign, Stale; then Busy, WrongKind if
     /// it is no text, and OutOfMemory. A heap's refusal leaves the room empty.
-    #[tactic(auto, using(crate::proofs::Placed::owned, crate::proofs::Placed::keeps))]
+    #[tactic(auto, using(crate::proofs::Placed::keeps))]
     pub fn read_text(&mut self, number: u64) -> Result<(), Status>
         ensures looked { Looks (Reads self.old.frame self.new.frame self.new.text) self.old self.new number result }
         ensures keeps { KeepsNumbers self.old self.new }
     {
-        let object = find(&self.handles, &self.numbers, number)?;
+        let place = self.place_of(number)?;
+        let Some(object) = self.handles.get(place) else {
+            unreachable!()
+        };
         self.text.clear();
         match try_text_into(self.mutator.frame(), object, &mut self.text) {
             Ok(()) => Ok(()),
@@ -94,7 +108,6 @@ impl Client {
     }
 
     /// Whether the two are references to one object. Foreign, Stale for the first, then for the other. It takes no lock.
-    #[tactic(auto, using(crate::proofs::Placed::owned))]
     pub fn is_same(&mut self, one: u64, other: u64) -> Result<bool, Status>
         ensures same_object { IfOk result (λ is_same. OfNamed self.old one (λ first. OfNamed self.old other (λ second.
             (IsTrue is_same → IsOne self.old first second) × (IsFalse is_same → IsOne self.old first second → ⊥)))) }
@@ -102,8 +115,14 @@ impl Client {
             ⊎ (Names self.old one × NamesNone self.old other status)) }
         ensures same { self.new ≡ self.old }
     {
-        let first = find(&self.handles, &self.numbers, one)?;
-        let second = find(&self.handles, &self.numbers, other)?;
+        let first = self.place_of(one)?;
+        let second = self.place_of(other)?;
+        let Some(first) = self.handles.get(first) else {
+            unreachable!()
+        };
+        let Some(second) = self.handles.get(second) else {
+            unreachable!()
+        };
         Ok(same_object(self.mutator.frame(), first, second))
     }
 }

@@ -1,5 +1,6 @@
 use Rattle.std.proofs.Common.{refl}
 use Rattle.brc_client.proofs.Placed.{vacant}
+use Rattle.brc_client.specs.Calls.{OnObject}
 use Rattle.brc_client.proofs.client.Client.retain.Goals as goal
 
 pub returns-in-Ok-clause-more : goal.returns-in-Ok-clause-more
@@ -18,3 +19,13 @@ returns-in-Ok-clause-more c =
         is = c.insert.ensures.number;
       };
     })
+
+pub returns-in-Err-clause-refused : goal.returns-in-Err-clause-refused
+returns-in-Err-clause-refused c =
+    let refused = rw c.frame.ensures.frame at c.in-Err.ensures.refused in
+    let unchanged = rw c.frame.ensures.frame at c.in-Err.ensures.unchanged in
+    rw (← c.self.view_is) (OnObject (record {
+      handle = c.in_ok-handle.handle.now;
+      names = c.in_ok-handle.ensures.named;
+      so = record { given = tt; refused = refused; unchanged = unchanged };
+    }))
