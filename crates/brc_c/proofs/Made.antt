@@ -38,7 +38,7 @@ pub did : {T : Type 0} (call : ClientSeen → ClientSeen → Result T Status →
 did call old new was is answer code writes there works made told written = record {
   answer = answer;
   made = ran (λ w i. call w i answer) _ old.thread new.thread was is there works made;
-  code = told;
+  told = told;
   written = written;
 }
 
@@ -48,6 +48,6 @@ pub did_not : {T : Type 0} (call : ClientSeen → ClientSeen → Result T Status
 did_not call old new code writes none same told written = record {
   answer = Err statuses.Gone;
   made = ran_left (λ w i. call w i (Err statuses.Gone)) _ old.thread new.thread none same refl;
-  code = told;
+  told = told;
   written = written;
 }

@@ -46,7 +46,7 @@ pub record Opens (cells local_limit code : ℕ) : Type 0 where
   pub opened : IfOk answer (OpensWith cells local_limit)
   pub refused : IfErr answer (λ status. (status ≡ statuses.Fault faults.BadOptions)
       ⊎ (status ≡ statuses.Fault faults.OutOfMemory))
-  pub code : code ≡ code_of answer
+  pub told : code ≡ code_of answer
 
 -- what the heap's root has counted
 pub record TellsCounts (old new : OwnerStage) (answer : Result RootCounts Status) : Type 0 where

@@ -58,7 +58,7 @@ module _ {S T : Type 0} where
       (writes : Result T Status → Type 0) : Type 0 where
     pub answer : Result T Status
     pub made : call old new answer
-    pub code : code ≡ code_of answer
+    pub told : code ≡ code_of answer
     pub written : writes answer
 
 -- The call was made on the thread's client. Or the thread has left: it is as it was, and this is so.
