@@ -1,4 +1,3 @@
 mod OwnerBox
 mod HeldBox
 mod Sent
-pub mod Made

@@ -4,5 +4,4 @@ pub mod HeldKept
 pub mod HeldFollows
 pub mod HeldLends
 pub mod Exports
-pub mod Calls
 pub mod Ends

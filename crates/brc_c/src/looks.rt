@@ -1,10 +1,7 @@
 //! What an object is: its kind, how many entries it has, its number, its truth, its text.
 
 ghost use Rattle.std.specs.Prelude.{◌≡◌, ◌≢◌};
-ghost use Rattle.brc_things.specs.Looking.{KindOf, LenOf, IntOf};
-ghost use Rattle.brc_client.specs.Answers.{Finds, FindsTruth, ReadsOut};
-ghost use Rattle.brc_c.specs.Calls.{WritesText};
-ghost use Rattle.brc_c.specs.Exports.{Does, Writes, code_of, itself, truth_number, kind_number};
+ghost use Rattle.brc_c.specs.Exports.{Writes, code_of, kind_number};
 
 use crate::outs::{gone, write, write_truth};
 use crate::slots::CThread;
@@ -45,8 +42,6 @@ fn write_kind(made: Result<Kind, Status>, to: &mut u32) -> u32
 #[unsafe(no_mangle)]
 pub extern "C" fn brc_kind_of(thread: &mut CThread, held: u64, kind: &mut u32) -> u32
     ensures kept { result ≢ 0 → kind.new ≡ kind.old }
-    ensures does { Does (Finds KindOf held) thread.old.value thread.new.value result
-        (Writes kind_number kind.old kind.new) }
 {
     match thread.as_mut().client() {
         Some(client) => write_kind(client.kind(held), kind),
@@ -57,7 +52,6 @@ pub extern "C" fn brc_kind_of(thread: &mut CThread, held: u64, kind: &mut u32) -
 #[unsafe(no_mangle)]
 pub extern "C" fn brc_len_of(thread: &mut CThread, held: u64, len: &mut usize) -> u32
     ensures kept { result ≢ 0 → len.new ≡ len.old }
-    ensures does { Does (Finds LenOf held) thread.old.value thread.new.value result (Writes itself len.old len.new) }
 {
     match thread.as_mut().client() {
         Some(client) => write(client.len(held), len),
@@ -68,8 +62,6 @@ pub extern "C" fn brc_len_of(thread: &mut CThread, held: u64, len: &mut usize) -
 #[unsafe(no_mangle)]
 pub extern "C" fn brc_int_of(thread: &mut CThread, held: u64, value: &mut i64) -> u32
     ensures kept { result ≢ 0 → value.new ≡ value.old }
-    ensures does { Does (Finds IntOf held) thread.old.value thread.new.value result
-        (Writes itself value.old value.new) }
 {
     match thread.as_mut().client() {
         Some(client) => write(client.int(held), value),
@@ -80,8 +72,6 @@ pub extern "C" fn brc_int_of(thread: &mut CThread, held: u64, value: &mut i64) -
 #[unsafe(no_mangle)]
 pub extern "C" fn brc_truth_of(thread: &mut CThread, held: u64, is_true: &mut u32) -> u32
     ensures kept { result ≢ 0 → is_true.new ≡ is_true.old }
-    ensures does { Does (FindsTruth held) thread.old.value thread.new.value result
-        (Writes truth_number is_true.old is_true.new) }
 {
     match thread.as_mut().client() {
         Some(client) => write_truth(client.truth(held), is_true),
@@ -97,8 +87,6 @@ pub extern "C" fn brc_text_of(
     len: &mut usize,
 ) -> u32
     ensures kept { result ≢ 0 → (to.new ≡ to.old) × (len.new ≡ len.old) }
-    ensures does { Does (Finds ReadsOut held) thread.old.value thread.new.value result
-        (WritesText to.old to.new len.old len.new) }
 {
     match thread.as_mut().client() {
         Some(client) => match client.read_text(held) {

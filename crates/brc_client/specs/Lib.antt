@@ -1,6 +1,5 @@
 pub mod Numbers
 pub mod Clients
 pub mod Calls
-pub mod Answers
 pub mod Ends
 pub mod Lending
