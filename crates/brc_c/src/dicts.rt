@@ -2,9 +2,10 @@
 
 ghost use Rattle.std.specs.Prelude.{◌≡◌, ◌≢◌};
 
-use crate::outs::{copy_prefix, write, write_old};
+use crate::calls::{exchange_by, give_by};
+use crate::outs::{gone, write, write_old};
 use crate::slots::CThread;
-use brc_client::{GiveBy, KeyRef, TakeBy, text_of};
+use brc_client::{GiveBy, KeyRef, TakeBy, copy_prefix, text_of};
 use brc_words::Key;
 use std::alloc::Global;
 
@@ -28,13 +29,14 @@ pub extern "C" fn brc_dict_put_int(
 ) -> u32
     ensures kept { result ≢ 0 → old.new ≡ old.old }
 {
-    match thread.as_mut().client() {
-        Ok(client) => write_old(
-            client.take(alloc, dict, TakeBy::Put(KeyRef::Int(key)), value),
-            old,
-        ),
-        Err(status) => status.number(),
-    }
+    exchange_by(
+        alloc,
+        thread,
+        dict,
+        TakeBy::Put(KeyRef::Int(key)),
+        value,
+        old,
+    )
 }
 
 #[unsafe(no_mangle)]
@@ -49,14 +51,14 @@ pub extern "C" fn brc_dict_put_text(
     ensures kept { result ≢ 0 → old.new ≡ old.old }
 {
     match thread.as_mut().client() {
-        Ok(client) => match text_of(key) {
+        Some(client) => match text_of(key) {
             Ok(key) => write_old(
                 client.take(alloc, dict, TakeBy::Put(KeyRef::Text(key)), value),
                 old,
             ),
             Err(status) => status.number(),
         },
-        Err(status) => status.number(),
+        None => gone(),
     }
 }
 
@@ -69,10 +71,7 @@ pub extern "C" fn brc_dict_find_int(
 ) -> u32
     ensures kept { result ≢ 0 → value.new ≡ value.old }
 {
-    match thread.as_mut().client() {
-        Ok(client) => write(client.give(dict, GiveBy::Find(KeyRef::Int(key))), value),
-        Err(status) => status.number(),
-    }
+    give_by(thread, dict, GiveBy::Find(KeyRef::Int(key)), value)
 }
 
 #[unsafe(no_mangle)]
@@ -85,11 +84,11 @@ pub extern "C" fn brc_dict_find_text(
     ensures kept { result ≢ 0 → value.new ≡ value.old }
 {
     match thread.as_mut().client() {
-        Ok(client) => match text_of(key) {
+        Some(client) => match text_of(key) {
             Ok(key) => write(client.give(dict, GiveBy::Find(KeyRef::Text(key))), value),
             Err(status) => status.number(),
         },
-        Err(status) => status.number(),
+        None => gone(),
     }
 }
 
@@ -102,10 +101,7 @@ pub extern "C" fn brc_dict_del_int(
 ) -> u32
     ensures kept { result ≢ 0 → value.new ≡ value.old }
 {
-    match thread.as_mut().client() {
-        Ok(client) => write(client.give(dict, GiveBy::Delete(KeyRef::Int(key))), value),
-        Err(status) => status.number(),
-    }
+    give_by(thread, dict, GiveBy::Delete(KeyRef::Int(key)), value)
 }
 
 #[unsafe(no_mangle)]
@@ -118,11 +114,11 @@ pub extern "C" fn brc_dict_del_text(
     ensures kept { result ≢ 0 → value.new ≡ value.old }
 {
     match thread.as_mut().client() {
-        Ok(client) => match text_of(key) {
+        Some(client) => match text_of(key) {
             Ok(key) => write(client.give(dict, GiveBy::Delete(KeyRef::Text(key))), value),
             Err(status) => status.number(),
         },
-        Err(status) => status.number(),
+        None => gone(),
     }
 }
 
@@ -139,7 +135,7 @@ pub extern "C" fn brc_dict_pair(
     ensures kept { result ≢ 0 → (key.new ≡ key.old) × (to.new ≡ to.old) × (value.new ≡ value.old) }
 {
     match thread.as_mut().client() {
-        Ok(client) => match client.pair(alloc, dict, index) {
+        Some(client) => match client.pair(alloc, dict, index) {
             Ok((found, number)) => {
                 *value = number;
                 write_key(&found, key, to);
@@ -147,7 +143,7 @@ pub extern "C" fn brc_dict_pair(
             }
             Err(status) => status.number(),
         },
-        Err(status) => status.number(),
+        None => gone(),
     }
 }
 

@@ -1,6 +1,8 @@
 //! Heaps: opened, counted, closed, reported and dropped.
 
 ghost use Rattle.std.specs.Prelude.{◌≡◌, ◌≢◌};
+ghost use Rattle.brc_c.specs.Ends.{TellsCounts, WritesCounts, Closes, WritesLeft, ShowsReport};
+ghost use Rattle.brc_c.specs.Exports.{Carries, Writes, itself};
 
 use crate::outs::write;
 use crate::parts::Parts;
@@ -13,7 +15,9 @@ use std::alloc::Global;
 const VERSION: u32 = 100;
 
 #[unsafe(no_mangle)]
-pub extern "C" fn brc_version() -> u32 {
+pub extern "C" fn brc_version() -> u32
+    ensures { result ≡ 100 }
+{
     VERSION
 }
 
@@ -49,6 +53,8 @@ pub extern "C" fn brc_heap_counts(
 ) -> u32
     ensures kept { result ≢ 0 → (registered.new ≡ registered.old) × (left.new ≡ left.old) }
     ensures kept_ledger { result ≢ 0 → (allocs.new ≡ allocs.old) × (frees.new ≡ frees.old) }
+    ensures carries { Carries TellsCounts heap.old.value heap.new.value result
+        (WritesCounts registered.new left.new allocs.new frees.new) }
 {
     match heap.as_mut().counts() {
         Ok(counts) => {
@@ -70,6 +76,7 @@ pub extern "C" fn brc_heap_close(
     cycles: &mut u64,
 ) -> u32
     ensures kept { result ≢ 0 → (live.new ≡ live.old) × (cycles.new ≡ cycles.old) }
+    ensures carries { Carries Closes heap.old.value heap.new.value result (WritesLeft live.new cycles.new) }
 {
     match heap.as_mut().close(alloc) {
         Ok(left) => {
@@ -90,6 +97,8 @@ pub extern "C" fn brc_heap_report(
     len: &mut usize,
 ) -> u32
     ensures kept { result ≢ 0 → len.new ≡ len.old }
+    ensures carries { Carries (ShowsReport from to.old to.new) heap.old.value heap.new.value result
+        (Writes itself len.old len.new) }
 {
     write(heap.as_mut().report(alloc, from, to), len)
 }

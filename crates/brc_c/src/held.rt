@@ -1,56 +1,71 @@
 //! What the variable of a thread leads to.
 
+ghost use Rattle.std.specs.Option.{option_copied_mut};
+ghost use Rattle.std.specs.Prelude.{◌≡◌, IfOk, IfErr, OnOk, OnErr};
+ghost use Rattle.brc_client.specs.declared.thread.Stage.TheVariants as stages;
+ghost use Rattle.brc_client.specs.Ends.{client_of, heap_of, RegistersAt, RegisterRefused, LeaveRefused, LedgerOf};
+
 use brc_client::{Client, Ledger, Owner, Status, Thread};
 use std::alloc::Global;
 
 /// Room for a thread. It is filled before C gets it, and stays so until it is dropped.
 #[derive(Drop)]
 pub(crate) struct Held {
-    thread: Option<Thread>,
+    thread: Thread,
 }
 
 impl Held {
-    /// Room without a thread.
-    pub(crate) fn empty() -> Held {
-        Held { thread: None }
+    ghost use Rattle.std.specs.Borrow.{sem};
+    ghost use Rattle.brc_c.specs.HeldLends.{lends_client};
+
+    /// Room for a thread.
+    pub(crate) fn empty() -> Held
+        ensures { result.thread ≡ stages.Gone }
+    {
+        Held {
+            thread: Thread::gone(),
+        }
     }
 
     /// The thread goes into the room.
-    pub(crate) fn fill(&mut self, thread: Thread) {
-        self.thread = Some(thread);
+    pub(crate) fn fill(&mut self, thread: Thread)
+        ensures { self.new.thread ≡ thread }
+    {
+        self.thread = thread;
     }
 
-    /// The calls of the thread: Gone if it has left.
+    /// The calls of the thread; None if it has left.
     #[inline(always)]
-    pub(crate) fn client(&mut self) -> Result<&mut Client, Status> {
-        match &mut self.thread {
-            Some(thread) => thread.client(),
-            None => Err(Status::Gone),
-        }
+    pub(crate) fn client(&mut self) -> Option<&mut Client>
+        ensures* lends { sem 𝓛 (lends_client self.entry result) }
+        ensures value { option_copied_mut result ≡ client_of self.old.thread }
+    {
+        self.thread.client()
     }
 
     /// The next thread of the same heap.
-    pub(crate) fn fork(&mut self, alloc: Global) -> Result<Thread, Status> {
-        match &mut self.thread {
-            Some(thread) => thread.fork(alloc),
-            None => Err(Status::Gone),
-        }
+    pub(crate) fn fork(&mut self, alloc: Global) -> Result<Thread, Status>
+        ensures registers { IfOk result (λ made. RegistersAt (heap_of self.old.thread) made) }
+        ensures refused { IfErr result RegisterRefused }
+        ensures same { self.new.thread ≡ self.old.thread }
+    {
+        self.thread.fork(alloc)
     }
 
     /// The thread goes on with its way out.
-    pub(crate) fn leave(&mut self) -> Result<(), Status> {
-        match &mut self.thread {
-            Some(thread) => thread.leave(),
-            None => Err(Status::Gone),
-        }
+    pub(crate) fn leave(&mut self) -> Result<(), Status>
+        ensures gone { OnOk result (self.new.thread ≡ stages.Gone) }
+        ensures refused { IfErr result (LeaveRefused self.old.thread self.new.thread) }
+    {
+        self.thread.leave()
     }
 
     /// What the thread has made and freed.
-    pub(crate) fn ledger(&self) -> Result<Ledger, Status> {
-        match &self.thread {
-            Some(thread) => thread.ledger(),
-            None => Err(Status::Gone),
-        }
+    pub(crate) fn ledger(&self) -> Result<Ledger, Status>
+        ensures ledger { IfOk result (LedgerOf self.now.thread) }
+        ensures gone { OnErr result (self.now.thread ≡ stages.Gone) }
+    {
+        self.thread.ledger()
     }
 }
 

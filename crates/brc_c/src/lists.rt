@@ -2,47 +2,35 @@
 
 ghost use Rattle.std.specs.Prelude.{◌≡◌, ◌≢◌};
 
-use crate::outs::{status_of_taking, write, write_old};
+use crate::calls::{exchange_by, give_by, put_by};
 use crate::slots::CThread;
 use brc_client::{GiveBy, TakeBy};
 use std::alloc::Global;
 
 #[unsafe(no_mangle)]
 pub extern "C" fn brc_list_push(alloc: Global, thread: &mut CThread, list: u64, value: u64) -> u32 {
-    match thread.as_mut().client() {
-        Ok(client) => status_of_taking(client.take(alloc, list, TakeBy::Push, value)),
-        Err(status) => status.number(),
-    }
+    put_by(alloc, thread, list, TakeBy::Push, value)
 }
 
 #[unsafe(no_mangle)]
 pub extern "C" fn brc_list_pop(thread: &mut CThread, list: u64, value: &mut u64) -> u32
     ensures kept { result ≢ 0 → value.new ≡ value.old }
 {
-    match thread.as_mut().client() {
-        Ok(client) => write(client.give(list, GiveBy::Pop), value),
-        Err(status) => status.number(),
-    }
+    give_by(thread, list, GiveBy::Pop, value)
 }
 
 #[unsafe(no_mangle)]
 pub extern "C" fn brc_list_take(thread: &mut CThread, list: u64, index: u32, value: &mut u64) -> u32
     ensures kept { result ≢ 0 → value.new ≡ value.old }
 {
-    match thread.as_mut().client() {
-        Ok(client) => write(client.give(list, GiveBy::Take(index)), value),
-        Err(status) => status.number(),
-    }
+    give_by(thread, list, GiveBy::Take(index), value)
 }
 
 #[unsafe(no_mangle)]
 pub extern "C" fn brc_list_get(thread: &mut CThread, list: u64, index: u32, value: &mut u64) -> u32
     ensures kept { result ≢ 0 → value.new ≡ value.old }
 {
-    match thread.as_mut().client() {
-        Ok(client) => write(client.give(list, GiveBy::Get(index)), value),
-        Err(status) => status.number(),
-    }
+    give_by(thread, list, GiveBy::Get(index), value)
 }
 
 #[unsafe(no_mangle)]
@@ -56,26 +44,17 @@ pub extern "C" fn brc_list_set(
 ) -> u32
     ensures kept { result ≢ 0 → old.new ≡ old.old }
 {
-    match thread.as_mut().client() {
-        Ok(client) => write_old(client.take(alloc, list, TakeBy::Set(index), value), old),
-        Err(status) => status.number(),
-    }
+    exchange_by(alloc, thread, list, TakeBy::Set(index), value, old)
 }
 
 #[unsafe(no_mangle)]
 pub extern "C" fn brc_send(alloc: Global, thread: &mut CThread, mailbox: u64, value: u64) -> u32 {
-    match thread.as_mut().client() {
-        Ok(client) => status_of_taking(client.take(alloc, mailbox, TakeBy::Send, value)),
-        Err(status) => status.number(),
-    }
+    put_by(alloc, thread, mailbox, TakeBy::Send, value)
 }
 
 #[unsafe(no_mangle)]
 pub extern "C" fn brc_recv(thread: &mut CThread, mailbox: u64, value: &mut u64) -> u32
     ensures kept { result ≢ 0 → value.new ≡ value.old }
 {
-    match thread.as_mut().client() {
-        Ok(client) => write(client.give(mailbox, GiveBy::Receive), value),
-        Err(status) => status.number(),
-    }
+    give_by(thread, mailbox, GiveBy::Receive, value)
 }

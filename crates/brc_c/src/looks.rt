@@ -1,13 +1,17 @@
 //! What an object is: its kind, how many entries it has, its number, its truth, its text.
 
 ghost use Rattle.std.specs.Prelude.{◌≡◌, ◌≢◌};
+ghost use Rattle.brc_c.specs.Exports.{Writes, code_of, kind_number};
 
-use crate::outs::{copy_prefix, write, write_truth};
+use crate::outs::{gone, write, write_truth};
 use crate::slots::CThread;
+use brc_client::{Status, copy_prefix};
 use brc_words::Kind;
 
 /// The kind as C has it.
-fn number_of(kind: Kind) -> u32 {
+fn number_of(kind: Kind) -> u32
+    ensures { result ≡ kind_number kind }
+{
     match kind {
         Kind::Int => 1,
         Kind::Text => 2,
@@ -20,19 +24,28 @@ fn number_of(kind: Kind) -> u32 {
     }
 }
 
+/// The kind's number is written.
+fn write_kind(made: Result<Kind, Status>, to: &mut u32) -> u32
+    ensures code { result ≡ code_of made }
+    ensures written { Writes kind_number to.old to.new made }
+    ensures kept { result ≢ 0 → to.new ≡ to.old }
+{
+    match made {
+        Ok(kind) => {
+            *to = number_of(kind);
+            0
+        }
+        Err(status) => status.number(),
+    }
+}
+
 #[unsafe(no_mangle)]
 pub extern "C" fn brc_kind_of(thread: &mut CThread, held: u64, kind: &mut u32) -> u32
     ensures kept { result ≢ 0 → kind.new ≡ kind.old }
 {
     match thread.as_mut().client() {
-        Ok(client) => match client.kind(held) {
-            Ok(found) => {
-                *kind = number_of(found);
-                0
-            }
-            Err(status) => status.number(),
-        },
-        Err(status) => status.number(),
+        Some(client) => write_kind(client.kind(held), kind),
+        None => gone(),
     }
 }
 
@@ -41,8 +54,8 @@ pub extern "C" fn brc_len_of(thread: &mut CThread, held: u64, len: &mut usize) -
     ensures kept { result ≢ 0 → len.new ≡ len.old }
 {
     match thread.as_mut().client() {
-        Ok(client) => write(client.len(held), len),
-        Err(status) => status.number(),
+        Some(client) => write(client.len(held), len),
+        None => gone(),
     }
 }
 
@@ -51,8 +64,8 @@ pub extern "C" fn brc_int_of(thread: &mut CThread, held: u64, value: &mut i64) -
     ensures kept { result ≢ 0 → value.new ≡ value.old }
 {
     match thread.as_mut().client() {
-        Ok(client) => write(client.int(held), value),
-        Err(status) => status.number(),
+        Some(client) => write(client.int(held), value),
+        None => gone(),
     }
 }
 
@@ -61,8 +74,8 @@ pub extern "C" fn brc_truth_of(thread: &mut CThread, held: u64, is_true: &mut u3
     ensures kept { result ≢ 0 → is_true.new ≡ is_true.old }
 {
     match thread.as_mut().client() {
-        Ok(client) => write_truth(client.truth(held), is_true),
-        Err(status) => status.number(),
+        Some(client) => write_truth(client.truth(held), is_true),
+        None => gone(),
     }
 }
 
@@ -76,13 +89,13 @@ pub extern "C" fn brc_text_of(
     ensures kept { result ≢ 0 → (to.new ≡ to.old) × (len.new ≡ len.old) }
 {
     match thread.as_mut().client() {
-        Ok(client) => match client.read_text(held) {
+        Some(client) => match client.read_text(held) {
             Ok(()) => {
                 *len = copy_prefix(client.shown().as_bytes(), to);
                 0
             }
             Err(status) => status.number(),
         },
-        Err(status) => status.number(),
+        None => gone(),
     }
 }

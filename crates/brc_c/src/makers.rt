@@ -2,7 +2,8 @@
 
 ghost use Rattle.std.specs.Prelude.{◌≡◌, ◌≢◌};
 
-use crate::outs::write;
+use crate::calls::make_by;
+use crate::outs::{gone, says_yes, write};
 use crate::slots::CThread;
 use brc_client::{Make, text_of};
 use std::alloc::Global;
@@ -11,10 +12,7 @@ use std::alloc::Global;
 pub extern "C" fn brc_none(alloc: Global, thread: &mut CThread, made: &mut u64) -> u32
     ensures kept { result ≢ 0 → made.new ≡ made.old }
 {
-    match thread.as_mut().client() {
-        Ok(client) => write(client.make(alloc, Make::Nothing), made),
-        Err(status) => status.number(),
-    }
+    make_by(alloc, thread, Make::Nothing, made)
 }
 
 #[unsafe(no_mangle)]
@@ -26,20 +24,14 @@ pub extern "C" fn brc_truth(
 ) -> u32
     ensures kept { result ≢ 0 → made.new ≡ made.old }
 {
-    match thread.as_mut().client() {
-        Ok(client) => write(client.make(alloc, Make::Truth(is_true != 0)), made),
-        Err(status) => status.number(),
-    }
+    make_by(alloc, thread, Make::Truth(says_yes(is_true)), made)
 }
 
 #[unsafe(no_mangle)]
 pub extern "C" fn brc_globals(alloc: Global, thread: &mut CThread, made: &mut u64) -> u32
     ensures kept { result ≢ 0 → made.new ≡ made.old }
 {
-    match thread.as_mut().client() {
-        Ok(client) => write(client.make(alloc, Make::Globals), made),
-        Err(status) => status.number(),
-    }
+    make_by(alloc, thread, Make::Globals, made)
 }
 
 #[unsafe(no_mangle)]
@@ -51,40 +43,28 @@ pub extern "C" fn brc_new_int(
 ) -> u32
     ensures kept { result ≢ 0 → made.new ≡ made.old }
 {
-    match thread.as_mut().client() {
-        Ok(client) => write(client.make(alloc, Make::Int(value)), made),
-        Err(status) => status.number(),
-    }
+    make_by(alloc, thread, Make::Int(value), made)
 }
 
 #[unsafe(no_mangle)]
 pub extern "C" fn brc_new_list(alloc: Global, thread: &mut CThread, made: &mut u64) -> u32
     ensures kept { result ≢ 0 → made.new ≡ made.old }
 {
-    match thread.as_mut().client() {
-        Ok(client) => write(client.make(alloc, Make::List), made),
-        Err(status) => status.number(),
-    }
+    make_by(alloc, thread, Make::List, made)
 }
 
 #[unsafe(no_mangle)]
 pub extern "C" fn brc_new_dict(alloc: Global, thread: &mut CThread, made: &mut u64) -> u32
     ensures kept { result ≢ 0 → made.new ≡ made.old }
 {
-    match thread.as_mut().client() {
-        Ok(client) => write(client.make(alloc, Make::Dict), made),
-        Err(status) => status.number(),
-    }
+    make_by(alloc, thread, Make::Dict, made)
 }
 
 #[unsafe(no_mangle)]
 pub extern "C" fn brc_new_mailbox(alloc: Global, thread: &mut CThread, made: &mut u64) -> u32
     ensures kept { result ≢ 0 → made.new ≡ made.old }
 {
-    match thread.as_mut().client() {
-        Ok(client) => write(client.make(alloc, Make::Mailbox), made),
-        Err(status) => status.number(),
-    }
+    make_by(alloc, thread, Make::Mailbox, made)
 }
 
 #[unsafe(no_mangle)]
@@ -97,10 +77,10 @@ pub extern "C" fn brc_new_text(
     ensures kept { result ≢ 0 → made.new ≡ made.old }
 {
     match thread.as_mut().client() {
-        Ok(client) => match text_of(bytes) {
+        Some(client) => match text_of(bytes) {
             Ok(text) => write(client.make(alloc, Make::Text(text)), made),
             Err(status) => status.number(),
         },
-        Err(status) => status.number(),
+        None => gone(),
     }
 }

@@ -2,7 +2,7 @@
 
 ghost use Rattle.std.specs.Prelude.{◌≡◌, ◌≢◌};
 
-use crate::outs::{status_of, write, write_truth};
+use crate::outs::{gone, status_of, write, write_truth};
 use crate::slots::CThread;
 
 #[unsafe(no_mangle)]
@@ -10,16 +10,16 @@ pub extern "C" fn brc_retain(thread: &mut CThread, held: u64, more: &mut u64) ->
     ensures kept { result ≢ 0 → more.new ≡ more.old }
 {
     match thread.as_mut().client() {
-        Ok(client) => write(client.retain(held), more),
-        Err(status) => status.number(),
+        Some(client) => write(client.retain(held), more),
+        None => gone(),
     }
 }
 
 #[unsafe(no_mangle)]
 pub extern "C" fn brc_release(thread: &mut CThread, held: u64) -> u32 {
     match thread.as_mut().client() {
-        Ok(client) => status_of(client.release(held)),
-        Err(status) => status.number(),
+        Some(client) => status_of(client.release(held)),
+        None => gone(),
     }
 }
 
@@ -28,7 +28,7 @@ pub extern "C" fn brc_same(thread: &mut CThread, one: u64, other: u64, same: &mu
     ensures kept { result ≢ 0 → same.new ≡ same.old }
 {
     match thread.as_mut().client() {
-        Ok(client) => write_truth(client.is_same(one, other), same),
-        Err(status) => status.number(),
+        Some(client) => write_truth(client.is_same(one, other), same),
+        None => gone(),
     }
 }

@@ -1,9 +1,11 @@
 //! Threads: registered, counted, at work, and on their way out.
 
 ghost use Rattle.std.specs.Prelude.{◌≡◌, ◌≢◌};
+ghost use Rattle.brc_c.specs.Ends.{Leaves, TellsLedger, WritesLedger};
+ghost use Rattle.brc_c.specs.Exports.{Carries, WritesNothing, code_of};
 
 use crate::held::Held;
-use crate::outs::status_of;
+use crate::outs::{gone, says_yes, status_of};
 use crate::parts::Parts;
 use crate::slots::{CHeap, CThread};
 use brc_client::{Status, Thread};
@@ -35,6 +37,7 @@ pub extern "C" fn brc_thread_fork(alloc: Global, thread: &mut CThread, at: &mut 
 
 /// The thread goes into the room, and the room to C.
 fn hand_out(room: Box<Held, Global>, made: Result<Thread, Status>, at: &mut *mut u8) -> u32
+    ensures code { result ≡ code_of made }
     ensures kept { result ≢ 0 → at.new ≡ at.old }
 {
     match made {
@@ -49,7 +52,9 @@ fn hand_out(room: Box<Held, Global>, made: Result<Thread, Status>, at: &mut *mut
 }
 
 #[unsafe(no_mangle)]
-pub extern "C" fn brc_thread_leave(thread: &mut CThread) -> u32 {
+pub extern "C" fn brc_thread_leave(thread: &mut CThread) -> u32
+    ensures carries { Carries Leaves thread.old.value.thread thread.new.value.thread result WritesNothing }
+{
     status_of(thread.as_mut().leave())
 }
 
@@ -61,6 +66,8 @@ pub extern "C" fn brc_thread_drop(thread: CThread) {
 #[unsafe(no_mangle)]
 pub extern "C" fn brc_ledger(thread: &mut CThread, allocs: &mut u64, frees: &mut u64) -> u32
     ensures kept { result ≢ 0 → (allocs.new ≡ allocs.old) × (frees.new ≡ frees.old) }
+    ensures carries { Carries TellsLedger thread.old.value.thread thread.new.value.thread result
+        (WritesLedger allocs.old allocs.new frees.old frees.new) }
 {
     match thread.as_mut().ledger() {
         Ok(ledger) => {
@@ -75,45 +82,45 @@ pub extern "C" fn brc_ledger(thread: &mut CThread, allocs: &mut u64, frees: &mut
 #[unsafe(no_mangle)]
 pub extern "C" fn brc_poll(thread: &mut CThread) -> u64 {
     match thread.as_mut().client() {
-        Ok(client) => client.poll(),
-        Err(_) => 0,
+        Some(client) => client.poll(),
+        None => 0,
     }
 }
 
 #[unsafe(no_mangle)]
 pub extern "C" fn brc_work(thread: &mut CThread, turns: usize) -> usize {
     match thread.as_mut().client() {
-        Ok(client) => client.work(turns),
-        Err(_) => turns,
+        Some(client) => client.work(turns),
+        None => turns,
     }
 }
 
 #[unsafe(no_mangle)]
 pub extern "C" fn brc_count(thread: &mut CThread) -> usize {
     match thread.as_mut().client() {
-        Ok(client) => client.count(),
-        Err(_) => 0,
+        Some(client) => client.count(),
+        None => 0,
     }
 }
 
 #[unsafe(no_mangle)]
 pub extern "C" fn brc_release_all(thread: &mut CThread) -> u32 {
     match thread.as_mut().client() {
-        Ok(client) => {
+        Some(client) => {
             client.release_all();
             0
         }
-        Err(status) => status.number(),
+        None => gone(),
     }
 }
 
 #[unsafe(no_mangle)]
 pub extern "C" fn brc_claim(thread: &mut CThread, cell: u32, near_last: u32) -> u32 {
     match thread.as_mut().client() {
-        Ok(client) => {
-            client.claim(cell, near_last != 0);
+        Some(client) => {
+            client.claim(cell, says_yes(near_last));
             0
         }
-        Err(status) => status.number(),
+        None => gone(),
     }
 }

@@ -1,2 +1,3 @@
 mod Placed
 mod Named
+pub mod Statuses

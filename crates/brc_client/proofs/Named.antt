@@ -9,11 +9,12 @@ use Rattle.brc_words.specs.declared.fault.Fault.{Fault}
 use Rattle.brc_count.specs.declared.handed.HandedBack.{HandedBack}
 use Rattle.brc_count.specs.Frames.{FrameSeen, HandleSeen}
 use Rattle.brc_handles.specs.Handles.{slot}
+use Rattle.brc_client.specs.declared.status.Status.{Status}
 use Rattle.brc_client.specs.declared.status.Status.TheVariants as statuses
-use Rattle.brc_client.specs.Numbers.{NumbersSeen, number_at, place_in, stamp_in, once_more}
+use Rattle.brc_client.specs.Numbers.{NumbersSeen, number_at, place_in, stamp_in, once_more, MisSpelt}
 use Rattle.brc_places.specs.Placing.{TakesNot, NoHandle, ValueRefused as TakenBack}
 use Rattle.brc_client.specs.Calls.{PutsNot, ValueRefused}
-use Rattle.brc_client.specs.Clients.{ClientSeen, NamesAs, Names, NamesNone, KeepsNames, SpendsName}
+use Rattle.brc_client.specs.Clients.{ClientSeen, NamesIn, NamesOneIn, NamesNoneIn, NamesAs, Names, KeepsNames, SpendsName}
 
 -- ---- the arithmetic of numbers
 
@@ -28,15 +29,13 @@ once_more_differs uses same = omega (arith, same)
 -- ---- a number is looked at
 
 -- it is spelled as its place is now, and a handle is there
-pub named : (client : ClientSeen) (number place : ℕ) (handle : HandleSeen) → place ≡ place_in number
-    → number ≡ number_at client.numbers place → Some handle ≡ slot client.handles place → Names client number
-named client number place handle is spelled there = (
-  handle,
-  record {
-    there = ap (slot client.handles) (sym is) ∙ sym there;
-    spelled = spelled ∙ ap (number_at client.numbers) is;
-  },
-)
+pub found : (handles : List (Option HandleSeen)) (numbers : NumbersSeen) (number place : ℕ) (handle : HandleSeen)
+    → place ≡ place_in number → number ≡ number_at numbers place → Some handle ≡ slot handles place
+    → NamesIn handles numbers number handle
+found handles numbers number place handle is spelled there = record {
+  there = ap (slot handles) (sym is) ∙ sym there;
+  spelled = spelled ∙ ap (number_at numbers) is;
+}
 
 -- the handle that is there is the one that it names
 pub names_this : (client : ClientSeen) (number place : ℕ) (handle : HandleSeen) → place ≡ place_in number
@@ -47,13 +46,22 @@ names_this client number place handle is names there = record {
 }
 
 -- or none is
-pub stale : (client : ClientSeen) (number place : ℕ) → place ≡ place_in number → stamp_in number ≡ client.numbers.stamp
-    → None ≡ slot client.handles place → NamesNone client number statuses.Stale
-stale client number place is stamp none = (
+pub stale : (handles : List (Option HandleSeen)) (numbers : NumbersSeen) (number place : ℕ) → place ≡ place_in number
+    → stamp_in number ≡ numbers.stamp → None ≡ slot handles place → NamesNoneIn handles numbers number statuses.Stale
+stale handles numbers number place is stamp none = (
   stamp,
-  λ names.
-      (let off : None ≡ Some names.0 = none ∙ ap (slot client.handles) is ∙ names.1.there in let f : ⊥ = cc in f),
+  λ names. (let off : None ≡ Some names.0 = none ∙ ap (slot handles) is ∙ names.1.there in let f : ⊥ = cc in f),
 )
+
+-- a number that is spelled otherwise names none
+pub misspelt : (handles : List (Option HandleSeen)) (numbers : NumbersSeen) (number : ℕ) (status : Status)
+    → MisSpelt numbers number status → NamesNoneIn handles numbers number status
+misspelt handles numbers number statuses.Foreign why = why
+misspelt handles numbers number statuses.Stale why = (why.0, λ names. why.1 names.1.spelled)
+misspelt handles numbers number (statuses.Fault fault) why = why
+misspelt handles numbers number statuses.Same why = why
+misspelt handles numbers number statuses.Gone why = why
+misspelt handles numbers number statuses.NotText why = why
 
 -- ---- a handle came
 
@@ -65,31 +73,41 @@ slot_else : (hs : List (Option HandleSeen)) (i k : ℕ) (x : Option HandleSeen) 
 slot_else hs i k x other = grind (arith, common_steps)
 
 -- all that named a handle name it still
-pub names_kept : (old new : ClientSeen) (given : HandleSeen) → slot old.handles given.place ≡ None
-    → new.handles ≡ slice_set old.handles given.place (Some given) → new.numbers ≡ old.numbers → KeepsNames old new
-names_kept old new given empty set numbers n h names =
-    let other : place_in n ≢ given.place = λ same. (let none : slot old.handles (place_in n) ≡ None
-    = ap (slot old.handles) same ∙ empty in let off : None ≡ Some h = sym none ∙ names.there in absurd (let f : ⊥ = cc in f)) in
+pub kept_in : (before after : List (Option HandleSeen)) (was is : NumbersSeen) (given : HandleSeen)
+    → slot before given.place ≡ None → after ≡ slice_set before given.place (Some given) → is ≡ was
+    → (n : ℕ) (h : HandleSeen) → NamesIn before was n h → NamesIn after is n h
+kept_in before after was is given empty set numbers n h names =
+    let other : place_in n ≢ given.place = λ same. (let none : slot before (place_in n) ≡ None
+    = ap (slot before) same ∙ empty in let off : None ≡ Some h = sym none ∙ names.there in absurd (let f : ⊥ = cc in f)) in
     record {
       there = ap (λ (l : List (Option HandleSeen)). slot l (place_in n)) set
-          ∙ slot_else old.handles given.place (place_in n) (Some given) other ∙ names.there;
+          ∙ slot_else before given.place (place_in n) (Some given) other ∙ names.there;
       spelled = names.spelled ∙ ap (λ (m : NumbersSeen). number_at m (place_in n)) (sym numbers);
     }
 
+pub names_kept : (old new : ClientSeen) (given : HandleSeen) → slot old.handles given.place ≡ None
+    → new.handles ≡ slice_set old.handles given.place (Some given) → new.numbers ≡ old.numbers → KeepsNames old new
+names_kept old new given empty set numbers = kept_in old.handles new.handles old.numbers new.numbers given empty set numbers
+
 -- and the new number names the handle that came
-pub names_given : (before : List (Option HandleSeen)) (new : ClientSeen) (given : HandleSeen) (n : ℕ)
-    → given.place < 65536 → length before ≡ 65536 → new.handles ≡ slice_set before given.place (Some given)
-    → n ≡ number_at new.numbers given.place → Names new n
-names_given before new given n room places set is =
-    let place : place_in n ≡ given.place = ap place_in is ∙ place_at new.numbers given.place room in
+pub given_in : (before after : List (Option HandleSeen)) (numbers : NumbersSeen) (given : HandleSeen) (n : ℕ)
+    → given.place < 65536 → length before ≡ 65536 → after ≡ slice_set before given.place (Some given)
+    → n ≡ number_at numbers given.place → NamesOneIn after numbers n
+given_in before after numbers given n room places set is =
+    let place : place_in n ≡ given.place = ap place_in is ∙ place_at numbers given.place room in
     let inside : given.place < length before = omega (arith, room, places) in (
       given,
       record {
-        there = ap (slot new.handles) place ∙ ap (λ (l : List (Option HandleSeen)). slot l given.place) set
+        there = ap (slot after) place ∙ ap (λ (l : List (Option HandleSeen)). slot l given.place) set
             ∙ slot_set before given.place (Some given) inside;
-        spelled = is ∙ ap (number_at new.numbers) (sym place);
+        spelled = is ∙ ap (number_at numbers) (sym place);
       },
     )
+
+pub names_given : (before : List (Option HandleSeen)) (new : ClientSeen) (given : HandleSeen) (n : ℕ)
+    → given.place < 65536 → length before ≡ 65536 → new.handles ≡ slice_set before given.place (Some given)
+    → n ≡ number_at new.numbers given.place → Names new n
+names_given before new given n room places set is = given_in before new.handles new.numbers given n room places set is
 
 -- ---- a number was spent
 
@@ -117,26 +135,29 @@ nameless client none n names = let off : None ≡ Some names.0 = sym (none (plac
 
 -- ---- what a container took, and what came out for it
 
-came_from : (client : ClientSeen) (place : ℕ) (result : Option ℕ) → place < 65536 → (found : Option HandleSeen)
-    → slot client.handles place ≡ found
-    → MatchOption found (result ≡ None) (λ h. result ≡ Some (number_at client.numbers place)) → IfSome result (Names client)
-came_from client place result inside None is told = rw told tt
-came_from client place result inside (Some h) is told =
-    let here : place_in (number_at client.numbers place) ≡ place = place_at client.numbers place inside in
-    let names : Names client (number_at client.numbers place) = (
+came_from : (handles : List (Option HandleSeen)) (numbers : NumbersSeen) (place : ℕ) (result : Option ℕ)
+    → place < 65536 → (found : Option HandleSeen) → slot handles place ≡ found
+    → MatchOption found (result ≡ None) (λ h. result ≡ Some (number_at numbers place))
+    → IfSome result (NamesOneIn handles numbers)
+came_from handles numbers place result inside None is told = rw told tt
+came_from handles numbers place result inside (Some h) is told =
+    let here : place_in (number_at numbers place) ≡ place = place_at numbers place inside in
+    let names : NamesOneIn handles numbers (number_at numbers place) = (
       h,
       record {
-        there = ap (slot client.handles) here ∙ is;
-        spelled = ap (number_at client.numbers) (sym here);
+        there = ap (slot handles) here ∙ is;
+        spelled = ap (number_at numbers) (sym here);
       },
     ) in
     rw told names
 
 -- the number of the handle that is in the place now names it
-pub came_names : (client : ClientSeen) (place : ℕ) (result : Option ℕ) → place < 65536
-    → MatchOption (slot client.handles place) (result ≡ None) (λ h. result ≡ Some (number_at client.numbers place))
-    → IfSome result (Names client)
-came_names client place result inside told = came_from client place result inside (slot client.handles place) refl told
+pub came_names : (handles : List (Option HandleSeen)) (numbers : NumbersSeen) (place : ℕ) (result : Option ℕ)
+    → place < 65536
+    → MatchOption (slot handles place) (result ≡ None) (λ h. result ≡ Some (number_at numbers place))
+    → IfSome result (NamesOneIn handles numbers)
+came_names handles numbers place result inside told =
+    came_from handles numbers place result inside (slot handles place) refl told
 
 -- a call by place was refused, so one by numbers is
 pub refused : (call : FrameSeen Global → ℕ → HandleSeen → Result (Option HandleSeen) (HandedBack HandleSeen) → Type 0)

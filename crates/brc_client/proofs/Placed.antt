@@ -10,7 +10,8 @@ use Rattle.brc_count.specs.Owned.{Keeps, Gains, Loses}
 use Rattle.brc_handles.specs.Handles.{slot, filled, IsApart, IsBare, ComesIn, ComesOut}
 use Rattle.brc_handles.specs.Standing.{KeepsStanding}
 use Rattle.brc_handles.proofs.Places.{bare_of}
-use Rattle.brc_client.specs.Clients.{IsClient}
+use Rattle.brc_client.specs.Numbers.{NumbersSeen, place_in}
+use Rattle.brc_client.specs.Clients.{IsClient, NamesIn}
 
 -- ---- one place
 
@@ -43,6 +44,12 @@ each step (Some h) all = step h all
 
 at_slot : (P : HandleSeen → Type 0) (found : Option HandleSeen) (h : HandleSeen) → found ≡ Some h → IfSome found P → P h
 at_slot P found h is all = let there : IfSome (Some h) P = rw is at all in there
+
+-- the frame owns the handle that a number names
+pub owned : (frame : FrameSeen Global) (hs : List (Option HandleSeen)) (numbers : NumbersSeen) (number : ℕ)
+    (h : HandleSeen) → IsClient frame hs → NamesIn hs numbers number h → Owns frame h
+owned frame hs numbers number h client names = at_slot (Owns frame) (slot hs (place_in number)) h names.there
+    (client.stands.holds.owned (place_in number))
 
 -- ---- many
 

@@ -24,21 +24,32 @@ pub record IsClient (frame : FrameSeen Global) (handles : List (Option HandleSee
   pub lies : (k : ℕ) (h : HandleSeen) → slot handles k ≡ Some h → h.place ≡ k
   pub places : length handles ≡ 65536
 
--- the number names this handle
-pub record NamesAs (client : ClientSeen) (number : ℕ) (handle : HandleSeen) : Type 0 where
-  pub there : slot client.handles (place_in number) ≡ Some handle
-  pub spelled : number ≡ number_at client.numbers (place_in number)
+-- The number names this handle. It lies in the place that the number says, and the number is spelled as that place is.
+pub record NamesIn (handles : List (Option HandleSeen)) (numbers : NumbersSeen) (number : ℕ) (handle : HandleSeen)
+    : Type 0 where
+  pub there : slot handles (place_in number) ≡ Some handle
+  pub spelled : number ≡ number_at numbers (place_in number)
 
--- the number names a handle
-abbrev pub Names : ClientSeen → ℕ → Type 0
-Names client number = (handle : HandleSeen) × NamesAs client number handle
+abbrev pub NamesOneIn : List (Option HandleSeen) → NumbersSeen → ℕ → Type 0
+NamesOneIn handles numbers number = (handle : HandleSeen) × NamesIn handles numbers number handle
 
 -- Why it names none. Foreign: it is of another registration, or none. Stale: what it named is there no more, or never
 -- was.
+abbrev pub NamesNoneIn : List (Option HandleSeen) → NumbersSeen → ℕ → Status → Type 0
+NamesNoneIn handles numbers number statuses.Foreign = stamp_in number ≢ numbers.stamp
+NamesNoneIn handles numbers number statuses.Stale =
+    (stamp_in number ≡ numbers.stamp) × (NamesOneIn handles numbers number → ⊥)
+NamesNoneIn handles numbers number _ = ⊥
+
+-- the same of a client
+abbrev pub NamesAs : ClientSeen → ℕ → HandleSeen → Type 0
+NamesAs client = NamesIn client.handles client.numbers
+
+abbrev pub Names : ClientSeen → ℕ → Type 0
+Names client = NamesOneIn client.handles client.numbers
+
 abbrev pub NamesNone : ClientSeen → ℕ → Status → Type 0
-NamesNone client number statuses.Foreign = stamp_in number ≢ client.numbers.stamp
-NamesNone client number statuses.Stale = (stamp_in number ≡ client.numbers.stamp) × (Names client number → ⊥)
-NamesNone client number _ = ⊥
+NamesNone client = NamesNoneIn client.handles client.numbers
 
 -- ---- from before a call to behind it
 

@@ -23,6 +23,11 @@ use Rattle.brc_client.specs.Clients.{ClientSeen}
 
 -- ---- a thread
 
+-- the client of a thread that hasn't left
+abbrev pub client_of : Stage → Option ClientSeen
+client_of (stages.Works client) = Some client
+client_of _ = None
+
 -- the heap of a thread that isn't gathered yet
 abbrev pub heap_of : Stage → Option TableSeen
 heap_of (stages.Works client) = Some client.frame.heap

@@ -5,7 +5,8 @@ ghost use Rattle.std.specs.Prelude.{OnOk, OnErr};
 ghost use Rattle.brc_count.specs.Frames.{IsUnlocked, KeepsHandles, ledger_seen, word_asked};
 ghost use Rattle.brc_handles.specs.Handles.{slot, filled, IsApart, IsBare, ComesIn};
 ghost use Rattle.brc_client.specs.Numbers.{number_at, place_in};
-ghost use Rattle.brc_client.specs.Clients.{IsClient, Names, NamesNone, KeepsNumbers, KeepsNames, SpendsName};
+ghost use Rattle.brc_client.specs.Clients.{IsClient, Names, NamesIn, NamesNone, NamesNoneIn};
+ghost use Rattle.brc_client.specs.Clients.{KeepsNumbers, KeepsNames, SpendsName};
 ghost use Rattle.brc_client.specs.Calls.{OfNamed, RefusedOf, Adds, Retained, Releases};
 
 use crate::numbers::{Numbers, PLACES};
@@ -61,6 +62,29 @@ pub(crate) fn insert(handles: &mut Handles<Global>, numbers: &Numbers, given: Ha
     }
 }
 
+/// The handle that the number names. Foreign, then Stale, if it names none.
+#[tactic(auto, using(crate::proofs::Named::found, crate::proofs::Named::stale, crate::proofs::Named::misspelt))]
+#[inline(always)]
+pub(crate) fn find<'h>(
+    handles: &'h Handles<Global>,
+    numbers: &Numbers,
+    number: u64,
+) -> Result<&'h Handle<Global>, Status>
+    requires places { length handles.now ≡ 65536 }
+    ensures named { IfOk result (λ handle. NamesIn handles.now numbers.now number handle.now) }
+    ensures refused { IfErr result (NamesNoneIn handles.now numbers.now number) }
+{
+    let place = numbers.place(number)?;
+    // All places are there, so `get` needn't look.
+    if place >= handles.len() {
+        unreachable!()
+    }
+    match handles.get(place) {
+        Some(handle) => Ok(handle),
+        None => Err(Status::Stale),
+    }
+}
+
 /// All handles go, by rising place, and their numbers with them.
 fn release_each(
     frame: &mut Frame<Shared, Global>,
@@ -108,7 +132,6 @@ impl Client {
     }
 
     /// The place of the handle that the number names. Foreign, then Stale, if it names none.
-    #[tactic(auto, using(crate::proofs::Named::named, crate::proofs::Named::stale))]
     #[inline(always)]
     pub(crate) fn place_of(&self, number: u64) -> Result<usize, Status>
         ensures place { IfOk result (λ place. place ≡ place_in number) }
@@ -116,11 +139,8 @@ impl Client {
         ensures named { OnOk result (Names self.now number) }
         ensures refused { IfErr result (NamesNone self.now number) }
     {
-        let place = self.numbers.place(number)?;
-        match self.handles.get(place) {
-            Some(_handle) => Ok(place),
-            None => Err(Status::Stale),
-        }
+        let _handle = find(&self.handles, &self.numbers, number)?;
+        Ok((number % 65_536) as usize)
     }
 
     /// How many references the thread has.
@@ -140,7 +160,7 @@ impl Client {
 
     /// One reference more to the object, under a number of its own. Foreign, Stale; then FrameFull, if the thread has
     /// 65,536 references, and OutOfMemory.
-    #[tactic(auto, using(crate::proofs::Placed::vacant, crate::proofs::Placed::apart, crate::proofs::Placed::gained, crate::proofs::Placed::keeps, crate::proofs::Named::names_kept, crate::proofs::Named::names_given))]
+    #[tactic(auto, using(crate::proofs::Placed::owned, crate::proofs::Placed::vacant, crate::proofs::Placed::apart, crate::proofs::Placed::gained, crate::proofs::Placed::keeps, crate::proofs::Named::names_kept, crate::proofs::Named::names_given))]
     #[inline]
     pub fn retain(&mut self, number: u64) -> Result<u64, Status>
         ensures more { IfOk result (λ more. OfNamed self.old number
@@ -151,10 +171,7 @@ impl Client {
         ensures keeps { KeepsNames self.old self.new }
         ensures unchanged { OnErr result (KeepsNumbers self.old self.new) }
     {
-        let place = self.place_of(number)?;
-        let Some(handle) = self.handles.get(place) else {
-            unreachable!()
-        };
+        let handle = find(&self.handles, &self.numbers, number)?;
         match self.mutator.frame().retain(handle) {
             Ok(given) => Ok(insert(&mut self.handles, &self.numbers, given)),
             Err(fault) => Err(Status::Fault(fault)),

@@ -21,6 +21,6 @@ mod thread;
 pub use brc_heap::{Key, KeyRef, Kind, Ledger, RootCounts};
 pub use brc_places::{GiveBy, Make, TakeBy};
 pub use client::Client;
-pub use owner::{Left, Owner};
+pub use owner::{Left, Owner, copy_prefix};
 pub use status::{Status, text_of};
 pub use thread::Thread;

@@ -8,7 +8,7 @@ ghost use Rattle.brc_client.specs.Numbers.{number_at};
 ghost use Rattle.brc_client.specs.Clients.{Names, KeepsNumbers, KeepsNames, SpendsName};
 ghost use Rattle.brc_client.specs.Calls.{OfNamed, ByHeap, RefusedOf, Adds, WithKey, PutsIn, PutsNot};
 
-use crate::client::{Client, insert};
+use crate::client::{Client, find, insert};
 use crate::numbers::Numbers;
 use crate::status::Status;
 use brc_dicts::try_dict_pair;
@@ -49,7 +49,7 @@ impl Client {
 
     /// The reference that the container gives by this call, under a number. Foreign, Stale; then as the call is refused
     /// (`try_give_by` of `brc_places`), Busy first.
-    #[tactic(auto, using(crate::proofs::Placed::vacant, crate::proofs::Placed::apart, crate::proofs::Placed::gained, crate::proofs::Placed::keeps, crate::proofs::Named::names_kept, crate::proofs::Named::names_given))]
+    #[tactic(auto, using(crate::proofs::Placed::owned, crate::proofs::Placed::vacant, crate::proofs::Placed::apart, crate::proofs::Placed::gained, crate::proofs::Placed::keeps, crate::proofs::Named::names_kept, crate::proofs::Named::names_given))]
     #[inline(always)]
     pub fn give(&mut self, container: u64, by: GiveBy<'_>) -> Result<u64, Status>
         ensures gave { IfOk result (λ more. OfNamed self.old container
@@ -61,10 +61,7 @@ impl Client {
         ensures keeps { KeepsNames self.old self.new }
         ensures unchanged { OnErr result (KeepsNumbers self.old self.new) }
     {
-        let place = self.place_of(container)?;
-        let Some(object) = self.handles.get(place) else {
-            unreachable!()
-        };
+        let object = find(&self.handles, &self.numbers, container)?;
         match try_give_by(self.mutator.frame(), object, by) {
             Ok(given) => Ok(insert(&mut self.handles, &self.numbers, given)),
             Err(fault) => Err(Status::Fault(fault)),
@@ -114,7 +111,7 @@ impl Client {
 
     /// A copy of the key at this index of a dictionary, and a reference more to the value beside it, under a number.
     /// Foreign, Stale; then as `try_dict_pair` of `brc_dicts`: Busy, WrongKind, NoSuchPlace, FrameFull, OutOfMemory.
-    #[tactic(auto, using(crate::proofs::Placed::vacant, crate::proofs::Placed::apart, crate::proofs::Placed::gained, crate::proofs::Placed::keeps, crate::proofs::Named::names_kept, crate::proofs::Named::names_given))]
+    #[tactic(auto, using(crate::proofs::Placed::owned, crate::proofs::Placed::vacant, crate::proofs::Placed::apart, crate::proofs::Placed::gained, crate::proofs::Placed::keeps, crate::proofs::Named::names_kept, crate::proofs::Named::names_given))]
     pub fn pair(
         &mut self,
         alloc: Global,
@@ -130,10 +127,7 @@ impl Client {
         ensures keeps { KeepsNames self.old self.new }
         ensures unchanged { OnErr result (KeepsNumbers self.old self.new) }
     {
-        let place = self.place_of(dict)?;
-        let Some(object) = self.handles.get(place) else {
-            unreachable!()
-        };
+        let object = find(&self.handles, &self.numbers, dict)?;
         match try_dict_pair(alloc, self.mutator.frame(), object, index) {
             Ok((key, given)) => {
                 let number = insert(&mut self.handles, &self.numbers, given);

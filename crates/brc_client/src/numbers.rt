@@ -16,18 +16,21 @@ pub(crate) const PLACES: usize = 65_536;
 pub struct Numbers {
     /// 1 to 65,535.
     stamp: u64,
+    /// What each number begins with: the stamp, where a number has it.
+    base: u64,
     uses: Vec<u32, Global>,
 }
 
 impl Model for Numbers {
-    ghost use Rattle.std.specs.Prelude.{◌≡◌, ◌<◌, length};
+    ghost use Rattle.std.specs.Prelude.{◌≡◌, ◌<◌, ◌*◌, length};
     ghost use Rattle.brc_client.specs.Numbers.{NumbersSeen};
 
     ghost Value = { NumbersSeen };
 
     ghost view = { λ n. record { stamp = n.stamp; uses = n.uses.items } };
 
-    ghost invariant = { λ n. (0 < n.stamp) × (n.stamp < 65536) × (length n.uses.items ≡ 65536) };
+    ghost invariant = { λ n. (0 < n.stamp) × (n.stamp < 65536) × (n.base ≡ n.stamp * 281474976710656)
+        × (length n.uses.items ≡ 65536) };
 }
 
 impl Numbers {
@@ -36,7 +39,11 @@ impl Numbers {
         ensures uses { IfOk result (λ made. made.uses ≡ replicate 65536 0) }
     {
         let uses = Vec::from_elem(alloc, 0u32, PLACES)?;
-        Ok(Numbers { stamp: 1, uses })
+        Ok(Numbers {
+            stamp: 1,
+            base: 281_474_976_710_656,
+            uses,
+        })
     }
 
     /// The same with the stamp of a registration, before which so many were. Two stamps of a heap are equal only if
@@ -45,9 +52,15 @@ impl Numbers {
         ensures stamp { result.stamp ≡ stamp_of first before }
         ensures uses { result.uses ≡ self.uses }
     {
-        let Numbers { stamp: _one, uses } = self;
+        let Numbers {
+            stamp: _stamp,
+            base: _base,
+            uses,
+        } = self;
+        let stamp = (u64::from(first) + u64::from(before)) % 65_535 + 1;
         Numbers {
-            stamp: (u64::from(first) + u64::from(before)) % 65_535 + 1,
+            stamp,
+            base: stamp * 281_474_976_710_656,
             uses,
         }
     }
@@ -56,9 +69,10 @@ impl Numbers {
     #[inline(always)]
     pub(crate) fn number(&self, place: usize) -> u64
         requires inside { place < 65536 }
-        ensures { result ≡ number_at self.now place }
+        ensures number { result ≡ number_at self.now place }
+        ensures stamp { stamp_in result ≡ self.now.stamp }
     {
-        self.stamp * 281_474_976_710_656 + u64::from(self.uses[place]) * 65_536 + place as u64
+        self.base + u64::from(self.uses[place]) * 65_536 + place as u64
     }
 
     /// The place of a number, whose spelling is the one that the place has now. Foreign if the number is of another
@@ -70,14 +84,16 @@ impl Numbers {
         ensures stamp { OnOk result (stamp_in number ≡ self.now.stamp) }
         ensures refused { IfErr result (MisSpelt self.now number) }
     {
-        if number / 281_474_976_710_656 != self.stamp {
-            return Err(Status::Foreign);
-        }
+        // Most numbers are right, so it is looked at last why one is not.
         let place = (number % 65_536) as usize;
-        if number != self.number(place) {
-            return Err(Status::Stale);
+        if number == self.number(place) {
+            return Ok(place);
         }
-        Ok(place)
+        if number / 281_474_976_710_656 != self.stamp {
+            Err(Status::Foreign)
+        } else {
+            Err(Status::Stale)
+        }
     }
 
     /// The place is vacated: what its number was no place has now.

@@ -126,7 +126,7 @@ fn show_from(text: &[u8], from: usize, to: &mut [u8]) -> usize
     ensures shown { to.new ≡ shown_from text.now from to.old }
 {
     if from < text.len() {
-        copy_front(&text[from..], to);
+        let _len = copy_prefix(&text[from..], to);
     }
     text.len()
 }
@@ -248,10 +248,12 @@ impl Owner {
     }
 }
 
-/// As much of the bytes as there is room for.
-fn copy_front(bytes: &[u8], to: &mut [u8])
-    ensures { to.new ≡ take (length to.old) bytes.now ++ drop (length bytes.now) to.old }
+/// As many of the bytes as there is room for are written. Returns how many there are.
+pub fn copy_prefix(bytes: &[u8], to: &mut [u8]) -> usize
+    ensures len { result ≡ length bytes.now }
+    ensures copied { to.new ≡ take (length to.old) bytes.now ++ drop (length bytes.now) to.old }
 {
     let fits = bytes.len().min(to.len());
     to[..fits].copy_from_slice(&bytes[..fits]);
+    bytes.len()
 }

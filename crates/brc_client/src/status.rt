@@ -1,6 +1,6 @@
 //! What a call by numbers answers if it is refused.
 
-ghost use Rattle.std.specs.Prelude.{◌≡◌, IfOk, IfErr};
+ghost use Rattle.std.specs.Prelude.{◌≡◌, ◌<◌, IfOk, IfErr};
 ghost use Rattle.brc_client.specs.Numbers.{status_number};
 ghost use Rattle.brc_client.specs.declared.status.Status.TheVariants as statuses;
 
@@ -24,9 +24,11 @@ pub enum Status {
 }
 
 impl Status {
-    /// Its number: that of the fault, 1 to 17, or 64 to 68.
+    /// Its number: that of the fault, 1 to 17, or 64 to 68. None has the number 0.
+    #[tactic(auto, using(crate::proofs::Statuses::fault_above))]
     pub fn number(self) -> u32
-        ensures { result ≡ status_number self }
+        ensures number { result ≡ status_number self }
+        ensures above { 0 < result }
     {
         match self {
             Status::Fault(fault) => u32::from(fault.number()),

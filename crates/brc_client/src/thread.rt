@@ -1,8 +1,9 @@
 //! A thread from its registration to its end.
 
+ghost use Rattle.std.specs.Option.{option_copied_mut};
 ghost use Rattle.std.specs.Prelude.{◌≡◌, IfOk, IfErr, OnOk, OnErr};
 ghost use Rattle.brc_client.specs.declared.thread.Stage.TheVariants as stages;
-ghost use Rattle.brc_client.specs.Ends.{heap_of, LeaveRefused, RegistersAt, RegisterRefused, LedgerOf};
+ghost use Rattle.brc_client.specs.Ends.{client_of, heap_of, LeaveRefused, RegistersAt, RegisterRefused, LedgerOf};
 
 use crate::client::Client;
 use crate::numbers::{Numbers, PLACES};
@@ -151,6 +152,22 @@ fn leave(client: Client) -> (Stage, Result<(), Status>)
 }
 
 impl Stage {
+    ghost use Rattle.std.specs.Borrow.{sem};
+    ghost use Rattle.brc_client.specs.Lending.{lends_of_stage};
+
+    /// The client of a thread that hasn't left.
+    #[inline(always)]
+    fn client(&mut self) -> Option<&mut Client>
+        ensures* lends { sem 𝓛 (lends_of_stage self.entry result) }
+        ensures value { option_copied_mut result ≡ client_of self.old }
+    {
+        if let Stage::Works(client) = self {
+            Some(client)
+        } else {
+            None
+        }
+    }
+
     /// As far on the way out as it goes without waiting.
     fn end(self) -> (Stage, Result<(), Status>)
         ensures gone { OnOk result.1 (result.0 ≡ stages.Gone) }
@@ -166,13 +183,26 @@ impl Stage {
 }
 
 impl Thread {
-    /// Its calls, while it hasn't left. Gone after that.
-    #[inline(always)]
-    pub fn client(&mut self) -> Result<&mut Client, Status> {
-        match &mut self.stage {
-            Stage::Works(client) => Ok(client),
-            _ => Err(Status::Gone),
+    ghost use Rattle.std.specs.Borrow.{sem};
+    ghost use Rattle.brc_client.specs.Lending.{lends_of_thread};
+
+    /// One that is gathered already: room for another.
+    pub fn gone() -> Thread
+        ensures { result ≡ stages.Gone }
+    {
+        Thread {
+            stage: Stage::Gone,
+            first: 0,
         }
+    }
+
+    /// Its calls, while it hasn't left. None after that.
+    #[inline(always)]
+    pub fn client(&mut self) -> Option<&mut Client>
+        ensures* lends { sem 𝓛 (lends_of_thread self.entry result) }
+        ensures value { option_copied_mut result ≡ client_of self.old }
+    {
+        self.stage.client()
     }
 
     /// Registers the next thread of the same heap, for another thread of the machine. Gone once this one has left; then
@@ -230,7 +260,7 @@ impl Thread {
 impl Drop for Thread {
     fn drop(self) {
         let mut thread = self;
-        if let Ok(client) = thread.client() {
+        if let Some(client) = thread.client() {
             client.release_all();
         }
         let _left = thread.leave();

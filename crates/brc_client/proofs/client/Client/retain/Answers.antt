@@ -1,17 +1,15 @@
 use Rattle.std.proofs.Common.{refl}
 use Rattle.brc_client.proofs.Placed.{vacant}
-use Rattle.brc_client.proofs.Named.{names_this}
+use Rattle.brc_client.specs.Calls.{OnObject}
 use Rattle.brc_client.proofs.client.Client.retain.Goals as goal
 
 pub returns-in-Ok-clause-more : goal.returns-in-Ok-clause-more
 returns-in-Ok-clause-more c =
     let gains = rw c.frame.ensures.frame at c.in-Ok.ensures.gains in
     let given = rw c.frame.ensures.frame at c.in-Ok.ensures.given in
-    let named = rw (← c.self.view_is) at c.in_ok-place.ensures.named in
     rw (← c.self.view_is) (record {
-      handle = c.in-Some.handle.now;
-      names = names_this _ c.args.number c.in_ok-place.place c.in-Some.handle.now c.in_ok-place.ensures.place named
-          c.in-Some.ensures;
+      handle = c.in_ok-handle.handle.now;
+      names = c.in_ok-handle.ensures.named;
       so = record {
         given = c.in-Ok.given;
         did = record { given = given; refused = tt; unchanged = tt };
@@ -21,3 +19,13 @@ returns-in-Ok-clause-more c =
         is = c.insert.ensures.number;
       };
     })
+
+pub returns-in-Err-clause-refused : goal.returns-in-Err-clause-refused
+returns-in-Err-clause-refused c =
+    let refused = rw c.frame.ensures.frame at c.in-Err.ensures.refused in
+    let unchanged = rw c.frame.ensures.frame at c.in-Err.ensures.unchanged in
+    rw (← c.self.view_is) (OnObject (record {
+      handle = c.in_ok-handle.handle.now;
+      names = c.in_ok-handle.ensures.named;
+      so = record { given = tt; refused = refused; unchanged = unchanged };
+    }))

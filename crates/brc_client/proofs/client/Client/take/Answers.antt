@@ -18,5 +18,5 @@ returns-in-Err-clause-refused c =
     c.in_ok-into.ensures.place c.in_ok-from.ensures.place into from c.if-into-from.false not)
 
 pub returns-in-Ok-clause-came : goal.returns-in-Ok-clause-came
-returns-in-Ok-clause-came c = came_names _ c.in_ok-from.from c.number_there.result c.in_ok-from.ensures.inside
+returns-in-Ok-clause-came c = came_names _ _ c.in_ok-from.from c.number_there.result c.in_ok-from.ensures.inside
     c.number_there.ensures
