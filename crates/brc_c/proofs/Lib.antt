@@ -1,3 +1,4 @@
 mod OwnerBox
 mod HeldBox
 mod Sent
+pub mod Made

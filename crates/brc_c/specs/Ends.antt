@@ -1,7 +1,10 @@
 -- What an export on a whole thread or heap comes to.
-use Rattle.std.specs.Prelude.{◌≡◌, ◌⊎◌, ⊤, ℕ, List, Option, Result, Ok, Err, IfOk, IfErr, IfSome, OnOk, OnErr, length}
+use Rattle.std.specs.Prelude.{◌≡◌, ◌↔◌, ◌⊎◌, ⊤, ℕ, List, Option, Result, Ok, Err, IfOk, IfErr, IfSome, OnOk, OnErr}
+use Rattle.std.specs.Prelude.{length}
 use Rattle.brc_words.specs.declared.fault.Fault.TheVariants as faults
 use Rattle.brc_count.specs.declared.ledger.Ledger.{Ledger}
+use Rattle.brc_count.specs.law.world.Heap.{AreOptions}
+use Rattle.brc_count.specs.table.Seated.{TableSeen}
 use Rattle.brc_shared.specs.declared.shared.RootCounts.{RootCounts}
 use Rattle.brc_client.specs.declared.status.Status.{Status}
 use Rattle.brc_client.specs.declared.status.Status.TheVariants as statuses
@@ -9,10 +12,18 @@ use Rattle.brc_client.specs.declared.thread.Stage.{Stage}
 use Rattle.brc_client.specs.declared.thread.Stage.TheVariants as stages
 use Rattle.brc_client.specs.declared.owner.OwnerStage.{OwnerStage}
 use Rattle.brc_client.specs.declared.owner.Left.{Left}
-use Rattle.brc_client.specs.Ends.{LeaveRefused, LedgerOf, open_at, CountsAt}
+use Rattle.brc_client.specs.Ends.{OpensWith, RegistersAt, RegisterRefused, LeaveRefused, LedgerOf, open_at, CountsAt}
 use Rattle.brc_client.specs.Ends.{ClosedAs, CloseRefused, report_of, Shows, text_in, shown_from, ReportRefused}
+use Rattle.brc_c.specs.Exports.{code_of}
 
 -- ---- threads
+
+-- a thread was registered at the heap; or it wasn't
+module _ {S : Type 0} where
+  pub record RegistersThread (heap : S → Option TableSeen) (old new : S) (answer : Result Stage Status) : Type 0 where
+    pub registered : IfOk answer (RegistersAt (heap old))
+    pub refused : IfErr answer RegisterRefused
+    pub same : new ≡ old
 
 -- the thread is gathered; or it isn't yet
 pub record Leaves (old new : Stage) (answer : Result (Unit {0}) Status) : Type 0 where
@@ -30,6 +41,15 @@ WritesLedger allocs_was allocs frees_was frees (Ok ledger) = (allocs ≡ ledger.
 WritesLedger allocs_was allocs frees_was frees (Err status) = (allocs ≡ allocs_was) × (frees ≡ frees_was)
 
 -- ---- heaps
+
+-- a heap was opened with these sizes; or it wasn't
+pub record OpensHeap (cells local_limit code : ℕ) : Type 0 where
+  pub answer : Result OwnerStage Status
+  pub opened : IfOk answer (OpensWith cells local_limit)
+  pub options : (answer ≡ Err (statuses.Fault faults.BadOptions)) ↔ ¬ (AreOptions cells local_limit)
+  pub refused : IfErr answer (λ status. (status ≡ statuses.Fault faults.BadOptions)
+      ⊎ (status ≡ statuses.Fault faults.OutOfMemory))
+  pub told : code ≡ code_of answer
 
 -- what the heap's root has counted
 pub record TellsCounts (old new : OwnerStage) (answer : Result RootCounts Status) : Type 0 where

@@ -1,9 +1,16 @@
 -- What an export comes to: which call was made on what C's variable leads to, and what C learns of its answer.
-use Rattle.std.specs.Prelude.{◌≡◌, ◌⊎◌, ⊤, ℕ, Bool, true, false, Option, Some, None, Result, Ok, Err}
+use Rattle.std.specs.Prelude.{◌≡◌, ◌⊎◌, ⊤, ℕ, Bool, true, false, List, Option, Some, None, Result, Ok, Err}
+use Rattle.std.specs.Str.{IsUtf8}
 use Rattle.brc_words.specs.declared.kind.Kind.{Kind}
 use Rattle.brc_words.specs.declared.kind.Kind.TheVariants as kinds
 use Rattle.brc_client.specs.Numbers.{status_number}
+use Rattle.brc_client.specs.Clients.{ClientSeen}
 use Rattle.brc_client.specs.declared.status.Status.{Status}
+use Rattle.brc_client.specs.declared.status.Status.TheVariants as statuses
+use Rattle.brc_client.specs.declared.thread.Stage.{Stage}
+use Rattle.brc_client.specs.declared.thread.Stage.TheVariants as stages
+use Rattle.brc_client.specs.Ends.{client_of}
+use Rattle.brc_c.specs.declared.held.Held.{Held}
 
 -- ---- what C learns
 
@@ -54,3 +61,31 @@ module _ {S T : Type 0} where
     pub made : call old new answer
     pub told : code ≡ code_of answer
     pub written : writes answer
+
+-- The call was made on the thread's client. Or the thread has left: it is as it was, and this is so.
+pub data OnClient (call : ClientSeen → ClientSeen → Type 0) (left : Type 0) (old new : Stage) : Type 0 where
+  IsMade : (was is : ClientSeen) → old ≡ stages.Works was → new ≡ stages.Works is → call was is
+      → OnClient call left old new
+  HasLeft : client_of old ≡ None → new ≡ old → left → OnClient call left old new
+
+-- the call was made on the thread's client, and this is its answer; or the thread has left, and the answer is Gone
+module _ {T : Type 0} where
+  abbrev pub ByClient : (ClientSeen → ClientSeen → Result T Status → Type 0) → Stage → Stage → Result T Status → Type 0
+  ByClient call old new answer = OnClient (λ was is. call was is answer) (answer ≡ Err statuses.Gone) old new
+
+  -- the same of a call that reads these bytes as a text first: if they are none, nothing is done
+  abbrev pub OrNotText : List ℕ → (ClientSeen → ClientSeen → Result T Status → Type 0) → ClientSeen → ClientSeen
+      → Result T Status → Type 0
+  OrNotText bytes call old new answer =
+      call old new answer ⊎ ((answer ≡ Err statuses.NotText) × (IsUtf8 bytes → ⊥) × (new ≡ old))
+
+-- An export on a thread's client: it made this call, returned its answer's number, and wrote what it gave.
+module _ {T : Type 0} where
+  abbrev pub CarriesOut : (ClientSeen → ClientSeen → Result T Status → Type 0) → Held → Held → ℕ
+      → (Result T Status → Type 0) → Type 0
+  CarriesOut call old new code writes = Carries (ByClient call) old.thread new.thread code writes
+
+-- a call that is never refused
+abbrev pub Always : (ClientSeen → ClientSeen → Type 0) → ClientSeen → ClientSeen → Result (Unit {0}) Status → Type 0
+Always call old new (Ok done) = call old new
+Always call old new (Err status) = ⊥

@@ -4,4 +4,5 @@ pub mod HeldKept
 pub mod HeldFollows
 pub mod HeldLends
 pub mod Exports
+pub mod Calls
 pub mod Ends

@@ -1,6 +1,13 @@
 //! Dictionaries: values beside keys, which are integers or texts.
 
 ghost use Rattle.std.specs.Prelude.{◌≡◌, ◌≢◌};
+ghost use Rattle.brc_count.specs.block.declared.key_ref.KeyRef.TheVariants as lent;
+ghost use Rattle.brc_places.specs.Calls.{GaveBy, TookBy};
+ghost use Rattle.brc_places.specs.declared.giving.GiveBy.TheVariants as giving;
+ghost use Rattle.brc_places.specs.declared.taking.TakeBy.TheVariants as taking;
+ghost use Rattle.brc_client.specs.Answers.{Gives, GivesPair, Takes};
+ghost use Rattle.brc_c.specs.Calls.{FindsByText, DeletesByText, PutsByText, KeyWritten, WritesPair};
+ghost use Rattle.brc_c.specs.Exports.{CarriesOut, OrNotText, Writes, itself, old_number};
 
 use crate::calls::{exchange_by, give_by};
 use crate::outs::{gone, write, write_old};
@@ -28,6 +35,8 @@ pub extern "C" fn brc_dict_put_int(
     old: &mut u64,
 ) -> u32
     ensures kept { result ≢ 0 → old.new ≡ old.old }
+    ensures does { CarriesOut (Takes (TookBy (taking.Put (lent.Int key))) dict value)
+        thread.old.value thread.new.value result (Writes old_number old.old old.new) }
 {
     exchange_by(
         alloc,
@@ -49,6 +58,8 @@ pub extern "C" fn brc_dict_put_text(
     old: &mut u64,
 ) -> u32
     ensures kept { result ≢ 0 → old.new ≡ old.old }
+    ensures does { CarriesOut (OrNotText key.now (Takes (PutsByText key.now) dict value))
+        thread.old.value thread.new.value result (Writes old_number old.old old.new) }
 {
     match thread.as_mut().client() {
         Some(client) => match text_of(key) {
@@ -70,6 +81,8 @@ pub extern "C" fn brc_dict_find_int(
     value: &mut u64,
 ) -> u32
     ensures kept { result ≢ 0 → value.new ≡ value.old }
+    ensures does { CarriesOut (Gives (GaveBy (giving.Find (lent.Int key))) dict)
+        thread.old.value thread.new.value result (Writes itself value.old value.new) }
 {
     give_by(thread, dict, GiveBy::Find(KeyRef::Int(key)), value)
 }
@@ -82,6 +95,8 @@ pub extern "C" fn brc_dict_find_text(
     value: &mut u64,
 ) -> u32
     ensures kept { result ≢ 0 → value.new ≡ value.old }
+    ensures does { CarriesOut (OrNotText key.now (Gives (FindsByText key.now) dict))
+        thread.old.value thread.new.value result (Writes itself value.old value.new) }
 {
     match thread.as_mut().client() {
         Some(client) => match text_of(key) {
@@ -100,6 +115,8 @@ pub extern "C" fn brc_dict_del_int(
     value: &mut u64,
 ) -> u32
     ensures kept { result ≢ 0 → value.new ≡ value.old }
+    ensures does { CarriesOut (Gives (GaveBy (giving.Delete (lent.Int key))) dict)
+        thread.old.value thread.new.value result (Writes itself value.old value.new) }
 {
     give_by(thread, dict, GiveBy::Delete(KeyRef::Int(key)), value)
 }
@@ -112,6 +129,8 @@ pub extern "C" fn brc_dict_del_text(
     value: &mut u64,
 ) -> u32
     ensures kept { result ≢ 0 → value.new ≡ value.old }
+    ensures does { CarriesOut (OrNotText key.now (Gives (DeletesByText key.now) dict))
+        thread.old.value thread.new.value result (Writes itself value.old value.new) }
 {
     match thread.as_mut().client() {
         Some(client) => match text_of(key) {
@@ -133,6 +152,8 @@ pub extern "C" fn brc_dict_pair(
     value: &mut u64,
 ) -> u32
     ensures kept { result ≢ 0 → (key.new ≡ key.old) × (to.new ≡ to.old) × (value.new ≡ value.old) }
+    ensures does { CarriesOut (GivesPair dict index) thread.old.value thread.new.value result
+        (WritesPair value.old value.new key.old key.new to.old to.new) }
 {
     match thread.as_mut().client() {
         Some(client) => match client.pair(alloc, dict, index) {
@@ -148,7 +169,9 @@ pub extern "C" fn brc_dict_pair(
 }
 
 /// The key is written; of a text, as many bytes as there is room for.
-fn write_key(found: &Key<Global>, key: &mut CKey, to: &mut [u8]) {
+fn write_key(found: &Key<Global>, key: &mut CKey, to: &mut [u8])
+    ensures { KeyWritten found.now key.new to.old to.new }
+{
     match found {
         Key::Int(number) => {
             key.number = *number;

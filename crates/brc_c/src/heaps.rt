@@ -1,7 +1,7 @@
 //! Heaps: opened, counted, closed, reported and dropped.
 
 ghost use Rattle.std.specs.Prelude.{◌≡◌, ◌≢◌};
-ghost use Rattle.brc_c.specs.Ends.{TellsCounts, WritesCounts, Closes, WritesLeft, ShowsReport};
+ghost use Rattle.brc_c.specs.Ends.{OpensHeap, TellsCounts, WritesCounts, Closes, WritesLeft, ShowsReport};
 ghost use Rattle.brc_c.specs.Exports.{Carries, Writes, itself};
 
 use crate::outs::write;
@@ -30,6 +30,7 @@ pub extern "C" fn brc_heap_new(
     first: u32,
 ) -> u32
     ensures kept { result ≢ 0 → at.new ≡ at.old }
+    ensures opens { OpensHeap cells local_limit result }
 {
     match Owner::new(alloc, cells, local_limit, first) {
         Ok(owner) => match Box::new(alloc, owner) {

@@ -1,7 +1,10 @@
 //! What an object is: its kind, how many entries it has, its number, its truth, its text.
 
 ghost use Rattle.std.specs.Prelude.{◌≡◌, ◌≢◌};
-ghost use Rattle.brc_c.specs.Exports.{Writes, code_of, kind_number};
+ghost use Rattle.brc_things.specs.Looking.{KindOf, LenOf, IntOf};
+ghost use Rattle.brc_client.specs.Answers.{FindsOut, FindsTruth, ReadsOut};
+ghost use Rattle.brc_c.specs.Calls.{WritesText};
+ghost use Rattle.brc_c.specs.Exports.{CarriesOut, Writes, code_of, itself, truth_number, kind_number};
 
 use crate::outs::{gone, write, write_truth};
 use crate::slots::CThread;
@@ -42,6 +45,8 @@ fn write_kind(made: Result<Kind, Status>, to: &mut u32) -> u32
 #[unsafe(no_mangle)]
 pub extern "C" fn brc_kind_of(thread: &mut CThread, held: u64, kind: &mut u32) -> u32
     ensures kept { result ≢ 0 → kind.new ≡ kind.old }
+    ensures does { CarriesOut (FindsOut KindOf held) thread.old.value thread.new.value result
+        (Writes kind_number kind.old kind.new) }
 {
     match thread.as_mut().client() {
         Some(client) => write_kind(client.kind(held), kind),
@@ -52,6 +57,8 @@ pub extern "C" fn brc_kind_of(thread: &mut CThread, held: u64, kind: &mut u32) -
 #[unsafe(no_mangle)]
 pub extern "C" fn brc_len_of(thread: &mut CThread, held: u64, len: &mut usize) -> u32
     ensures kept { result ≢ 0 → len.new ≡ len.old }
+    ensures does { CarriesOut (FindsOut LenOf held) thread.old.value thread.new.value result
+        (Writes itself len.old len.new) }
 {
     match thread.as_mut().client() {
         Some(client) => write(client.len(held), len),
@@ -62,6 +69,8 @@ pub extern "C" fn brc_len_of(thread: &mut CThread, held: u64, len: &mut usize) -
 #[unsafe(no_mangle)]
 pub extern "C" fn brc_int_of(thread: &mut CThread, held: u64, value: &mut i64) -> u32
     ensures kept { result ≢ 0 → value.new ≡ value.old }
+    ensures does { CarriesOut (FindsOut IntOf held) thread.old.value thread.new.value result
+        (Writes itself value.old value.new) }
 {
     match thread.as_mut().client() {
         Some(client) => write(client.int(held), value),
@@ -72,6 +81,8 @@ pub extern "C" fn brc_int_of(thread: &mut CThread, held: u64, value: &mut i64) -
 #[unsafe(no_mangle)]
 pub extern "C" fn brc_truth_of(thread: &mut CThread, held: u64, is_true: &mut u32) -> u32
     ensures kept { result ≢ 0 → is_true.new ≡ is_true.old }
+    ensures does { CarriesOut (FindsTruth held) thread.old.value thread.new.value result
+        (Writes truth_number is_true.old is_true.new) }
 {
     match thread.as_mut().client() {
         Some(client) => write_truth(client.truth(held), is_true),
@@ -87,6 +98,8 @@ pub extern "C" fn brc_text_of(
     len: &mut usize,
 ) -> u32
     ensures kept { result ≢ 0 → (to.new ≡ to.old) × (len.new ≡ len.old) }
+    ensures does { CarriesOut (FindsOut ReadsOut held) thread.old.value thread.new.value result
+        (WritesText to.old to.new len.old len.new) }
 {
     match thread.as_mut().client() {
         Some(client) => match client.read_text(held) {

@@ -1,6 +1,11 @@
 //! Makers: a reference to an immortal, or to a new object.
 
 ghost use Rattle.std.specs.Prelude.{◌≡◌, ◌≢◌};
+ghost use Rattle.brc_places.specs.Calls.{MadeBy};
+ghost use Rattle.brc_places.specs.declared.place_makers.Make.TheVariants as making;
+ghost use Rattle.brc_client.specs.Answers.{Makes};
+ghost use Rattle.brc_c.specs.Calls.{MakesText, MakesTruth};
+ghost use Rattle.brc_c.specs.Exports.{CarriesOut, OrNotText, Writes, itself};
 
 use crate::calls::make_by;
 use crate::outs::{gone, says_yes, write};
@@ -11,6 +16,8 @@ use std::alloc::Global;
 #[unsafe(no_mangle)]
 pub extern "C" fn brc_none(alloc: Global, thread: &mut CThread, made: &mut u64) -> u32
     ensures kept { result ≢ 0 → made.new ≡ made.old }
+    ensures does { CarriesOut (Makes (MadeBy making.Nothing)) thread.old.value thread.new.value result
+        (Writes itself made.old made.new) }
 {
     make_by(alloc, thread, Make::Nothing, made)
 }
@@ -23,6 +30,8 @@ pub extern "C" fn brc_truth(
     made: &mut u64,
 ) -> u32
     ensures kept { result ≢ 0 → made.new ≡ made.old }
+    ensures does { CarriesOut (MakesTruth is_true) thread.old.value thread.new.value result
+        (Writes itself made.old made.new) }
 {
     make_by(alloc, thread, Make::Truth(says_yes(is_true)), made)
 }
@@ -30,6 +39,8 @@ pub extern "C" fn brc_truth(
 #[unsafe(no_mangle)]
 pub extern "C" fn brc_globals(alloc: Global, thread: &mut CThread, made: &mut u64) -> u32
     ensures kept { result ≢ 0 → made.new ≡ made.old }
+    ensures does { CarriesOut (Makes (MadeBy making.Globals)) thread.old.value thread.new.value result
+        (Writes itself made.old made.new) }
 {
     make_by(alloc, thread, Make::Globals, made)
 }
@@ -42,6 +53,8 @@ pub extern "C" fn brc_new_int(
     made: &mut u64,
 ) -> u32
     ensures kept { result ≢ 0 → made.new ≡ made.old }
+    ensures does { CarriesOut (Makes (MadeBy (making.Int value))) thread.old.value thread.new.value result
+        (Writes itself made.old made.new) }
 {
     make_by(alloc, thread, Make::Int(value), made)
 }
@@ -49,6 +62,8 @@ pub extern "C" fn brc_new_int(
 #[unsafe(no_mangle)]
 pub extern "C" fn brc_new_list(alloc: Global, thread: &mut CThread, made: &mut u64) -> u32
     ensures kept { result ≢ 0 → made.new ≡ made.old }
+    ensures does { CarriesOut (Makes (MadeBy making.«List»)) thread.old.value thread.new.value result
+        (Writes itself made.old made.new) }
 {
     make_by(alloc, thread, Make::List, made)
 }
@@ -56,6 +71,8 @@ pub extern "C" fn brc_new_list(alloc: Global, thread: &mut CThread, made: &mut u
 #[unsafe(no_mangle)]
 pub extern "C" fn brc_new_dict(alloc: Global, thread: &mut CThread, made: &mut u64) -> u32
     ensures kept { result ≢ 0 → made.new ≡ made.old }
+    ensures does { CarriesOut (Makes (MadeBy making.Dict)) thread.old.value thread.new.value result
+        (Writes itself made.old made.new) }
 {
     make_by(alloc, thread, Make::Dict, made)
 }
@@ -63,6 +80,8 @@ pub extern "C" fn brc_new_dict(alloc: Global, thread: &mut CThread, made: &mut u
 #[unsafe(no_mangle)]
 pub extern "C" fn brc_new_mailbox(alloc: Global, thread: &mut CThread, made: &mut u64) -> u32
     ensures kept { result ≢ 0 → made.new ≡ made.old }
+    ensures does { CarriesOut (Makes (MadeBy making.Mailbox)) thread.old.value thread.new.value result
+        (Writes itself made.old made.new) }
 {
     make_by(alloc, thread, Make::Mailbox, made)
 }
@@ -75,6 +94,8 @@ pub extern "C" fn brc_new_text(
     made: &mut u64,
 ) -> u32
     ensures kept { result ≢ 0 → made.new ≡ made.old }
+    ensures does { CarriesOut (OrNotText bytes.now (Makes (MakesText bytes.now)))
+        thread.old.value thread.new.value result (Writes itself made.old made.new) }
 {
     match thread.as_mut().client() {
         Some(client) => match text_of(bytes) {

@@ -3,6 +3,7 @@
 ghost use Rattle.std.specs.Prelude.{◌≡◌, ◌≢◌};
 ghost use Rattle.brc_client.specs.Numbers.{status_number};
 ghost use Rattle.brc_client.specs.declared.status.Status.TheVariants as statuses;
+ghost use Rattle.brc_c.specs.Calls.{is_yes};
 ghost use Rattle.brc_c.specs.Exports.{code_of, Writes, itself, truth_number, old_number};
 
 use brc_client::Status;
@@ -96,6 +97,8 @@ pub(crate) fn status_of(made: Result<(), Status>) -> u32
 }
 
 /// Whether C says yes: by any number but 0.
-pub(crate) fn says_yes(number: u32) -> bool {
+pub(crate) fn says_yes(number: u32) -> bool
+    ensures { result ≡ is_yes number }
+{
     number != 0
 }

@@ -1,6 +1,8 @@
 //! References: one more, one fewer, and whether two lead to one object.
 
 ghost use Rattle.std.specs.Prelude.{◌≡◌, ◌≢◌};
+ghost use Rattle.brc_client.specs.Answers.{Gives, RetainsOne, LetsGo, FindsSame};
+ghost use Rattle.brc_c.specs.Exports.{CarriesOut, Writes, WritesNothing, itself, truth_number};
 
 use crate::outs::{gone, status_of, write, write_truth};
 use crate::slots::CThread;
@@ -8,6 +10,8 @@ use crate::slots::CThread;
 #[unsafe(no_mangle)]
 pub extern "C" fn brc_retain(thread: &mut CThread, held: u64, more: &mut u64) -> u32
     ensures kept { result ≢ 0 → more.new ≡ more.old }
+    ensures does { CarriesOut (Gives RetainsOne held) thread.old.value thread.new.value result
+        (Writes itself more.old more.new) }
 {
     match thread.as_mut().client() {
         Some(client) => write(client.retain(held), more),
@@ -16,7 +20,9 @@ pub extern "C" fn brc_retain(thread: &mut CThread, held: u64, more: &mut u64) ->
 }
 
 #[unsafe(no_mangle)]
-pub extern "C" fn brc_release(thread: &mut CThread, held: u64) -> u32 {
+pub extern "C" fn brc_release(thread: &mut CThread, held: u64) -> u32
+    ensures does { CarriesOut (LetsGo held) thread.old.value thread.new.value result WritesNothing }
+{
     match thread.as_mut().client() {
         Some(client) => status_of(client.release(held)),
         None => gone(),
@@ -26,6 +32,8 @@ pub extern "C" fn brc_release(thread: &mut CThread, held: u64) -> u32 {
 #[unsafe(no_mangle)]
 pub extern "C" fn brc_same(thread: &mut CThread, one: u64, other: u64, same: &mut u32) -> u32
     ensures kept { result ≢ 0 → same.new ≡ same.old }
+    ensures does { CarriesOut (FindsSame one other) thread.old.value thread.new.value result
+        (Writes truth_number same.old same.new) }
 {
     match thread.as_mut().client() {
         Some(client) => write_truth(client.is_same(one, other), same),

@@ -1,8 +1,11 @@
 //! Threads: registered, counted, at work, and on their way out.
 
 ghost use Rattle.std.specs.Prelude.{◌≡◌, ◌≢◌};
-ghost use Rattle.brc_c.specs.Ends.{Leaves, TellsLedger, WritesLedger};
-ghost use Rattle.brc_c.specs.Exports.{Carries, WritesNothing, code_of};
+ghost use Rattle.brc_client.specs.Answers.{Polls, TakesApart, CountsReferences, LetsAllGo};
+ghost use Rattle.brc_client.specs.Ends.{open_at, heap_of};
+ghost use Rattle.brc_c.specs.Calls.{ClaimsAt};
+ghost use Rattle.brc_c.specs.Ends.{RegistersThread, Leaves, TellsLedger, WritesLedger};
+ghost use Rattle.brc_c.specs.Exports.{Carries, CarriesOut, OnClient, Always, WritesNothing, code_of};
 
 use crate::held::Held;
 use crate::outs::{gone, says_yes, status_of};
@@ -18,6 +21,7 @@ use std::alloc::Global;
 #[unsafe(no_mangle)]
 pub extern "C" fn brc_thread_new(alloc: Global, heap: &mut CHeap, at: &mut *mut u8) -> u32
     ensures kept { result ≢ 0 → at.new ≡ at.old }
+    ensures carries { Carries (RegistersThread open_at) heap.old.value heap.new.value result WritesNothing }
 {
     match Box::new(alloc, Held::empty()) {
         Ok(room) => hand_out(room, heap.as_mut().register(alloc), at),
@@ -28,6 +32,8 @@ pub extern "C" fn brc_thread_new(alloc: Global, heap: &mut CHeap, at: &mut *mut 
 #[unsafe(no_mangle)]
 pub extern "C" fn brc_thread_fork(alloc: Global, thread: &mut CThread, at: &mut *mut u8) -> u32
     ensures kept { result ≢ 0 → at.new ≡ at.old }
+    ensures carries { Carries (RegistersThread heap_of) thread.old.value.thread thread.new.value.thread result
+        WritesNothing }
 {
     match Box::new(alloc, Held::empty()) {
         Ok(room) => hand_out(room, thread.as_mut().fork(alloc), at),
@@ -80,7 +86,10 @@ pub extern "C" fn brc_ledger(thread: &mut CThread, allocs: &mut u64, frees: &mut
 }
 
 #[unsafe(no_mangle)]
-pub extern "C" fn brc_poll(thread: &mut CThread) -> u64 {
+pub extern "C" fn brc_poll(thread: &mut CThread) -> u64
+    ensures carries { OnClient (λ was is. Polls was is result) (result ≡ 0)
+        thread.old.value.thread thread.new.value.thread }
+{
     match thread.as_mut().client() {
         Some(client) => client.poll(),
         None => 0,
@@ -88,7 +97,10 @@ pub extern "C" fn brc_poll(thread: &mut CThread) -> u64 {
 }
 
 #[unsafe(no_mangle)]
-pub extern "C" fn brc_work(thread: &mut CThread, turns: usize) -> usize {
+pub extern "C" fn brc_work(thread: &mut CThread, turns: usize) -> usize
+    ensures carries { OnClient (λ was is. TakesApart turns was is result) (result ≡ turns)
+        thread.old.value.thread thread.new.value.thread }
+{
     match thread.as_mut().client() {
         Some(client) => client.work(turns),
         None => turns,
@@ -96,7 +108,10 @@ pub extern "C" fn brc_work(thread: &mut CThread, turns: usize) -> usize {
 }
 
 #[unsafe(no_mangle)]
-pub extern "C" fn brc_count(thread: &mut CThread) -> usize {
+pub extern "C" fn brc_count(thread: &mut CThread) -> usize
+    ensures carries { OnClient (λ was is. CountsReferences was is result) (result ≡ 0)
+        thread.old.value.thread thread.new.value.thread }
+{
     match thread.as_mut().client() {
         Some(client) => client.count(),
         None => 0,
@@ -104,7 +119,9 @@ pub extern "C" fn brc_count(thread: &mut CThread) -> usize {
 }
 
 #[unsafe(no_mangle)]
-pub extern "C" fn brc_release_all(thread: &mut CThread) -> u32 {
+pub extern "C" fn brc_release_all(thread: &mut CThread) -> u32
+    ensures does { CarriesOut (Always LetsAllGo) thread.old.value thread.new.value result WritesNothing }
+{
     match thread.as_mut().client() {
         Some(client) => {
             client.release_all();
@@ -115,7 +132,10 @@ pub extern "C" fn brc_release_all(thread: &mut CThread) -> u32 {
 }
 
 #[unsafe(no_mangle)]
-pub extern "C" fn brc_claim(thread: &mut CThread, cell: u32, near_last: u32) -> u32 {
+pub extern "C" fn brc_claim(thread: &mut CThread, cell: u32, near_last: u32) -> u32
+    ensures does { CarriesOut (Always (ClaimsAt cell near_last)) thread.old.value thread.new.value result
+        WritesNothing }
+{
     match thread.as_mut().client() {
         Some(client) => {
             client.claim(cell, says_yes(near_last));

@@ -1,5 +1,6 @@
 pub mod Numbers
 pub mod Clients
 pub mod Calls
+pub mod Answers
 pub mod Ends
 pub mod Lending

@@ -1,8 +1,9 @@
 //! A heap from its opening to its report.
 
 ghost use Rattle.std.specs.Option.{ForSome};
-ghost use Rattle.std.specs.Prelude.{◌≡◌, ◌++◌, ◌⊎◌, IfSome, IfOk, IfErr, OnOk, OnErr, length, take, drop};
+ghost use Rattle.std.specs.Prelude.{◌≡◌, ◌↔◌, ◌++◌, ◌⊎◌, Err, IfSome, IfOk, IfErr, OnOk, OnErr, length, take, drop};
 ghost use Rattle.brc_words.specs.declared.fault.Fault.TheVariants as faults;
+ghost use Rattle.brc_count.specs.law.world.Heap.{AreOptions};
 ghost use Rattle.brc_client.specs.declared.status.Status.TheVariants as statuses;
 ghost use Rattle.brc_client.specs.declared.owner.OwnerStage.TheVariants as stages;
 ghost use Rattle.brc_client.specs.Ends.{OpensWith, RegistersAt, RegisterRefused, CountsAt, open_at, ClosedAs, CloseRefused};
@@ -174,6 +175,7 @@ impl Owner {
     /// their own begin with 0, 1024, ..
     pub fn new(alloc: Global, cells: u32, local_limit: u32, first: u32) -> Result<Owner, Status>
         ensures opens { IfOk result (OpensWith cells local_limit) }
+        ensures options { (result ≡ Err (statuses.Fault faults.BadOptions)) ↔ ¬ (AreOptions cells local_limit) }
         ensures refused { IfErr result (λ status. (status ≡ statuses.Fault faults.BadOptions)
             ⊎ (status ≡ statuses.Fault faults.OutOfMemory)) }
     {

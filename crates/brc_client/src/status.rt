@@ -1,6 +1,7 @@
 //! What a call by numbers answers if it is refused.
 
-ghost use Rattle.std.specs.Prelude.{◌≡◌, ◌<◌, IfOk, IfErr};
+ghost use Rattle.std.specs.Prelude.{◌≡◌, ◌<◌, IfOk, IfErr, OnErr};
+ghost use Rattle.std.specs.Str.{IsUtf8};
 ghost use Rattle.brc_client.specs.Numbers.{status_number};
 ghost use Rattle.brc_client.specs.declared.status.Status.TheVariants as statuses;
 
@@ -45,6 +46,7 @@ impl Status {
 pub fn text_of(bytes: &[u8]) -> Result<&str, Status>
     ensures text { IfOk result (λ text. text.now ≡ bytes.now) }
     ensures refused { IfErr result (λ status. status ≡ statuses.NotText) }
+    ensures not_text { OnErr result (IsUtf8 bytes.now → ⊥) }
 {
     match str::from_utf8(bytes) {
         Ok(text) => Ok(text),

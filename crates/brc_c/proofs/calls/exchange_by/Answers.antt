@@ -1,0 +1,30 @@
+use Rattle.std.proofs.Common.{refl}
+use Rattle.std.specs.Prelude.{Err}
+use Rattle.brc_client.specs.declared.status.Status.TheVariants as statuses
+use Rattle.brc_c.specs.Exports.{IsMade, HasLeft}
+use Rattle.brc_c.proofs.Made.{works_at, left_at, same_at}
+use Rattle.brc_c.proofs.calls.exchange_by.Goals as goal
+
+pub returns-in-Some-clause-does : goal.returns-in-Some-clause-does
+returns-in-Some-clause-does c = record {
+  answer = c.take.result;
+  made = IsMade c.in-Some.client.now c.take.new.self
+      (works_at _ _ _ c.in-Some.ensures.value c.as_mut.ensures.value) refl
+      (record {
+        took = c.take.ensures.took;
+        refused = c.take.ensures.refused;
+        spent = c.take.ensures.spent;
+        came = c.take.ensures.came;
+        unchanged = c.take.ensures.unchanged;
+      });
+  told = c.write_old.ensures.code;
+  written = c.write_old.ensures.written;
+}
+
+pub returns-in-None-clause-does : goal.returns-in-None-clause-does
+returns-in-None-clause-does c = record {
+  answer = Err statuses.Gone;
+  made = HasLeft (left_at _ _ c.in-None.ensures.value c.as_mut.ensures.value) (same_at _ _ c.as_mut.ensures.value) refl;
+  told = c.gone.ensures;
+  written = refl;
+}

@@ -1,0 +1,30 @@
+use Rattle.std.proofs.Common.{refl}
+use Rattle.std.specs.Prelude.{Err}
+use Rattle.brc_client.specs.declared.status.Status.TheVariants as statuses
+use Rattle.brc_c.specs.Exports.{IsMade, HasLeft}
+use Rattle.brc_c.proofs.Made.{works_at, left_at, same_at}
+use Rattle.brc_c.proofs.calls.make_by.Goals as goal
+
+pub returns-in-Some-clause-does : goal.returns-in-Some-clause-does
+returns-in-Some-clause-does c = record {
+  answer = c.make.result;
+  made = IsMade c.in-Some.client.now c.make.new.self
+      (works_at _ _ _ c.in-Some.ensures.value c.as_mut.ensures.value) refl
+      (record {
+        made = c.make.ensures.made;
+        refused = c.make.ensures.refused;
+        names = c.make.ensures.names;
+        keeps = c.make.ensures.keeps;
+        unchanged = c.make.ensures.unchanged;
+      });
+  told = c.write.ensures.code;
+  written = c.write.ensures.written;
+}
+
+pub returns-in-None-clause-does : goal.returns-in-None-clause-does
+returns-in-None-clause-does c = record {
+  answer = Err statuses.Gone;
+  made = HasLeft (left_at _ _ c.in-None.ensures.value c.as_mut.ensures.value) (same_at _ _ c.as_mut.ensures.value) refl;
+  told = c.gone.ensures;
+  written = refl;
+}

@@ -1,0 +1,28 @@
+use Rattle.std.proofs.Common.{refl}
+use Rattle.std.specs.Prelude.{Err}
+use Rattle.brc_client.specs.declared.status.Status.TheVariants as statuses
+use Rattle.brc_c.specs.Exports.{IsMade, HasLeft}
+use Rattle.brc_c.proofs.Made.{works_at, left_at, same_at}
+use Rattle.brc_c.proofs.references.brc_same.Goals as goal
+
+pub returns-in-Some-clause-does : goal.returns-in-Some-clause-does
+returns-in-Some-clause-does c = record {
+  answer = c.is_same.result;
+  made = IsMade c.in-Some.client.now c.is_same.new.self
+      (works_at _ _ _ c.in-Some.ensures.value c.as_mut.ensures.value) refl
+      (record {
+        same_object = c.is_same.ensures.same_object;
+        refused = c.is_same.ensures.refused;
+        same = c.is_same.ensures.same;
+      });
+  told = c.write_truth.ensures.code;
+  written = c.write_truth.ensures.written;
+}
+
+pub returns-in-None-clause-does : goal.returns-in-None-clause-does
+returns-in-None-clause-does c = record {
+  answer = Err statuses.Gone;
+  made = HasLeft (left_at _ _ c.in-None.ensures.value c.as_mut.ensures.value) (same_at _ _ c.as_mut.ensures.value) refl;
+  told = c.gone.ensures;
+  written = refl;
+}

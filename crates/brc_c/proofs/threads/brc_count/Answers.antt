@@ -1,0 +1,11 @@
+use Rattle.std.proofs.Common.{refl}
+use Rattle.brc_c.specs.Exports.{IsMade}
+use Rattle.brc_c.proofs.Made.{works_at}
+use Rattle.brc_c.proofs.threads.brc_count.Goals as goal
+
+pub returns-in-Some : goal.returns-in-Some
+returns-in-Some c = record {
+  carries = IsMade c.in-Some.client.now c.count.new.self
+      (works_at _ _ _ c.in-Some.ensures.value c.as_mut.ensures.value) refl
+      (record { count = c.count.ensures.count; same = c.count.ensures.same });
+}

@@ -1,0 +1,66 @@
+-- Which call of the heap an export of this name makes, where its bytes or numbers of C stand for something else; and what
+-- it writes, where that is more than one number.
+use Rattle.std.specs.Prelude.{◌≡◌, ◌++◌, ℕ, zero, suc, pos, Bool, true, false, List, Option, Result, Ok, Err, length}
+use Rattle.std.specs.Prelude.{take, drop}
+use Rattle.std.specs.declared.alloc.Global.{Global}
+use Rattle.brc_words.specs.declared.fault.Fault.{Fault}
+use Rattle.brc_words.specs.declared.key.Key.{Key}
+use Rattle.brc_words.specs.declared.key.Key.TheVariants as keys
+use Rattle.brc_count.specs.law.rule.declared.contents.Contents.TheVariants as contents
+use Rattle.brc_count.specs.declared.handed.HandedBack.{HandedBack}
+use Rattle.brc_count.specs.Frames.{FrameSeen, HandleSeen}
+use Rattle.brc_count.specs.Making.{Made}
+use Rattle.brc_dicts.specs.Calls.{DictPut, DictFind, DictDel}
+use Rattle.brc_places.specs.declared.place_makers.Make.TheVariants as making
+use Rattle.brc_places.specs.Calls.{HandleOr, RefusedText, MadeBy}
+use Rattle.brc_client.specs.declared.status.Status.{Status}
+use Rattle.brc_client.specs.Clients.{ClientSeen}
+use Rattle.brc_client.specs.Answers.{Makes, BeginsClaims}
+use Rattle.brc_c.specs.declared.dicts.CKey.{CKey}
+
+-- C says yes by any number but 0
+abbrev pub is_yes : ℕ → Bool
+is_yes zero = false
+is_yes (suc n) = true
+
+abbrev pub MakesTruth : ℕ → ClientSeen → ClientSeen → Result ℕ Status → Type 0
+MakesTruth is_true = Makes (MadeBy (making.Truth (is_yes is_true)))
+
+abbrev pub ClaimsAt : ℕ → ℕ → ClientSeen → ClientSeen → Type 0
+ClaimsAt cell near_last = BeginsClaims cell (is_yes near_last)
+
+-- ---- bytes that are a text
+
+abbrev pub MakesText : List ℕ → FrameSeen Global → FrameSeen Global → Result HandleSeen Fault → Type 0
+MakesText bytes old new result = HandleOr (Made old new (contents.Text bytes)) (RefusedText old new) result
+
+abbrev pub FindsByText : List ℕ → FrameSeen Global → FrameSeen Global → ℕ → Result HandleSeen Fault → Type 0
+FindsByText bytes old new k result = DictFind old new k (keys.Text bytes) result
+
+abbrev pub DeletesByText : List ℕ → FrameSeen Global → FrameSeen Global → ℕ → Result HandleSeen Fault → Type 0
+DeletesByText bytes old new k result = DictDel old new k (keys.Text bytes) result
+
+abbrev pub PutsByText : List ℕ → FrameSeen Global → FrameSeen Global → ℕ → HandleSeen
+    → Result (Option HandleSeen) (HandedBack HandleSeen) → Type 0
+PutsByText bytes old new k value result = DictPut old new k (keys.Text bytes) value result
+
+-- ---- what is written of a text and of a pair
+
+-- as many of the bytes as there is room for; the rest of the room is as it was
+abbrev pub prefix_into : List ℕ → List ℕ → List ℕ
+prefix_into bytes room = take (length room) bytes ++ drop (length bytes) room
+
+abbrev pub WritesText : List ℕ → List ℕ → ℕ → ℕ → Result (List ℕ) Status → Type 0
+WritesText room to len_was len (Ok text) = (to ≡ prefix_into text room) × (len ≡ length text)
+WritesText room to len_was len (Err status) = (to ≡ room) × (len ≡ len_was)
+
+-- the number of an integer, or the length of a text and as many of its bytes as there is room for
+abbrev pub KeyWritten : Key Global → CKey → List ℕ → List ℕ → Type 0
+KeyWritten (keys.Int number) key room to =
+    (key.number ≡ number) × (key.len ≡ 0) × (key.is_text ≡ 0) × (to ≡ room)
+KeyWritten (keys.Text text) key room to =
+    (key.number ≡ pos 0) × (key.len ≡ length text) × (key.is_text ≡ 1) × (to ≡ prefix_into text room)
+
+abbrev pub WritesPair : ℕ → ℕ → CKey → CKey → List ℕ → List ℕ → Result (Key Global × ℕ) Status → Type 0
+WritesPair value_was value key_was key room to (Ok pair) = (value ≡ pair.1) × KeyWritten pair.0 key room to
+WritesPair value_was value key_was key room to (Err status) = (value ≡ value_was) × (key ≡ key_was) × (to ≡ room)
