@@ -176,9 +176,26 @@ def has_form(words):
     return form is not None and len(form) == len(words) - 1 and all(test(word) for test, word in zip(form, words[1:]))
 
 
+def cycles_of(objects, entries):
+    """The cycles of a world: along the lowest holder of each object, each from its lowest cell on."""
+    lowest = {}
+    for holder, entry in entries:
+        lowest[entry] = min(holder, lowest.get(entry, holder))
+    found = {}
+    for first in objects:
+        path, at = [], first
+        while at in objects and at in lowest and at not in path:
+            path.append(at)
+            at = lowest[at]
+        if path and at == first == min(path):
+            found[f"cluster_{first}"] = [str(it) for it in path]
+    return found
+
+
 def graph_of(text):
     """Nodes with their labels, edges, boxes; or the number of the first bad line."""
     nodes, edges, boxes = {"265": "265 globals"}, [], {}
+    objects, entries = [], []
     part, number_of_line = "start", 1
     while text:
         line, feed, text = text.partition("\n")
@@ -206,9 +223,14 @@ def graph_of(text):
                 edges.append(("t" + said[0], said[2], said[1]))
             if word == "entry":
                 edges.append((said[0], said[2], said[1]))
+                entries.append((int(said[0]), int(said[2])))
+            if word == "object":
+                objects.append(int(said[0]))
         else:
             return number_of_line
         number_of_line += 1
+    if part == "ended":
+        boxes = cycles_of(objects, entries)
     return (nodes, edges, boxes) if part in ("remains", "cycles", "ended") else number_of_line
 
 

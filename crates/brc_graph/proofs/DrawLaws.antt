@@ -15,7 +15,7 @@ use Rattle.brc_graph.specs.declared.undrawn.Undrawn.{Undrawn}
 use Rattle.brc_graph.specs.declared.undrawn.Undrawn.TheVariants as undrawn
 use Rattle.brc_graph.specs.Reading.{graph_at, RefusesGraph}
 use Rattle.brc_graph.specs.Pictures.{graph_text}
-use Rattle.brc_graph.specs.Draws.{undrawn_of, IsHalfDrawn, Draws}
+use Rattle.brc_graph.specs.Draws.{undrawn_of, IsGraphOf, IsHalfDrawn, Draws}
 
 front_or_whole : (input : List ℕ) (long : Bool) → ltb MOST_INPUT (length input) ≡ long
     → graph_at {A = Global} (take (MOST_INPUT + 1) input) ≡ graph_at input
@@ -64,15 +64,14 @@ no_graph input old bytes undrawn.OutOfMemory is h = Keeps-refl old
 no_graph input old bytes (undrawn.BadLine line) is h = (Keeps-refl old, bad input bytes line is h)
 no_graph input old bytes undrawn.Io is h = absurd h
 
-pub not_written : (input old new : Option (List ℕ)) (bytes left : List ℕ) (graph : List (Drawn Global)) (fault : Fault)
-    → IfSome input (λ all. bytes ≡ take (MOST_INPUT + 1) all) → graph_at bytes ≡ Ok graph → fault ≡ faults.Io
-    → PutsUpTo old new (graph_text graph) left
+pub not_written : (input old new : Option (List ℕ)) (left : List ℕ) (boxed : List (Drawn Global)) (fault : Fault)
+    → IsGraphOf input boxed → fault ≡ faults.Io → PutsUpTo old new (graph_text boxed) left
     → Draws input old new (Err (undrawn_of fault))
-not_written input old new bytes left graph fault is h io put =
+not_written input old new left boxed fault graph io put =
     let P : Fault → Type 0 = λ f. Draws input old new (Err (undrawn_of f)) in
     let half : IsHalfDrawn input put.front = record {
+      boxed = boxed;
       graph = graph;
-      read = carried input bytes graph is h;
       left = left;
       text = put.is;
     } in

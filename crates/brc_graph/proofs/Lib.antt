@@ -2,4 +2,5 @@ mod CutLaws
 mod CellLaws
 mod WalkLaws
 mod DrawLaws
+mod BoxLaws
 mod ReportAgain

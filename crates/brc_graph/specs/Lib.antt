@@ -6,5 +6,6 @@ pub mod Parts
 pub mod Lines
 pub mod Reading
 pub mod Pictures
-pub mod Draws
 pub mod Reports
+pub mod Boxes
+pub mod Draws

@@ -2,9 +2,11 @@
 //! its objects and threads is written in DOT, the language of graphviz.
 //!
 //! `specs/Lines.antt` says what each line is and what is drawn for it, `specs/Reading.antt` which lines make a text, and
-//! `specs/Pictures.antt` the text of a picture. A graph is what is drawn for each line, in the order of the lines.
+//! `specs/Pictures.antt` the text of a picture. A graph is what is drawn for each line, in the order of the lines, and of
+//! a world a box for each cycle besides (`specs/Boxes.antt`).
 #![tactic(auto)]
 
+mod boxes;
 mod cells;
 mod cutting;
 mod drawn;
@@ -19,6 +21,7 @@ mod reading;
 mod undrawn;
 mod whole;
 
+pub use boxes::box_cycles;
 pub use drawn::{Drawn, Graph};
 pub use laws::reports_are_read;
 pub use picture_writing::write_graph;

@@ -3,6 +3,7 @@
 ghost use Rattle.std.specs.Prelude.{◌≡◌};
 ghost use Rattle.brc_graph.specs.Draws.{Draws, undrawn_of};
 
+use crate::boxes::box_cycles;
 use crate::picture_writing::write_graph;
 use crate::reading::read_graph;
 use crate::undrawn::Undrawn;
@@ -21,8 +22,8 @@ fn undrawn_of(fault: Fault) -> Undrawn
     }
 }
 
-/// Reads a report, what `brc run` writes, or the text of a world, and writes what holds what in DOT. Nothing is written
-/// unless the whole text was read.
+/// Reads a report, what `brc run` writes, or the text of a world, and writes what holds what in DOT, of a world with its
+/// cycles. Nothing is written unless the whole text was read.
 pub fn draw<R: Read + Drop, W: Write>(
     alloc: Global,
     mut reader: R,
@@ -38,7 +39,11 @@ pub fn draw<R: Read + Drop, W: Write>(
         Ok(graph) => graph,
         Err(undrawn) => return Err(undrawn),
     };
-    match write_graph(&graph, writer) {
+    let boxed = match box_cycles(alloc, graph) {
+        Ok(boxed) => boxed,
+        Err(fault) => return Err(undrawn_of(fault)),
+    };
+    match write_graph(&boxed, writer) {
         Ok(()) => Ok(()),
         Err(fault) => Err(undrawn_of(fault)),
     }
