@@ -1,5 +1,5 @@
 -- No status has the number 0.
-use Rattle.std.proofs.Common.{arith, ◌<◌, ◌≡◌, ◌≢◌, ℕ, sym, ◌∙◌}
+use Rattle.std.proofs.Common.{arith, ◌<◌}
 use Rattle.brc_words.specs.declared.fault.Fault.{Fault}
 use Rattle.brc_words.specs.declared.fault.Fault.TheVariants as faults
 use Rattle.brc_words.specs.Faults.{number_of}

@@ -17,15 +17,11 @@ pub record ClientSeen : Type 0 where
   pub numbers : NumbersSeen
   pub text : List ℕ
 
--- each handle lies in the place that has its own number in the frame
-abbrev pub AreAtHome : List (Option HandleSeen) → Type 0
-AreAtHome handles = (k : ℕ) (h : HandleSeen) → slot handles k ≡ Some h → h.place ≡ k
-
 -- What a client keeps from call to call: its frame has the handles that are there and no others, nothing is locked, and
--- each handle is at home.
+-- each handle lies in the place that has its own number in the frame.
 pub record IsClient (frame : FrameSeen Global) (handles : List (Option HandleSeen)) : Type 0 where
   pub stands : Stands 0 frame handles
-  pub lies : AreAtHome handles
+  pub lies : (k : ℕ) (h : HandleSeen) → slot handles k ≡ Some h → h.place ≡ k
   pub places : length handles ≡ 65536
 
 -- The number names this handle. It lies in the place that the number says, and the number is spelled as that place is.

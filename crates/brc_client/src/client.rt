@@ -5,7 +5,7 @@ ghost use Rattle.std.specs.Prelude.{OnOk, OnErr};
 ghost use Rattle.brc_count.specs.Frames.{IsUnlocked, KeepsHandles, ledger_seen, word_asked};
 ghost use Rattle.brc_handles.specs.Handles.{slot, filled, IsApart, IsBare, ComesIn};
 ghost use Rattle.brc_client.specs.Numbers.{number_at, place_in};
-ghost use Rattle.brc_client.specs.Clients.{AreAtHome, IsClient, Names, NamesIn, NamesNone, NamesNoneIn};
+ghost use Rattle.brc_client.specs.Clients.{IsClient, Names, NamesIn, NamesNone, NamesNoneIn};
 ghost use Rattle.brc_client.specs.Clients.{KeepsNumbers, KeepsNames, SpendsName};
 ghost use Rattle.brc_client.specs.Calls.{OfNamed, RefusedOf, Adds, Retained, Releases};
 
@@ -70,24 +70,12 @@ pub(crate) fn find<'h>(
     numbers: &Numbers,
     number: u64,
 ) -> Result<&'h Handle<Global>, Status>
-    requires places { length handles.now ≡ 65536 }
-    requires at_home { AreAtHome handles.now }
     ensures named { IfOk result (λ handle. NamesIn handles.now numbers.now number handle.now) }
     ensures refused { IfErr result (NamesNoneIn handles.now numbers.now number) }
 {
     let place = numbers.place(number)?;
-    // All places are there, so `get` needn't look. Each handle lies in its own place: so what follows takes the place from
-    // the number, and needn't wait until the handle is read.
-    if place >= handles.len() {
-        unreachable!()
-    }
     match handles.get(place) {
-        Some(handle) => {
-            if handle.place() as usize != place {
-                unreachable!()
-            }
-            Ok(handle)
-        }
+        Some(handle) => Ok(handle),
         None => Err(Status::Stale),
     }
 }
