@@ -26,7 +26,7 @@ pub enum Spot<A: Allocator> {
 }
 
 /// What an object is.
-#[derive(Clone, Copy, Debug, PartialEq, Eq)]
+#[derive(Clone, Copy)]
 pub enum Kind {
     Int,
     List,

@@ -79,7 +79,7 @@ impl<'r, R: Wait, H: HasTable<A>, A: Allocator + Copy> Source<H, A> for Chains<'
 }
 
 /// When the making of an object began, when the object stood, and when nothing was left to take apart of it.
-#[derive(Clone, Copy, Debug)]
+#[derive(Clone, Copy)]
 pub struct Life {
     pub began: Moment,
     pub stood: Moment,

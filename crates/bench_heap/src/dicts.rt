@@ -23,7 +23,7 @@ pub fn key_of<A: Allocator>(number: u64) -> Key<A>
 }
 
 /// How many keys a dictionary has.
-#[derive(Clone, Copy, Debug, PartialEq, Eq)]
+#[derive(Clone, Copy)]
 pub enum Keys {
     /// 4.
     Few,

@@ -22,7 +22,7 @@ pub fn first_key(thread: u32) -> u32 {
 }
 
 /// What a thread puts into the globals before the others run.
-#[derive(Clone, Copy, Debug, PartialEq, Eq)]
+#[derive(Clone, Copy)]
 enum Gift {
     Nothing,
     /// So many integers.

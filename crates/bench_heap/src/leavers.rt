@@ -151,7 +151,7 @@ fn leave_in_turn<R: Wait + Clock + CpuClock>(
 }
 
 /// What is timed.
-#[derive(Clone, Copy, Debug, PartialEq, Eq)]
+#[derive(Clone, Copy)]
 pub enum Timing {
     /// Whole lives.
     Lives,

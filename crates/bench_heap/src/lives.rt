@@ -51,7 +51,7 @@ const WORDS: u32 = CELLS / IN_WORD - FIRST_WORD;
 pub const FOREIGN: u32 = 64;
 
 /// What some threads are to do, all the same.
-#[derive(Clone, Copy, Debug)]
+#[derive(Clone, Copy)]
 pub struct Asked {
     pub case: Case,
     /// Whether they are idle, and others count the integers that they gave before.

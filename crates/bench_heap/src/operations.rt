@@ -40,7 +40,7 @@ impl<'h, O: Operation<H, A>, H: HasTable<A>, A: Allocator> Task<H, A> for On<'h,
 }
 
 /// One reference more to the object, and one less.
-#[derive(Clone, Copy, Debug, PartialEq, Eq)]
+#[derive(Clone, Copy)]
 pub struct Pair;
 
 impl<H: HasTable<A>, A: Allocator> Operation<H, A> for Pair {
@@ -78,7 +78,7 @@ pub fn strewn(turn: u64) -> u64
 }
 
 /// In which order many objects have their turns.
-#[derive(Clone, Copy, Debug, PartialEq, Eq)]
+#[derive(Clone, Copy)]
 pub enum Order {
     /// By their numbers.
     InTurn,

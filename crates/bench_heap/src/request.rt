@@ -3,7 +3,7 @@
 use crate::lives::CELLS;
 
 /// What an operation is.
-#[derive(Clone, Copy, Debug, PartialEq, Eq)]
+#[derive(Clone, Copy)]
 pub enum Case {
     /// A retain and a release of one integer of the thread's own.
     PairOwn,
@@ -63,7 +63,7 @@ pub const CASES: &str =
     "pair_own pair_own8 pair_own256 pair_shared pair_foreign new_int new_text16 new_list10 new_int_apart new_text16_apart new_list10_apart list list_shared dict dict4 mail chain make_chain make_chain_near wide claim_full claim_full_near thread_life0 thread_life1 thread_life200 thread_life0_large thread_life1_large thread_life1000_large leave10000";
 
 /// What a line asks for.
-#[derive(Clone, Copy, Debug, PartialEq, Eq)]
+#[derive(Clone, Copy)]
 pub enum Request {
     /// The names of the cases.
     List,

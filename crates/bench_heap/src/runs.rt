@@ -42,7 +42,7 @@ fn rested<R: Wait>(
 }
 
 /// What a run answers.
-#[derive(Clone, Copy, Debug)]
+#[derive(Clone, Copy)]
 pub struct Answer {
     pub times: Times,
     /// How many objects all threads together have made.

@@ -10,7 +10,7 @@ pub fn refused() -> io::Error {
 }
 
 /// A moment, and the processor time that the thread had had by then.
-#[derive(Clone, Copy, Debug)]
+#[derive(Clone, Copy)]
 pub struct Moment {
     pub wall: Instant,
     pub cpu: Duration,
@@ -25,14 +25,14 @@ pub fn this_moment<R: Clock + CpuClock>(rt: &R) -> io::Result<Moment> {
 }
 
 /// What is timed of one thread.
-#[derive(Clone, Copy, Debug)]
+#[derive(Clone, Copy)]
 pub struct Span {
     pub began: Moment,
     pub ended: Moment,
 }
 
 /// The times of a run, in nanoseconds.
-#[derive(Clone, Copy, Debug)]
+#[derive(Clone, Copy)]
 pub struct Times {
     /// From the first thread's start to the last one's end.
     pub wall: u128,

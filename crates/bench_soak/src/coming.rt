@@ -9,7 +9,7 @@ use rand_core::Rng;
 use std::alloc::Global;
 
 /// How many threads share what, in a heap of which size.
-#[derive(Clone, Copy, Debug, PartialEq, Eq)]
+#[derive(Clone, Copy, Debug)]
 pub struct Coming {
     /// How many threads are registered in the heap's life.
     pub registered: u32,

@@ -25,7 +25,7 @@ use std::io;
 use std::str::SplitWhitespace;
 
 /// What a line asks for.
-#[derive(Clone, Copy, Debug, PartialEq, Eq)]
+#[derive(Clone, Copy)]
 enum Request {
     /// Scripts for so many seconds, by a seed.
     Scripts(u64, u64),

@@ -12,7 +12,7 @@ use std::sync::Wait;
 use std::thread::Threads;
 
 /// How threads come and go.
-#[derive(Clone, Copy, Debug, PartialEq, Eq)]
+#[derive(Clone, Copy)]
 pub enum Way {
     /// Some at a time, and all of them leave before the next ones come.
     Waves,
@@ -21,7 +21,7 @@ pub enum Way {
 }
 
 /// What came of all heaps.
-#[derive(Clone, Copy, Debug)]
+#[derive(Clone, Copy)]
 pub enum Passed {
     Balanced,
     /// This one wasn't as it should be.

@@ -8,7 +8,7 @@ use rand_core::Rng;
 const MOST_PLAYERS: u32 = 62;
 
 /// How many sections play; one more shares what they play with, and adds up what they got.
-#[derive(Clone, Copy, Debug, PartialEq, Eq)]
+#[derive(Clone, Copy, Debug)]
 pub struct Plan {
     pub players: u32,
     /// How many turns each plays.

@@ -15,7 +15,7 @@ use std::thread::Threads;
 use std::time::{Duration, Instant};
 
 /// What came of all runs.
-#[derive(Clone, Copy, Debug)]
+#[derive(Clone, Copy)]
 pub enum Soaked {
     Balanced,
     /// This one wasn't as planned.
@@ -23,7 +23,7 @@ pub enum Soaked {
 }
 
 /// What was done so far.
-#[derive(Clone, Copy, Debug)]
+#[derive(Clone, Copy)]
 struct Done {
     heaps: u64,
     threads: u64,

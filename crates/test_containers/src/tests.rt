@@ -4,6 +4,7 @@ mod alone;
 mod busy;
 mod calls;
 mod clearing;
+mod comparing;
 mod copies;
 mod departing;
 mod guards;

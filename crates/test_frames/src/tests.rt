@@ -1,6 +1,7 @@
 //! The tests, and the steps that they share.
 
 mod client;
+mod comparing;
 mod entering;
 mod full;
 mod limits;

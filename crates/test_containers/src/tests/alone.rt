@@ -7,6 +7,7 @@ ghost use Rattle.test_tools.specs.Calls.{OwnsOne, Stays};
 use crate::tests::calls::{
     Exchanging, Getting, Giving, exchanges, gets_none, gets_number, gives, has_pair,
 };
+use crate::tests::comparing::same;
 use crate::tests::guards::{ToLock, Way, puts_a_pair};
 use crate::tests::objects::{entries, number_of};
 use crate::tests::threads::{a_heap, a_thread, is_empty};
@@ -126,9 +127,9 @@ fn takes<R: Abort + Wait, H: HasTable<A>, A: Allocator + Copy>(
         Step::Exchanges(exchanging, old, new) => {
             let value = made(alloc, frame, Thing::Int(new)).expect(rt, "no integer is made");
             let value = exchanges(rt, frame, object, exchanging, value);
-            assert_eq!(rt; number_of(rt, frame, value), old);
+            same(rt, number_of(rt, frame, value), old);
         }
-        Step::Has(count) => assert_eq!(rt; entries(rt, frame, object), count),
+        Step::Has(count) => same(rt, entries(rt, frame, object), count),
         Step::HasPair(place, key, number) => {
             has_pair(rt, alloc, frame, object, place, key, number);
         }
@@ -166,7 +167,7 @@ fn lives<R: Abort + Wait>(rt: &R, alloc: Global, first: Use<'_>, second: Use<'_>
     uses(rt, alloc, thread.frame(), first);
     uses(rt, alloc, thread.frame(), second);
     let ledger = thread.settle_and_join(rt, &mut root, &heap);
-    assert_eq!(rt; (ledger.allocs, ledger.frees), (births, births));
+    same(rt, (ledger.allocs, ledger.frees), (births, births));
     is_empty(rt, heap, root);
 }
 

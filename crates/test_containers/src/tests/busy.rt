@@ -5,6 +5,7 @@ ghost use Rattle.brc_count.specs.Frames.{IsUnlocked, Owns};
 ghost use Rattle.test_tools.specs.Calls.{OwnsBoth, OwnsOne, Parts, Stays};
 
 use crate::tests::calls::{Getting, Giving, gets, gets_none, gives};
+use crate::tests::comparing::same;
 use crate::tests::threads::{a_heap, a_thread, is_empty};
 use brc_count::biased::HasTable;
 use brc_count::block::Payload;
@@ -45,7 +46,7 @@ fn locks_meanwhile<R: Abort + Wait, H: HasTable<A>, A: Allocator + Copy>(
             assert!(rt; locked.place().is_ok());
             let put = Giving::TryPut(7).given(rt, other, others, list);
             let HandedBack { fault, value: list } = put.expect_err(rt, "a value is taken");
-            assert_eq!(rt; fault, Fault::Busy);
+            same(rt, fault, Fault::Busy);
             gets_none(rt, other, &list, Getting::TryPop);
             assert!(rt; try_int_of(other, &list) == Err(Fault::WrongKind));
             locked.unlock();
@@ -101,6 +102,6 @@ fn what_another_thread_has_locked_is_busy(rt: HostRuntime) {
     takes_turns(&rt, rt.alloc(), first.frame(), second.frame());
     let _first = first.settle_and_join(&rt, &mut root, &heap);
     let ledger = second.settle_and_join(&rt, &mut root, &heap);
-    assert_eq!(rt; (ledger.allocs, ledger.frees), (1, 1));
+    same(&rt, (ledger.allocs, ledger.frees), (1, 1));
     is_empty(&rt, heap, root);
 }

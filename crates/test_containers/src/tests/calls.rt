@@ -4,6 +4,7 @@
 ghost use Rattle.std.specs.Prelude.{◌≡◌, None, Ok, IfErr, IsErr, OnErr, OnOk};
 ghost use Rattle.test_tools.specs.Calls.{OwnsBoth, OwnsOne, Stays, Adds, Parts, LosesOrKeeps, GainsOrKeeps};
 
+use crate::tests::comparing::same;
 use crate::tests::guards::{Entry, ToLock, Way, had_by_guard, put_by_guard, swap_by_guard};
 use crate::tests::objects::number_of;
 use brc_count::biased::HasTable;
@@ -202,7 +203,7 @@ pub(super) fn gets_number<H: HasTable<A>, A: Allocator>(
     ensures { Stays frame.old frame.new }
 {
     let handle = gets(rt, frame, container, getting);
-    assert_eq!(rt; number_of(rt, frame, handle), number);
+    same(rt, number_of(rt, frame, handle), number);
 }
 
 /// A handle to the value at the place, which stands beside this key.
@@ -240,7 +241,7 @@ pub(super) fn has_pair<H: HasTable<A>, A: Allocator>(
     ensures { Stays frame.old frame.new }
 {
     let value = gets_value(rt, alloc, frame, dict, place, key);
-    assert_eq!(rt; number_of(rt, frame, value), number);
+    same(rt, number_of(rt, frame, value), number);
 }
 
 /// There is no such entry.
@@ -255,7 +256,7 @@ pub(super) fn gets_none<H: HasTable<A>, A: Allocator>(
 {
     match getting.had(rt, frame, container) {
         Ok(_handle) => panic!(rt; "an entry is there"),
-        Err(fault) => assert_eq!(rt; fault, Fault::NoSuchPlace),
+        Err(fault) => same(rt, fault, Fault::NoSuchPlace),
     }
 }
 

@@ -5,6 +5,7 @@ ghost use Rattle.std.specs.Prelude.{◌≡◌};
 ghost use Rattle.brc_count.specs.Frames.{IsUnlocked};
 ghost use Rattle.test_tools.specs.Calls.{EndsBare, IsBare, OwnsAll, OwnsOne, Stays};
 
+use crate::tests::comparing::same;
 use crate::tests::objects::entries;
 use crate::tests::threads::{a_heap, a_thread, is_empty};
 use brc_count::Handle;
@@ -31,8 +32,8 @@ fn clears_nothing<R: Abort + Wait, H: HasTable<A>, A: Allocator>(
     let handles = thread.frame().len();
     let before = entries(rt, thread.frame(), globals);
     assert!(rt; thread.clear_globals() == Err(Fault::OutOfMemory));
-    assert_eq!(rt; thread.frame().len(), handles);
-    assert_eq!(rt; entries(rt, thread.frame(), globals), before);
+    same(rt, thread.frame().len(), handles);
+    same(rt, entries(rt, thread.frame(), globals), before);
 }
 
 /// No handle to the globals is had.
@@ -42,7 +43,7 @@ fn has_no_globals<R: Abort, H: HasTable<A>, A: Allocator>(rt: &R, thread: &mut M
 {
     match thread.globals() {
         Ok(_handle) => panic!(rt; "there was memory"),
-        Err(fault) => assert_eq!(rt; fault, Fault::OutOfMemory),
+        Err(fault) => same(rt, fault, Fault::OutOfMemory),
     }
 }
 
@@ -58,7 +59,7 @@ fn clears_with_memory<'h, R: Abort + Wait, H: HasTable<&'h LocalHeap>>(
 {
     for _ in 0..1_000 {
         if thread.clear_globals().is_ok() {
-            assert_eq!(rt; entries(rt, thread.frame(), globals), 0);
+            same(rt, entries(rt, thread.frame(), globals), 0);
             return;
         }
         assert!(rt; pieces.give_one());
@@ -129,7 +130,7 @@ fn globals_without_memory_are_not_cleared(rt: HostRuntime) {
     let mut thread = a_thread(&rt, memories.scarce, &heap, &mut root);
     refuses_to_clear(&rt, rt.alloc(), memories, &mut thread);
     let ledger = thread.settle_and_join(&rt, &mut root, &heap);
-    assert_eq!(rt; (ledger.allocs, ledger.frees), (0, 0));
+    same(&rt, (ledger.allocs, ledger.frees), (0, 0));
     is_empty(&rt, heap, root);
-    assert_eq!(rt; heaps.used(), (0, 0));
+    same(&rt, heaps.used(), (0, 0));
 }

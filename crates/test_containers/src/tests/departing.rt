@@ -1,5 +1,6 @@
 //! A thread that departs: it neither waits nor polls, and has no dead block left.
 
+use crate::tests::comparing::same;
 use crate::tests::threads::{a_heap, a_thread, is_empty};
 use test_tools::{Thing, made};
 
@@ -13,14 +14,18 @@ fn a_dead_block_keeps_a_thread_until_there_are_turns_for_it(rt: HostRuntime) {
         Ok(_leaving) => panic!(rt; "it has left with a dead block"),
         Err(thread) => thread,
     };
-    assert_eq!(rt; (thread.ledger().allocs, thread.ledger().frees), (1, 0));
+    same(&rt, (thread.ledger().allocs, thread.ledger().frees), (1, 0));
     let leaving = match thread.leave_without_waiting(1) {
         Ok(leaving) => leaving,
         Err(_thread) => panic!(rt; "a dead block is left"),
     };
     assert!(rt; leaving.is_done());
     let retired = leaving.finish_all(&rt);
-    assert_eq!(rt; (retired.ledger().allocs, retired.ledger().frees), (1, 1));
+    same(
+        &rt,
+        (retired.ledger().allocs, retired.ledger().frees),
+        (1, 1),
+    );
     root.gather(&heap, retired);
     is_empty(&rt, heap, root);
 }

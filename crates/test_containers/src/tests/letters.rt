@@ -5,6 +5,7 @@ ghost use Rattle.brc_count.specs.Frames.{IsUnlocked};
 ghost use Rattle.test_tools.specs.Calls.{Stays};
 
 use crate::tests::calls::{Getting, Giving, gets, gives};
+use crate::tests::comparing::same;
 use crate::tests::objects::{entries, number_of};
 use crate::tests::threads::{a_heap, a_thread, is_empty};
 use brc_count::Frame;
@@ -87,16 +88,16 @@ fn receives_all<R: Abort + Wait, H: HasTable<A>, A: Allocator>(rt: &R, frame: &m
         let found = gets(rt, frame, &mailbox, Getting::Recv);
         let number = number_of(rt, frame, found);
         if number < 10_000 {
-            assert_eq!(rt; number, first);
+            same(rt, number, first);
             first = first.wrapping_add(1);
         } else {
-            assert_eq!(rt; number, second);
+            same(rt, number, second);
             second = second.wrapping_add(1);
         }
         let _told = frame.poll();
         let _left = frame.work(2);
     }
-    assert_eq!(rt; entries(rt, frame, &mailbox), 0);
+    same(rt, entries(rt, frame, &mailbox), 0);
     frame.release(mailbox);
 }
 
@@ -115,7 +116,7 @@ fn letters_of_two_threads_come_in_their_order(rt: HostRuntime) {
     root.gather(&heap, second);
     receives_all(&rt, last.frame());
     let ledger = last.settle_and_join(&rt, &mut root, &heap);
-    assert_eq!(rt; sum_of(births, ledger.allocs), 2_001);
-    assert_eq!(rt; sum_of(frees, ledger.frees), 2_001);
+    same(&rt, sum_of(births, ledger.allocs), 2_001);
+    same(&rt, sum_of(frees, ledger.frees), 2_001);
     is_empty(&rt, heap, root);
 }

@@ -6,6 +6,7 @@ ghost use Rattle.brc_count.specs.Frames.{IsUnlocked};
 ghost use Rattle.test_tools.specs.Calls.{Adds, EndsBare, IsBare, OwnsOne, Stays};
 
 use crate::tests::calls::{Getting, Giving};
+use crate::tests::comparing::same;
 use crate::tests::copies::{Copying, SOME_TEXT, copied, two_keys};
 use crate::tests::guards::Way;
 use crate::tests::objects::entries;
@@ -66,9 +67,9 @@ fn puts_until_refused<R: Abort + Wait, H: HasTable<A>, A: Allocator + Copy>(
         match put(rt, frame, container, with_key(giving, key)) {
             Ok(()) => {}
             Err(fault) => {
-                assert_eq!(rt; fault, Fault::OutOfMemory);
-                assert_eq!(rt; entries(rt, frame, container), before);
-                assert_eq!(rt; frame.len(), handles);
+                same(rt, fault, Fault::OutOfMemory);
+                same(rt, entries(rt, frame, container), before);
+                same(rt, frame.len(), handles);
                 return key;
             }
         }
@@ -129,10 +130,10 @@ fn passes_with_memory<'h, R: Abort + Wait, H: HasTable<&'h LocalHeap>>(
                 assert!(rt; tried > 0);
                 return;
             }
-            Err(fault) => assert_eq!(rt; fault, Fault::OutOfMemory),
+            Err(fault) => same(rt, fault, Fault::OutOfMemory),
         }
         assert!(rt; len_of(rt, frame, object) == before);
-        assert_eq!(rt; frame.len(), handles);
+        same(rt, frame.len(), handles);
         assert!(rt; pieces.give_one());
     }
     panic!(rt; "the call never passes")
@@ -245,13 +246,13 @@ fn on_a_heap<R: Abort + Wait>(rt: &R, alloc: Global, memories: Memories<&LocalHe
             refuses_an_entry(rt, alloc, scarce, one.frame(), two.frame(), giving);
             let _two = two.settle_and_join(rt, &mut root, &heap);
             let ledger = one.settle_and_join(rt, &mut root, &heap);
-            assert_eq!(rt; ledger.allocs, 1);
+            same(rt, ledger.allocs, 1);
         }
         _ => {
             let mut thread = a_thread(rt, scarce, &heap, &mut root);
             refuses(rt, alloc, memories, thread.frame(), call);
             let ledger = thread.settle_and_join(rt, &mut root, &heap);
-            assert_eq!(rt; (ledger.allocs, ledger.frees), (1, 1));
+            same(rt, (ledger.allocs, ledger.frees), (1, 1));
         }
     }
     is_empty(rt, heap, root);
@@ -261,7 +262,7 @@ fn on_a_heap<R: Abort + Wait>(rt: &R, alloc: Global, memories: Memories<&LocalHe
 fn wants<R: Abort + Wait>(rt: &R, alloc: Global, bytes: usize, call: Call) {
     let heaps = Heaps::new(alloc, 1 << 20, bytes).expect(rt, "memory");
     on_a_heap(rt, alloc, heaps.memories(), call);
-    assert_eq!(rt; heaps.used(), (0, 0));
+    same(rt, heaps.used(), (0, 0));
 }
 
 #[test]

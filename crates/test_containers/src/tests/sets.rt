@@ -4,6 +4,7 @@
 ghost use Rattle.brc_count.specs.Frames.{IsUnlocked};
 ghost use Rattle.test_tools.specs.Calls.{OwnsOne, Stays};
 
+use crate::tests::comparing::same;
 use crate::tests::guards::Way;
 use crate::tests::objects::entries;
 use crate::tests::threads::{a_heap, a_thread, is_empty};
@@ -68,13 +69,13 @@ fn sets_with_memory<'h, R: Abort + Wait, H: HasTable<&'h LocalHeap>>(
         match sets(rt, scarce, frame, dict, key, way) {
             Ok(is_new) => {
                 assert!(rt; is_new && tried > 1);
-                assert_eq!(rt; entries(rt, frame, dict), 1);
+                same(rt, entries(rt, frame, dict), 1);
                 return;
             }
-            Err(fault) => assert_eq!(rt; fault, Fault::OutOfMemory),
+            Err(fault) => same(rt, fault, Fault::OutOfMemory),
         }
-        assert_eq!(rt; entries(rt, frame, dict), 0);
-        assert_eq!(rt; frame.len(), handles);
+        same(rt, entries(rt, frame, dict), 0);
+        same(rt, frame.len(), handles);
         assert!(rt; pieces.give_one());
     }
     panic!(rt; "the call never passes")
@@ -111,8 +112,8 @@ fn a_refused_set_changes_nothing(rt: HostRuntime) {
         let mut thread = a_thread(&rt, memories.ample, &heap, &mut root);
         goes_in(&rt, rt.alloc(), memories, thread.frame(), way);
         let ledger = thread.settle_and_join(&rt, &mut root, &heap);
-        assert_eq!(rt; (ledger.allocs, ledger.frees), (1, 1));
+        same(&rt, (ledger.allocs, ledger.frees), (1, 1));
         is_empty(&rt, heap, root);
-        assert_eq!(rt; heaps.used(), (0, 0));
+        same(&rt, heaps.used(), (0, 0));
     }
 }

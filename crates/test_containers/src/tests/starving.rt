@@ -6,6 +6,7 @@ ghost use Rattle.brc_count.specs.Frames.{IsUnlocked, Owns};
 ghost use Rattle.test_tools.specs.Calls.{OwnsBoth, OwnsOne, Stays};
 
 use crate::tests::calls::{Exchanging, Getting, Giving, exchanges, gets, gets_number, gives};
+use crate::tests::comparing::same;
 use crate::tests::guards::Way;
 use crate::tests::objects::number_of;
 use crate::tests::threads::{a_heap, a_thread, is_empty};
@@ -87,7 +88,7 @@ fn uses_without_memory<'h, R: Abort + Wait, H: HasTable<&'h LocalHeap>>(
     let pieces = Pieces::take_all(alloc, memory).expect(rt, "a heap that is never full");
     reads_both(rt, frame, &list, &value);
     let first = edits(rt, frame, &list, value, way);
-    assert_eq!(rt; number_of(rt, frame, first), 1_000);
+    same(rt, number_of(rt, frame, first), 1_000);
     frame.release(list);
     pieces
 }
@@ -106,7 +107,7 @@ fn ends_without_memory<'h, R: Abort + Wait>(
     assert!(rt; thread.is_idle());
     let _others = Pieces::take_all(alloc, memory).expect(rt, "a heap that is never full");
     let ledger = thread.settle_and_join(rt, &mut root, &heap);
-    assert_eq!(rt; (ledger.allocs, ledger.frees), (4, 4));
+    same(rt, (ledger.allocs, ledger.frees), (4, 4));
     is_empty(rt, heap, root);
 }
 
@@ -115,6 +116,6 @@ fn some_calls_need_no_memory(rt: HostRuntime) {
     for way in [Way::AtOnce, Way::Late] {
         let memory = LocalHeap::new(rt.alloc(), 1 << 18).expect(&rt, "memory");
         ends_without_memory(&rt, rt.alloc(), &memory, way);
-        assert_eq!(rt; memory.used(), 0);
+        same(&rt, memory.used(), 0);
     }
 }

@@ -3,6 +3,7 @@
 ghost use Rattle.std.specs.Prelude.{◌≡◌, []};
 ghost use Rattle.brc_count.specs.Frames.{IsUnlocked};
 
+use crate::tests::comparing::same;
 use brc_thread::{Heap, Mutator, Options, Root, take_apart};
 use std::alloc::Allocator;
 use std::process::Abort;
@@ -45,5 +46,5 @@ pub(super) fn a_thread<'h, A: Allocator + Copy>(
 pub(super) fn is_empty<A: Allocator>(rt: &impl Abort, heap: Heap<A>, root: Root<A>)
     requires root { root.table ≡ heap.table }
 {
-    assert_eq!(rt; cells_left(take_apart(heap, root)), Some(266));
+    same(rt, cells_left(take_apart(heap, root)), Some(266));
 }

@@ -2,6 +2,7 @@
 
 ghost use Rattle.std.specs.Prelude.{◌<◌};
 
+use crate::tests::comparing::same;
 use crate::tests::phases::{ends, entered, leaves, opened};
 use brc_count::Frame;
 use brc_count::biased::{first_counts, no_bits};
@@ -33,10 +34,10 @@ fn enters<A: Allocator + Copy>(rt: &impl Abort, memories: Memories<A>) -> bool {
             true
         }
         Err(fault) => {
-            assert_eq!(rt; fault, Fault::OutOfMemory);
+            same(rt, fault, Fault::OutOfMemory);
             assert_eq!(rt; root.next(), 1);
             let frame = entered(rt, memories.ample, &table, &mut root);
-            assert_eq!(rt; frame.thread(), 1);
+            same(rt, frame.thread(), 1);
             leaves(rt, &table, &mut root, frame);
             false
         }

@@ -3,6 +3,7 @@
 ghost use Rattle.std.specs.Prelude.{◌≡◌};
 ghost use Rattle.brc_count.specs.Frames.{IsUnlocked};
 
+use crate::tests::comparing::same;
 use crate::tests::phases::ends;
 use brc_count::biased::HasTable;
 use brc_thread::{Heap, Mutator, Options, take_apart};
@@ -63,6 +64,6 @@ fn a_thread_with_a_handle_stays(rt: HostRuntime) {
     let (heap, mut root) = Heap::new(rt.alloc(), LEAST).expect(&rt, "no heap can be had");
     let mutator = root.register(rt.alloc(), &heap);
     let mutator = mutator.expect(&rt, "a thread is refused");
-    assert_eq!(rt; leaves_late(&rt, mutator), 1);
+    same(&rt, leaves_late(&rt, mutator), 1);
     ends(&rt, take_apart(heap, root));
 }

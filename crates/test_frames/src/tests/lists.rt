@@ -5,6 +5,7 @@ ghost use Rattle.brc_count.specs.Frames.{IsUnlocked};
 ghost use Rattle.brc_count.specs.Owned.{GoesOn};
 ghost use Rattle.test_tools.specs.Calls.{OwnsAll, OwnsOne, Stays};
 
+use crate::tests::comparing::same;
 use crate::tests::phases::{ends, entered, leaves, leaves_late, opened, says};
 use brc_count::biased::HasTable;
 use brc_count::{Frame, Handle, Ledger};
@@ -61,7 +62,7 @@ fn fetches_all<R: Abort + Wait, H: HasTable<A>, A: Allocator>(
 {
     for key in 0..references {
         let found = fetches(rt, other, key).expect(rt, "nothing is in the globals");
-        assert_eq!(rt; other.cell(&found), cell);
+        same(rt, other.cell(&found), cell);
         assert!(rt; kept.keep(other, found).is_ok());
     }
 }
@@ -128,10 +129,10 @@ fn happens<H: HasTable<A>, A: Allocator>(
         Before::Nothing => {}
         Before::Asked => lets_one_go(rt, other, kept),
         Before::Freed => {
-            assert_eq!(rt; maker.poll(), 0);
+            same(rt, maker.poll(), 0);
             lets_one_go(rt, other, kept);
             assert!(rt; maker.poll() > 0);
-            assert_eq!(rt; maker.work(5), 4);
+            same(rt, maker.work(5), 4);
             says(rt, maker.ledger(), (1, 1));
         }
     }
@@ -167,7 +168,7 @@ fn lets_all_go<H: HasTable<A>, A: Allocator>(
 {
     kept.release_all(other);
     let (makers, others, left) = by.ends_with();
-    assert_eq!(rt; other.work(5), left);
+    same(rt, other.work(5), left);
     says(rt, ledger, makers);
     says(rt, other.ledger(), others);
     assert!(rt; comes_out(ledger, other.ledger()));
@@ -188,7 +189,7 @@ fn lives<R: Abort + Wait>(
     let mut other = entered(rt, alloc, &table, &mut root);
     let mut kept = Handles::new(alloc);
     let cell = hands_over(rt, alloc, &mut maker, &mut other, &mut kept, references);
-    assert_eq!(rt; cell, 266);
+    same(rt, cell, 266);
     happens(rt, &mut maker, &mut other, &mut kept, before);
     let ledger = leaves_late(rt, &table, &mut root, maker, turns);
     lets_all_go(rt, &mut other, kept, ledger, by);

@@ -1,6 +1,7 @@
 //! None, False, True and integers: which are there already, and in which cells, and which are made; and a frame that
 //! has a handle.
 
+use crate::tests::comparing::same;
 use crate::tests::phases::{ends, entered, leaves, opened, stays};
 use crate::tests::steps::lives;
 
@@ -27,7 +28,7 @@ fn a_frame_with_a_handle_does_not_close(rt: HostRuntime) {
     let mut frame = entered(&rt, rt.alloc(), &table, &mut root);
     let handle = frame.immortal(LAST_INTEGER).expect(&rt, "no place is left");
     let mut frame = stays(&rt, frame);
-    assert_eq!(rt; frame.len(), 1);
+    same(&rt, frame.len(), 1);
     frame.release(handle);
     assert!(rt; frame.is_idle());
     leaves(&rt, &table, &mut root, frame);

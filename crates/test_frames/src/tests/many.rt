@@ -5,6 +5,7 @@ ghost use Rattle.std.specs.Prelude.{◌≡◌};
 ghost use Rattle.test_tools.specs.Calls.{EndsBare, IsBare, OwnsAll};
 
 use crate::tests::client::{copies, gives_register, makes, makes_and_releases};
+use crate::tests::comparing::same;
 use crate::tests::phases::{SMALL, ends, says};
 use brc_count::biased::HasTable;
 use brc_count::{Frame, HandedBack};
@@ -132,8 +133,8 @@ fn stacks_until<'h, H: HasTable<A>, A: Allocator>(
                 }
             }
             Err(fault) => {
-                assert_eq!(rt; fault, Fault::OutOfMemory);
-                assert_eq!(rt; (handles.len(), frame.len()), before);
+                same(rt, fault, Fault::OutOfMemory);
+                same(rt, (handles.len(), frame.len()), before);
                 if end == End::Refused {
                     return;
                 }
@@ -191,5 +192,5 @@ fn refuses_on_a_heap(rt: &(impl Abort + Wait), alloc: Global, memories: Memories
 fn a_refused_growth_hands_back(rt: HostRuntime) {
     let heaps = Heaps::new(rt.alloc(), 1 << 20, 1 << 12).expect(&rt, "memory");
     refuses_on_a_heap(&rt, rt.alloc(), heaps.memories());
-    assert_eq!(rt; heaps.used(), (0, 0));
+    same(&rt, heaps.used(), (0, 0));
 }

@@ -4,6 +4,7 @@
 ghost use Rattle.std.specs.Prelude.{◌≡◌, []};
 ghost use Rattle.brc_count.specs.Frames.{IsUnlocked};
 
+use crate::tests::comparing::same;
 use crate::tests::limits::LEAST;
 use crate::tests::phases::{SMALL, ends, says};
 use brc_close::close_or_end;
@@ -28,9 +29,9 @@ fn bears<'h>(
     ensures unlocked { IsUnlocked result }
     ensures root { root.new.table ≡ root.old.table }
 {
-    assert_eq!(rt; root.next(), number);
+    same(rt, root.next(), number);
     let mutator = root.register(alloc, heap).expect(rt, "a thread is refused");
-    assert_eq!(rt; mutator.thread(), number);
+    same(rt, mutator.thread(), number);
     says(rt, mutator.ledger(), (0, 0));
     mutator
 }
@@ -72,13 +73,17 @@ fn is_full(rt: &impl Abort, alloc: Global, heap: &Heap<Global>, root: &mut Root<
 {
     let before = (root.next(), root.registered(), root.gathered());
     match root.register(alloc, heap) {
-        Err(fault) => assert_eq!(rt; fault, Fault::TooManyThreads),
+        Err(fault) => same(rt, fault, Fault::TooManyThreads),
         Ok(mutator) => {
             let _resting = mutator.rest();
             panic!(rt; "a thread too many")
         }
     }
-    assert_eq!(rt; (root.next(), root.registered(), root.gathered()), before);
+    same(
+        rt,
+        (root.next(), root.registered(), root.gathered()),
+        before,
+    );
 }
 
 #[test]
@@ -92,7 +97,7 @@ fn the_lowest_number_is_given_first(rt: HostRuntime) {
     let _one = rests(&rt, rt.alloc(), &heap, &mut root, 1);
     let _two = rests(&rt, rt.alloc(), &heap, &mut root, 2);
     let _four = rests(&rt, rt.alloc(), &heap, &mut root, 4);
-    assert_eq!(rt; (root.registered(), root.gathered()), (6, 2));
+    same(&rt, (root.registered(), root.gathered()), (6, 2));
     ends(&rt, take_apart(heap, root));
 }
 
@@ -122,7 +127,7 @@ fn no_more_than_65_536_threads_are_registered(rt: HostRuntime) {
         let resting = rests(&rt, rt.alloc(), &heap, &mut root, 1);
         gathers(&rt, &heap, &mut root, resting);
     }
-    assert_eq!(rt; root.registered(), 65_536);
+    same(&rt, root.registered(), 65_536);
     is_full(&rt, rt.alloc(), &heap, &mut root);
     ends(&rt, take_apart(heap, root));
 }
@@ -178,14 +183,15 @@ fn lists_outlive_the_threads_that_made_them(rt: HostRuntime) {
         leaves_a_list(&rt, rt.alloc(), &heap, &mut root, key);
     }
     clears(&rt, rt.alloc(), &heap, &mut root, 200);
-    assert_eq!(rt;
+    same(
+        &rt,
         (root.registered(), root.gathered(), root.next()),
-        (201, 201, 1)
+        (201, 201, 1),
     );
     says(&rt, root.ledger(), (200, 200));
     let Ok(report) = close_or_end(rt.alloc(), heap, root) else {
         panic!(rt; "no report can be had")
     };
-    assert_eq!(rt; (report.ledger.allocs, report.ledger.frees), (200, 200));
-    assert_eq!(rt; (report.live, report.remains.len()), (0, 0));
+    same(&rt, (report.ledger.allocs, report.ledger.frees), (200, 200));
+    same(&rt, (report.live, report.remains.len()), (0, 0));
 }

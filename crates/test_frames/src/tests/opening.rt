@@ -3,6 +3,7 @@
 
 ghost use Rattle.std.specs.Prelude.{◌≡◌};
 
+use crate::tests::comparing::same;
 use crate::tests::phases::SMALL;
 use brc_thread::{Heap, Root, give_back, take_apart};
 use brc_words::Fault;
@@ -20,7 +21,7 @@ fn opens(rt: &impl Abort, memory: &LocalHeap) -> bool {
             true
         }
         Err(fault) => {
-            assert_eq!(rt; fault, Fault::OutOfMemory);
+            same(rt, fault, Fault::OutOfMemory);
             false
         }
     }
@@ -39,15 +40,16 @@ fn is_registered<R: Abort + Wait, A: Allocator + Copy>(
 {
     match root.register(memory, heap) {
         Ok(mutator) => {
-            assert_eq!(rt; mutator.thread(), 1);
+            same(rt, mutator.thread(), 1);
             let _ledger = mutator.settle_and_join(rt, root, heap);
             true
         }
         Err(fault) => {
-            assert_eq!(rt; fault, Fault::OutOfMemory);
-            assert_eq!(rt;
+            same(rt, fault, Fault::OutOfMemory);
+            same(
+                rt,
                 (root.next(), root.registered(), root.gathered()),
-                (1, before, before)
+                (1, before, before),
             );
             false
         }
@@ -75,7 +77,7 @@ fn registers<R: Abort + Wait, A: Allocator + Copy>(
 fn registers_with(rt: &(impl Abort + Wait), alloc: Global, size: usize, before: u32) -> bool {
     let heaps = Heaps::new(alloc, 1 << 18, size).expect(rt, "memory");
     let registers = registers(rt, heaps.memories(), before);
-    assert_eq!(rt; heaps.used(), (0, 0));
+    same(rt, heaps.used(), (0, 0));
     registers
 }
 
@@ -90,7 +92,7 @@ fn a_heap_without_memory_is_not_opened(rt: HostRuntime) {
         } else {
             refused = refused.wrapping_add(1);
         }
-        assert_eq!(rt; memory.used(), 0);
+        same(&rt, memory.used(), 0);
     }
     assert!(rt; refused > 300 && opened > 10);
 }
@@ -102,9 +104,10 @@ fn a_thread_without_memory_is_refused(rt: HostRuntime) {
     let (mut refused, mut registered) = (0u32, 0u32);
     for size in 1..400usize {
         let is_registered = registers_with(&rt, rt.alloc(), size * 16, 0);
-        assert_eq!(rt;
+        same(
+            &rt,
             registers_with(&rt, rt.alloc(), size * 16, 1),
-            is_registered
+            is_registered,
         );
         if is_registered {
             registered = registered.wrapping_add(1);

@@ -7,6 +7,7 @@ ghost use Rattle.brc_count.specs.law.rule.Opening.{first_view};
 ghost use Rattle.brc_count.specs.Closing.{BeginsBy};
 ghost use Rattle.brc_count.specs.Frames.{IsUnlocked};
 
+use crate::tests::comparing::same;
 use brc_count::biased::HasTable;
 use brc_count::table::{HeapTable, Rest, RootSeat};
 use brc_count::{Frame, Ledger};
@@ -64,7 +65,7 @@ pub(super) fn entered<H: HasTable<A> + Drop, A: Allocator + Copy>(
 
 /// The ledger has so many births and frees.
 pub(super) fn says(rt: &impl Abort, ledger: Ledger, sums: (u64, u64)) {
-    assert_eq!(rt; (ledger.allocs, ledger.frees), sums);
+    same(rt, (ledger.allocs, ledger.frees), sums);
 }
 
 /// A thread that has a handle doesn't leave: its frame is answered.
@@ -99,8 +100,8 @@ pub(super) fn leaves_late<H: HasTable<A> + Drop, A: Allocator>(
         Err(_frame) => panic!(rt; "a handle or a block is left"),
         Ok(closed) => {
             let mut closed = closed;
-            assert_eq!(rt; closed.work(turns), 0);
-            assert_eq!(rt; closed.work(1), 1);
+            same(rt, closed.work(turns), 0);
+            same(rt, closed.work(1), 1);
             let ledger = closed.ledger();
             match closed.finish() {
                 Err(_closed) => panic!(rt; "an entry or a block is left"),
@@ -130,5 +131,5 @@ pub(super) fn leaves<H: HasTable<A> + Drop, A: Allocator>(
 
 /// Of what a heap leaves only the immortals have blocks: cells 0 to 265.
 pub(super) fn ends<A: Allocator>(rt: &impl Abort, rest: Rest<A>) {
-    assert_eq!(rt; cells_left(rest), Some(266));
+    same(rt, cells_left(rest), Some(266));
 }

@@ -5,6 +5,7 @@
 ghost use Rattle.brc_count.specs.Frames.{IsUnlocked};
 ghost use Rattle.test_tools.specs.Calls.{EndsBare, GainsOrKeeps, IsBare, OwnsOne, Stays};
 
+use crate::tests::comparing::same;
 use crate::tests::phases::{ends, entered, leaves, opened, says};
 use brc_count::biased::HasTable;
 use brc_count::{Frame, HandedBack, Handle};
@@ -104,13 +105,13 @@ fn passes<H: HasTable<A>, A: Allocator + Copy>(
     let (len, ledger) = (frame.len(), frame.ledger());
     match answer(rt, memories, frame, first, case.call) {
         Ok(handle) => {
-            assert_eq!(rt; frame.cell(&handle), case.cell);
+            same(rt, frame.cell(&handle), case.cell);
             frame.release(handle);
             true
         }
         Err(fault) => {
-            assert_eq!(rt; fault, Fault::OutOfMemory);
-            assert_eq!(rt; frame.len(), len);
+            same(rt, fault, Fault::OutOfMemory);
+            same(rt, frame.len(), len);
             says(rt, frame.ledger(), (ledger.allocs, ledger.frees));
             false
         }
@@ -135,7 +136,7 @@ fn until_it_passes<'h, H: HasTable<&'h LocalHeap>>(
     let before = pieces.used();
     for _ in 0..1_000 {
         if passes(rt, memories, frame, first, case) {
-            assert_eq!(rt; (place, block), (true, case.cell >= 266));
+            same(rt, (place, block), (true, case.cell >= 266));
             return;
         }
         let has_place = pieces.used() != before;
@@ -176,7 +177,7 @@ fn is_refused_in_turn<'h>(
     let (table, mut root) = opened(rt, memories.ample);
     let mut frame = entered(rt, memories.scarce, &table, &mut root);
     is_refused_to(rt, alloc, memories, &mut frame, case);
-    assert_eq!(rt; frame.len(), 0);
+    same(rt, frame.len(), 0);
     says(rt, frame.ledger(), (case.births, 0));
     assert!(rt; frame.work(2) > 0);
     says(rt, frame.ledger(), (case.births, case.births));
@@ -200,6 +201,6 @@ fn a_refused_growth_changes_nothing(rt: HostRuntime) {
         let case = Case { call, cell, births };
         let heaps = Heaps::new(rt.alloc(), 1 << 20, 1 << 16).expect(&rt, "memory");
         is_refused_in_turn(&rt, rt.alloc(), heaps.memories(), &case);
-        assert_eq!(rt; heaps.used(), (0, 0));
+        same(&rt, heaps.used(), (0, 0));
     }
 }

@@ -6,6 +6,7 @@ ghost use Rattle.brc_count.specs.Frames.{IsUnlocked, Owns};
 ghost use Rattle.brc_count.specs.Owned.{GoesOn};
 ghost use Rattle.test_tools.specs.Calls.{IsBare, OwnsAll, OwnsBoth, OwnsOne, Parts};
 
+use crate::tests::comparing::same;
 use crate::tests::lists::hands_over;
 use crate::tests::phases::{ends, entered, leaves, leaves_late, opened_with, says};
 use brc_count::biased::HasTable;
@@ -56,10 +57,10 @@ fn takes_turns<'h, H: HasTable<&'h LocalHeap>>(
 {
     for _ in 0..turns {
         starving.starve(rt);
-        assert_eq!(rt; frame.work(1), 0);
+        same(rt, frame.work(1), 0);
     }
     starving.starve(rt);
-    assert_eq!(rt; frame.work(1), 1);
+    same(rt, frame.work(1), 1);
 }
 
 /// What dies.
@@ -160,7 +161,7 @@ fn a_list_of_lists_dies_a_turn_at_a_time(rt: HostRuntime) {
     let memory = LocalHeap::new(rt.alloc(), 1 << 22).expect(&rt, "memory");
     let shape = Shape::Wide(1_000);
     dies_on_a_heap(&rt, rt.alloc(), &memory, 4_096, shape, 1_001, 2_001);
-    assert_eq!(rt; memory.used(), 0);
+    same(&rt, memory.used(), 0);
 }
 
 /// Each list but the innermost has an entry to be released, and each gives its cell back.
@@ -169,7 +170,7 @@ fn a_long_chain_dies_a_turn_at_a_time(rt: HostRuntime) {
     let memory = LocalHeap::new(rt.alloc(), 24_000_000).expect(&rt, "memory");
     let shape = Shape::Deep(59_999);
     dies_on_a_heap(&rt, rt.alloc(), &memory, 65_536, shape, 60_000, 119_999);
-    assert_eq!(rt; memory.used(), 0);
+    same(&rt, memory.used(), 0);
 }
 
 /// A list of each of the first two frames' passes to the third, which lets both go without memory, and so asks their
@@ -190,8 +191,8 @@ fn asks<'h, R: Abort + Wait, H: HasTable<&'h LocalHeap>>(
 {
     let memory = starving.memory;
     let mut kept = Handles::new(memory);
-    assert_eq!(rt; hands_over(rt, memory, first, other, &mut kept, 1), 266);
-    assert_eq!(rt; hands_over(rt, memory, second, other, &mut kept, 1), 267);
+    same(rt, hands_over(rt, memory, first, other, &mut kept, 1), 266);
+    same(rt, hands_over(rt, memory, second, other, &mut kept, 1), 267);
     starving.starve(rt);
     kept.release_all(other);
 }
@@ -207,7 +208,7 @@ fn is_asked<'h, H: HasTable<&'h LocalHeap>>(
 {
     starving.starve(rt);
     assert!(rt; owner.poll() > 0);
-    assert_eq!(rt; owner.work(5), 4);
+    same(rt, owner.work(5), 4);
     says(rt, owner.ledger(), (1, 1));
 }
 
@@ -234,7 +235,7 @@ fn asks_on_a_heap<'h>(rt: &(impl Abort + Wait), alloc: Global, memory: &'h Local
 fn asked_owners_take_no_memory(rt: HostRuntime) {
     let memory = LocalHeap::new(rt.alloc(), 1 << 18).expect(&rt, "memory");
     asks_on_a_heap(&rt, rt.alloc(), &memory);
-    assert_eq!(rt; memory.used(), 0);
+    same(&rt, memory.used(), 0);
 }
 
 /// So many new lists of the maker's pass to the other thread, one in each cell from 266 on.
@@ -254,7 +255,7 @@ fn passes_lists<R: Abort + Wait, H: HasTable<A>, A: Allocator + Copy>(
 {
     for list in 0..lists {
         let cell = hands_over(rt, alloc, maker, other, kept, 1);
-        assert_eq!(rt; cell, list.wrapping_add(266));
+        same(rt, cell, list.wrapping_add(266));
     }
 }
 
@@ -281,5 +282,5 @@ fn hands_over_on_a_heap<'h>(rt: &(impl Abort + Wait), alloc: Global, memory: &'h
 fn a_hand_over_takes_no_memory(rt: HostRuntime) {
     let memory = LocalHeap::new(rt.alloc(), 1 << 18).expect(&rt, "memory");
     hands_over_on_a_heap(&rt, rt.alloc(), &memory);
-    assert_eq!(rt; memory.used(), 0);
+    same(&rt, memory.used(), 0);
 }

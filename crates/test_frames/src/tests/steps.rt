@@ -18,6 +18,7 @@
 ghost use Rattle.std.specs.Prelude.{◌≡◌};
 ghost use Rattle.test_tools.specs.Calls.{EndsBare, IsBare, OwnsAll};
 
+use crate::tests::comparing::same;
 use crate::tests::phases::{ends, entered, leaves, opened};
 use brc_count::biased::HasTable;
 use brc_count::{Frame, HandedBack};
@@ -162,7 +163,7 @@ fn goes<H: HasTable<A>, A: Allocator>(
     assert!(rt; frame.owns(gone));
     let cell = frame.cell(gone);
     handles.release(frame, number);
-    assert_eq!(rt; frame.work(2), 1);
+    same(rt, frame.work(2), 1);
     cell
 }
 

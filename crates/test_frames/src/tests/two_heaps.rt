@@ -1,6 +1,7 @@
 //! Two heaps at once: objects live and die each at its own. That a handle is of one heap and not of the other is what
 //! contracts say of it; both heaps have a thread 1, a place 0 and a cell 266.
 
+use crate::tests::comparing::same;
 use crate::tests::phases::{SMALL, ends, says};
 use brc_thread::{Heap, take_apart};
 use test_tools::{Thing, made};
@@ -16,8 +17,8 @@ fn objects_live_and_die_at_their_own_heap(rt: HostRuntime) {
     let list = made(rt.alloc(), here.frame(), Thing::List).expect(&rt, "no list is made");
     let number = made(rt.alloc(), there.frame(), Thing::Int(1_000)).expect(&rt, "memory");
     let next = made(rt.alloc(), there.frame(), Thing::Int(1_001)).expect(&rt, "memory");
-    assert_eq!(rt; here.frame().cell(&list), 266);
-    assert_eq!(rt; there.frame().cell(&number), 266);
+    same(&rt, here.frame().cell(&list), 266);
+    same(&rt, there.frame().cell(&number), 266);
     there.frame().release(number);
     here.frame().release(list);
     there.frame().release(next);
