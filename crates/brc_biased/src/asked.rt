@@ -52,7 +52,8 @@ pub(crate) fn hand_over<A: Allocator>(
     let found = table.enqueue(seat, cell, owner);
     if is_closed_word(found) {
         // The owner is leaving, or has left. It handed over what it owned before it closed a word, so the object is
-        // nobody's.
+        // nobody's. Others may count down beside this. Only the step that brings the merged count to 0 takes the
+        // block.
         let Found {
             number: _number,
             block,

@@ -21,8 +21,8 @@ use brc_table::law::world::Dropped;
 use brc_table::{Found, HeapTable, ThreadSeat};
 use std::alloc::Allocator;
 
-/// The thread's count of its own object came to 0: where nobody else has counted or asked the object is dead, and else
-/// the counts are merged.
+/// The thread's count of its own object came to 0: if no count of others is left and nobody asked, the object is dead;
+/// else the counts are merged.
 #[inline(always)]
 pub(crate) fn end_own<A: Allocator>(
     table: &HeapTable<A>,
@@ -46,6 +46,8 @@ pub(crate) fn end_own<A: Allocator>(
     ensures words { length owned.new.items ≡ length owned.old.items }
     ensures others { (c : ℕ) → c ≢ cell → bit_of owned.new.items c ≡ bit_of owned.old.items c }
 {
+    // Others may count up and down, and ask, beside this look. The word isn't merged, so no step of theirs takes the
+    // block.
     let Found {
         number: _number,
         block,

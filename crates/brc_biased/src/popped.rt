@@ -97,6 +97,7 @@ impl<H: HasTable<A>, A: Allocator> Counter<H, A> {
         // A merged object stays merged. One that isn't is merged by nobody else, since it is this thread's.
         let shared = table.load_shared(&mut self.seat, cell);
         if is_merged_word(shared) {
+            // Others may count down beside this. Only the step that brings the merged count to 0 takes the block.
             let Found {
                 number: _number,
                 block,
@@ -133,6 +134,7 @@ impl<H: HasTable<A>, A: Allocator> Counter<H, A> {
         ensures stands { MayCountDown self.old.heap.cells self.new.seat.log hands.Free }
         ensures keeps { FillsNoPlace self.old.heap.cells self.old.seat.log self.new.seat.log }
     {
+        // Others may count down beside this. Only the step that brings the merged count to 0 takes the block.
         let Found {
             number: _number,
             block,

@@ -101,7 +101,8 @@ pub(crate) fn release_shared<A: Allocator>(
     ensures counts { SameCounts table.now.cells seat.old.log seat.new.log }
     ensures keeps { FillsNoPlace table.now.cells seat.old.log seat.new.log }
 {
-    // The word may move after this look. States only rise, so a risen one is still risen, and a count is tried once.
+    // Another thread may move the word after this look. States only rise, so a risen one is still risen, and a count is
+    // tried once.
     let word = table.load_shared(seat, cell);
     if is_risen_word(word) {
         return release_risen(table, seat, drop, cell);

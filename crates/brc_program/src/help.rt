@@ -14,8 +14,8 @@ traces; brc graph --help says what a picture shows. All read standard input, at
 most 16777216 bytes.
 
 Statuses: 0 no object is live at the end, 1 some are, 2 bad command line, 3 bad
-trace or script, or a text that is no report or world, 4 want of memory or a
-section that a fault ended, 5 input or output. Of several the highest counts.
+trace or script, or a text that is no report or world, 4 no memory or a section
+that a fault ended, 5 input or output. Of several the highest counts.
 ";
 
 /// Of traces.
@@ -35,7 +35,7 @@ further line is an event, of the root (0) or of a thread T:
     T born C KIND K        an object is there, held by place K of T's frame
     T up S K               T counts up on its own object; place K has it
     T down D               T counts down on its own object
-    T see C                T looks whether nobody else ever counted
+    T see C                T looks whether no count of others is left
     T free C               a dead block is given back
     T untie C              the owner word is nobody's from now on
     T zero C               the object is merged at local count 0
@@ -84,9 +84,9 @@ A whole life of one object, made and given up by thread 1:
     1 local 266            its local count is set to 1,
     1 shared 266           its shared word to 0, default,
     1 born 266 list 0      and a list is there, held by place 0 of the frame
-    1 down f0              the reference goes: the local count is 0
-    1 see 266              nobody else ever counted: the block can go
-    1 free 266             and goes
+    1 down f0              the reference is given up: the local count is 0
+    1 see 266              no count of others is left: the object is dead
+    1 free 266             its block is given back
 
 (without the words on the right). It leads to this world:
 
@@ -105,7 +105,7 @@ With --explain a second line says why, `brc: why: ..`: what is wrong with a bad
 line, or which condition its event fails first and what stands there.
 
 Statuses: 0 no mortal object is live at the end, 1 some are, 2 bad command line,
-3 bad trace, 4 want of memory, 5 input or output.
+3 bad trace, 4 no memory, 5 input or output.
 ";
 
 /// Of scripts.
@@ -135,17 +135,17 @@ and hold an object each; an instruction names none of them twice.
     len R C            a new integer, the number of entries
 
     share NAME V       V goes into the globals, which all sections see
-    fetch R NAME       R holds what is under the name; waits where nothing is
+    fetch R NAME       R holds what is under the name; waits if nothing is
     unshare R NAME     it comes out; doesn't wait
     send B V           V goes behind the last of mailbox B
-    recv R B           the first comes out; waits where there is none
+    recv R B           the first comes out; waits if there is none
 
     repeat N           the lines from here to `end` N times, 0 to 1000000; no
     end                repeat stands in another
 
     KEY is an integer, or ' and 1 to 64 bytes without a space; NAME is such
     bytes. R is given what comes of an instruction, and what it held before is
-    released. push, put, share and send take V away: it is empty then, but where
+    released. push, put, share and send take V away: it is empty then, unless
     something came back for it.
 
 Two sections that share a list:
@@ -166,7 +166,7 @@ print this, whatever the threads do:
     ledger 2 2 0
 
 Nothing is shown until all sections have ended. Then come the lines of each, in
-the script's order, `NAME: fault N Name line L` where a fault ended it, and the
+the script's order, `NAME: fault N Name line L` if a fault ended it, and the
 report of the heap once its globals are cleared:
 
     ledger MADE FREED LEFT     of all threads
@@ -198,8 +198,8 @@ something, and looks again. Once each section that hasn't ended waits so, none
 can serve another, and all of these end, with fault 6 or 7.
 
 Statuses: 0 no object is left, 1 some are, 2 bad command line, 3 bad script, 4 a
-fault ended a section, or want of memory, 5 input or output. Of several the
-highest counts.
+fault ended a section, or no memory, 5 input or output. Of several the highest
+counts.
 ";
 
 /// Of pictures.
@@ -230,8 +230,8 @@ the lowest one, and a box is drawn round the cells of each cycle:
 
 Of a world each thread T is a box tT. Links go from it to what the places of its
 frame hold, its merge queue, its popped bits, and its hand if that is asked,
-shut, taking or held; and from each container to each entry, with the index. In
-a world no cycles are looked for.
+shut, taking or held; and from each container to each entry, with the index. A
+box is drawn round each cycle along the lowest container that holds each object.
 
 What sections printed, `NAME: ..`, is passed over above a report. Bad is the
 first line that can't stand where it is: `brc: line 7: not a report or world
@@ -239,5 +239,5 @@ line`. If the text ends too early that is the line behind its last one; line 0
 says that the input has more than 16777216 bytes.
 
 Statuses: 0 the picture is written, 2 bad command line, 3 bad report or world, 4
-want of memory, 5 input or output.
+no memory, 5 input or output.
 ";

@@ -508,7 +508,7 @@ cell_after t (Gather u) c x = x
 cell_after t (Offer d) c x = record x { state = states.Queued }
 cell_after t (Reopen k) c x = x
 
--- the shared word is 0: nobody else ever counted, and nobody asked
+-- the shared word is in default at count 0: no count of others is left, and nobody asked
 abbrev pub is_untouched : Cell → Bool
 is_untouched x = is_zero x.count && is_default x.state
 

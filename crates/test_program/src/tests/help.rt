@@ -62,6 +62,7 @@ fn each_command_has_its_help(rt: HostRuntime) -> Result<(), Fail> {
         ("brc --help", "graph"),
         ("brc graph --help", "Usage: brc graph"),
         ("brc graph --help", "subgraph cluster_266 {"),
+        ("brc graph --help", "A\nbox is drawn round each cycle along"),
     ];
     for &(line, said) in SAYS {
         let text = help(&rt, line)?;
