@@ -2,6 +2,7 @@
 
 mod alone;
 mod busy;
+mod by_place;
 mod calls;
 mod clearing;
 mod comparing;

@@ -12,7 +12,7 @@ ghost use Rattle.brc_heap.specs.Words.{IsUnlocked};
 use brc_heap::{
     CloseFault, Fault, Heap, Mutator, Options, Root, close, give_back, take_apart, write_report,
 };
-use brc_loops::{Ended, Life, Nothing, end_all, gather_all, rest_more, run_all};
+use brc_loops::{Duty, Ended, end_each, gather_all, rest_each, run_each};
 use brc_places::{Stack, run_steps};
 use instruction::Instruction;
 use machine::Machine;
@@ -63,16 +63,25 @@ struct Working {
     sent: AtomicBool,
 }
 
-impl<R: Wait> Life<R> for Working {
+/// Which of the two a thread does.
+#[derive(Clone, Copy)]
+enum Job {
+    Sends,
+    AddsUp,
+}
+
+impl<R: Wait> Duty<R, Job> for Working {
     type Answer = Told;
 
-    fn live(&self, rt: &R, mutator: &mut Mutator) -> Told {
-        if mutator.thread() % 2 == 1 {
-            return runs(rt, self.alloc, mutator, &ADDS, &self.sent);
+    fn serve(&self, rt: &R, mutator: &mut Mutator, job: Job) -> Told {
+        match job {
+            Job::AddsUp => runs(rt, self.alloc, mutator, &ADDS, &self.sent),
+            Job::Sends => {
+                let told = runs(rt, self.alloc, mutator, &SENDS, &self.sent);
+                self.sent.store(true, Ordering::SeqCst);
+                told
+            }
         }
-        let told = runs(rt, self.alloc, mutator, &SENDS, &self.sent);
-        self.sent.store(true, Ordering::SeqCst);
-        told
     }
 }
 
@@ -91,20 +100,22 @@ where
     requires root { root.old.table ≡ heap.now.table }
     ensures root { root.new.table ≡ root.old.table }
 {
+    // Who waits for letters comes last: where the machine has no thread for it, the sender lives first.
+    let jobs = Vec::from_slice(alloc, &[Job::Sends, Job::AddsUp]).ok()?;
     let mut two = Vec::new(alloc);
-    let _registered = rest_more(rt, alloc, heap, root, &Nothing, 2, &mut two);
+    let _registered = rest_each(alloc, heap, root, jobs, &mut two);
     let working = Working {
         alloc,
         sent: AtomicBool::new(false),
     };
-    match run_all(rt, heap, &working, two) {
+    match run_each(rt, heap, &working, two) {
         Ok(ended) => {
             let told = told_by(ended.as_slice());
             gather_all(root, heap, ended);
             told
         }
         Err(two) => {
-            end_all(rt, root, heap, two); // memory is missing: none has lived
+            end_each(rt, root, heap, two); // memory is missing: none has lived
             None
         }
     }
