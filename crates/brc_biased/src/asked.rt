@@ -13,8 +13,7 @@ ghost use Rattle.brc_biased.specs.Standing.{MayCountDown, SameCounts, FillsNoPla
 ghost use Rattle.brc_biased.specs.Up.{KnowsPart};
 
 use brc_table::block::Block;
-use brc_table::{Found, HeapTable, ThreadSeat};
-use brc_words::is_closed_word;
+use brc_table::{Enqueued, Found, HeapTable, ThreadSeat};
 use std::alloc::Allocator;
 
 /// The reference is in the hand, and the word turned to queued: the thread whose object it is gets it into its queue
@@ -49,8 +48,7 @@ pub(crate) fn hand_over<A: Allocator>(
     }
     let owner = owner as u32;
     // Once the bit is in an open word, the owner may take it and free the object at once: it isn't touched from here on.
-    let found = table.enqueue(seat, cell, owner);
-    if is_closed_word(found) {
+    if let Enqueued::Closed = table.enqueue(seat, cell, owner) {
         // The owner is leaving, or has left. It handed over what it owned before it closed a word, so the object is
         // nobody's. Others may count down beside this. Only the step that brings the merged count to 0 takes the
         // block.

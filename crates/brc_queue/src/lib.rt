@@ -8,6 +8,5 @@
 
 mod queue;
 
-pub use queue::{
-    Enqueued, close_word, drain_word, enqueue, merge_add, nudge, offer, open_word, wake,
-};
+pub use brc_table::Enqueued;
+pub use queue::{close_word, drain_word, enqueue, merge_add, nudge, offer, open_word, wake};

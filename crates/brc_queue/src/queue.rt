@@ -15,20 +15,10 @@ ghost use Rattle.law.specs.steps.Owing.{AddsLocal, MayStep, MayClose, Enqueues, 
 ghost use Rattle.law.specs.known.Going_On.{handing, popping, closing, reopening};
 ghost use Rattle.brc_table.specs.Knowing.{known_seen, Knows, KeepsNotes};
 ghost use Rattle.brc_table.specs.Seated.{IsSameSeat};
-ghost use Rattle.brc_queue.specs.Queue.{IsEnqueued, hand_left};
+ghost use Rattle.brc_table.specs.Queued.{IsEnqueued, hand_left};
 
-use brc_table::{HeapTable, ThreadSeat};
-use brc_words::is_closed_word;
+use brc_table::{Enqueued, HeapTable, ThreadSeat};
 use std::alloc::Allocator;
-
-/// What became of a reference that was to go into a queue.
-#[derive(Clone, Copy, Debug, PartialEq, Eq)]
-pub enum Enqueued {
-    /// The owner's queue has it.
-    Accepted,
-    /// The owner has closed this word of its queue: the reference is still in the hand.
-    Closed,
-}
 
 /// The reference in the hand goes into the queue of the owner that was found.
 pub fn enqueue<A: Allocator>(
@@ -46,12 +36,7 @@ pub fn enqueue<A: Allocator>(
         (handing (hand_left cell result) (known_seen table.now.cells seat.old.log)) }
     ensures keeps { KeepsNotes table.now.cells seat.old.log seat.new.log }
 {
-    let found = table.enqueue(seat, cell, owner);
-    if is_closed_word(found) {
-        Enqueued::Closed
-    } else {
-        Enqueued::Accepted
-    }
+    table.enqueue(seat, cell, owner)
 }
 
 /// Takes the bits of one of the thread's own queue words, which others may go on to fill.

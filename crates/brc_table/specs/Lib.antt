@@ -7,5 +7,6 @@ pub mod Knowing
 pub mod Rest
 pub mod Moment
 pub mod Numbers
+pub mod Queued
 pub use Rattle.brc_block.specs as block
 pub use Rattle.law.specs as law

@@ -29,6 +29,7 @@ mod table;
 mod waking;
 
 pub use laws::at_any_moment_the_words_show_one_run;
+pub use merging::Enqueued;
 pub use moving::Found;
 pub use rest::Rest;
 pub use root::RootSeat;

@@ -19,6 +19,7 @@ ghost use Rattle.law.specs.rule.Seen.{part_seen, taken_seen};
 ghost use Rattle.brc_table.specs.Moving.{is_there, found_in, out_with};
 ghost use Rattle.law.specs.rule.Noted.{newest_step};
 ghost use Rattle.brc_table.specs.Knowing.{known_seen, entries_of, Knows, KeepsNotes};
+ghost use Rattle.brc_table.specs.Queued.{IsEnqueued, hand_left};
 ghost use Rattle.brc_table.specs.Seated.{IsSameSeat, Continues};
 
 use crate::layout::bit;
@@ -26,10 +27,20 @@ use crate::machine::{add_up, or, store};
 use crate::moving::{Found, end_by_add};
 use crate::seats::ThreadSeat;
 use crate::table::HeapTable;
+use brc_words::is_closed_word;
 use law::known::{Field, Word};
 use law::world::Step;
 use std::alloc::Allocator;
 use std::marker::Brand;
+
+/// What became of a reference that was to go into a queue.
+#[derive(Clone, Copy, Debug, PartialEq, Eq)]
+pub enum Enqueued {
+    /// The owner's queue has it.
+    Accepted,
+    /// The owner has closed this word of its queue: the reference is still in the hand.
+    Closed,
+}
 
 impl<A: Allocator> HeapTable<A> {
     #[tactic(auto, using(law::proofs::steps::Untying_Steps::unties_over))]
@@ -141,9 +152,28 @@ impl<A: Allocator> HeapTable<A> {
         end_by_add(self, &mut seat.place, cell, added, Step::MergeAdd(cell))
     }
 
+    /// Enqueue: the reference in the hand goes into the queue of the owner that was found, unless the word is closed.
+    pub fn enqueue(&self, seat: &mut ThreadSeat<A>, cell: u32, owner: u32) -> Enqueued
+        requires table { seat.old.table ≡ self.now.table }
+        requires inside { cell < self.now.cells }
+        requires enqueues { Enqueues self.now.cells seat.old.log cell owner }
+        ensures told { IsEnqueued cell result seat.old.log seat.new.log }
+        ensures seat { IsSameSeat seat.old seat.new }
+        ensures knows { Knows self.now.cells seat.new.log
+            (handing (hand_left cell result) (known_seen self.now.cells seat.old.log)) }
+        ensures keeps { KeepsNotes self.now.cells seat.old.log seat.new.log }
+    {
+        let found = self.enqueue_word(seat, cell, owner);
+        if is_closed_word(found) {
+            Enqueued::Closed
+        } else {
+            Enqueued::Accepted
+        }
+    }
+
     #[tactic(auto, using(crate::proofs::Placing::queue_inside))]
-    /// Enqueue: the reference in the hand goes into the queue of the owner that was found.
-    pub fn enqueue(&self, seat: &mut ThreadSeat<A>, cell: u32, owner: u32) -> u64
+    /// The same, and the answer is the number that the word had.
+    pub fn enqueue_word(&self, seat: &mut ThreadSeat<A>, cell: u32, owner: u32) -> u64
         requires table { seat.old.table ≡ self.now.table }
         requires inside { cell < self.now.cells }
         requires enqueues { Enqueues self.now.cells seat.old.log cell owner }

@@ -98,7 +98,7 @@ pub(crate) fn asks_and_enqueues(rt: &impl Abort, table: &Table, seat: &mut Seat,
     ensures went { Went (enqueued_log shared seat.old.log) seat.old seat.new }
 {
     asks(rt, table, seat, shared);
-    is(rt, table.enqueue(seat, 266, 1), 0);
+    is(rt, table.enqueue_word(seat, 266, 1), 0);
 }
 
 /// The list is popped, with this shared word: the thread makes it nobody's, and adds what the owner has counted.

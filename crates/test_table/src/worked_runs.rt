@@ -105,7 +105,7 @@ impl OfTwo for AsksBeforeAMerge {
         merges_at_zero(rt, table, one, 4_398_046_511_110);
 
         // The late entry is found merged, and is the last reference.
-        is(rt, table.enqueue(two, 266, 1), 0);
+        is(rt, table.enqueue_word(two, 266, 1), 0);
         is(rt, table.drain(one, 8), 1_024);
         is(rt, table.load_shared(one, 266), 4_398_046_511_111);
         let Found { number, block } = table.last_popped(one, 266, 4_398_046_511_111);

@@ -1,11 +1,13 @@
-use Rattle.std.proofs.Common.{rules, refl}
+use Rattle.std.proofs.Common.{◌≡◌, ◌∙◌, sym, Bool, true, false, if◌then◌else◌, rules, refl}
+use Rattle.brc_table.specs.declared.merging.Enqueued.TheVariants.{Accepted, Closed}
 use Rattle.brc_biased.specs.Released.{AskedQueued, AskedShut}
 use Rattle.brc_biased.proofs.asked.hand_over.Goals as goal
 
-pub returns-then-is_closed_word-clause-told : goal.returns-then-is_closed_word-clause-told
-returns-then-is_closed_word-clause-told g c = AskedShut c.load_owner-owner.result c.enqueue-found.result (search rules)
-    (search rules) (search rules)
+-- the answer is by the number that the word had
+shut_if : (shut : Bool) → Closed ≡ (if shut then Closed else Accepted) → shut ≡ true
+shut_if true same = refl
+shut_if false same = absurd (let f : ⊥ = cc in f)
 
-pub returns-clause-told : goal.returns-clause-told
-returns-clause-told g c = AskedQueued c.load_owner-owner.result c.enqueue-found.result c.nudge-told.result
-    (search rules) (search rules) refl (search rules)
+open_if : (shut : Bool) → Accepted ≡ (if shut then Closed else Accepted) → shut ≡ false
+open_if true same = absurd (let f : ⊥ = cc in f)
+open_if false same = refl

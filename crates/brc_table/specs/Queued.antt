@@ -8,8 +8,8 @@ use Rattle.law.specs.rule.declared.told.Moved.TheVariants.{Nothing}
 use Rattle.law.specs.rule.declared.told.LogItem.{LogItem}
 use Rattle.law.specs.rule.declared.told.LogItem.TheVariants.{Stepped}
 use Rattle.law.specs.known.Items.{is_shut_word}
-use Rattle.brc_queue.specs.declared.queue.Enqueued.{Enqueued}
-use Rattle.brc_queue.specs.declared.queue.Enqueued.TheVariants.{Accepted, Closed}
+use Rattle.brc_table.specs.declared.merging.Enqueued.{Enqueued}
+use Rattle.brc_table.specs.declared.merging.Enqueued.TheVariants.{Accepted, Closed}
 
 -- a queue word with bit 63 is closed, and takes nothing
 abbrev pub answer_of : ℕ → Enqueued
