@@ -17,6 +17,7 @@ ghost use Rattle.brc_table.specs.Seated.{IsSameSeat};
 use crate::machine::{add, exchange, load, or, store};
 use crate::seats::ThreadSeat;
 use crate::table::HeapTable;
+use brc_words::{ONE_COUNT, QUEUED_BITS};
 use law::known::{Field, Word};
 use law::world::{Dropped, Source, Step};
 use std::alloc::Allocator;
@@ -121,7 +122,7 @@ impl<A: Allocator> HeapTable<A> {
     {
         let word = Word::Of(Field::Shared, cell);
         let step = Step::SharedUp { source, place };
-        add(self, &mut seat.place, word, 4, step)
+        add(self, &mut seat.place, word, ONE_COUNT, step)
     }
 
     #[tactic(auto, using(law::proofs::steps::Shared_Steps::asks))]
@@ -138,7 +139,7 @@ impl<A: Allocator> HeapTable<A> {
         ensures risen { result % 4 ≢ 0 → risen_seen self.now.cells seat.new.log drop cell ≡ true }
     {
         let word = Word::Of(Field::Shared, cell);
-        or(self, &mut seat.place, word, 2, Step::Ask(drop))
+        or(self, &mut seat.place, word, QUEUED_BITS, Step::Ask(drop))
     }
 
     #[tactic(auto, using(law::proofs::steps::Shared_Steps::counts_down_shared))]
@@ -170,7 +171,7 @@ impl<A: Allocator> HeapTable<A> {
     {
         let word = Word::Of(Field::Shared, cell);
         let step = Step::SharedDown(drop);
-        let found = exchange(self, &mut seat.place, word, old, old - 4, step);
+        let found = exchange(self, &mut seat.place, word, old, old - ONE_COUNT, step);
         if found == old { Ok(()) } else { Err(found) }
     }
 }

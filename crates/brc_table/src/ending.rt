@@ -20,6 +20,7 @@ ghost use Rattle.brc_table.specs.Seated.{Continues};
 use crate::moving::{Found, end_by_load, end_by_or, end_by_sub};
 use crate::seats::ThreadSeat;
 use crate::table::HeapTable;
+use brc_words::{MERGED_BITS, ONE_COUNT};
 use law::world::{Dropped, LastDropped, Step};
 use std::alloc::Allocator;
 
@@ -68,7 +69,7 @@ impl<A: Allocator> HeapTable<A> {
         ensures keeps { KeepsNotes self.now.cells seat.old.log seat.new.log }
     {
         let step = Step::MergeZero(cell);
-        end_by_or(self, &mut seat.place, cell, 3, step)
+        end_by_or(self, &mut seat.place, cell, MERGED_BITS, step)
     }
 
     #[tactic(auto, using(law::proofs::steps::Ending_Steps::counts_last))]
@@ -92,7 +93,7 @@ impl<A: Allocator> HeapTable<A> {
         ensures keeps { KeepsNotes self.now.cells seat.old.log seat.new.log }
     {
         let step = Step::LastDown(LastDropped::Dropped(drop));
-        end_by_sub(self, &mut seat.place, cell, 4, step)
+        end_by_sub(self, &mut seat.place, cell, ONE_COUNT, step)
     }
 
     #[tactic(auto, using(law::proofs::steps::Last_Steps::ends_popped))]
@@ -117,7 +118,7 @@ impl<A: Allocator> HeapTable<A> {
     {
         let _shared = shared;
         let step = Step::LastDown(LastDropped::Popped(cell));
-        end_by_sub(self, &mut seat.place, cell, 4, step)
+        end_by_sub(self, &mut seat.place, cell, ONE_COUNT, step)
     }
 
     #[tactic(auto, using(law::proofs::steps::Last_Steps::ends_added))]
@@ -141,7 +142,7 @@ impl<A: Allocator> HeapTable<A> {
         ensures keeps { KeepsNotes self.now.cells seat.old.log seat.new.log }
     {
         let step = Step::LastDown(LastDropped::Popped(cell));
-        end_by_sub(self, &mut seat.place, cell, 4, step)
+        end_by_sub(self, &mut seat.place, cell, ONE_COUNT, step)
     }
 
     #[tactic(auto, using(law::proofs::steps::Last_Steps::ends_left))]
@@ -165,7 +166,7 @@ impl<A: Allocator> HeapTable<A> {
         ensures keeps { KeepsNotes self.now.cells seat.old.log seat.new.log }
     {
         let step = Step::LastDown(LastDropped::Popped(cell));
-        end_by_sub(self, &mut seat.place, cell, 4, step)
+        end_by_sub(self, &mut seat.place, cell, ONE_COUNT, step)
     }
 
     #[tactic(auto, using(law::proofs::steps::Last_Steps::ends_shut))]
@@ -190,7 +191,7 @@ impl<A: Allocator> HeapTable<A> {
         ensures keeps { KeepsNotes self.now.cells seat.old.log seat.new.log }
     {
         let step = Step::LastDown(LastDropped::Hand);
-        end_by_sub(self, &mut seat.place, cell, 4, step)
+        end_by_sub(self, &mut seat.place, cell, ONE_COUNT, step)
     }
 
     #[tactic(auto, using(law::proofs::steps::Last_Steps::ends_nobodys))]
@@ -215,6 +216,6 @@ impl<A: Allocator> HeapTable<A> {
         ensures keeps { KeepsNotes self.now.cells seat.old.log seat.new.log }
     {
         let step = Step::LastDown(LastDropped::Hand);
-        end_by_sub(self, &mut seat.place, cell, 4, step)
+        end_by_sub(self, &mut seat.place, cell, ONE_COUNT, step)
     }
 }

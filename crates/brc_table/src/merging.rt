@@ -27,7 +27,7 @@ use crate::machine::{add_up, or, store};
 use crate::moving::{Found, end_by_add};
 use crate::seats::ThreadSeat;
 use crate::table::HeapTable;
-use brc_words::is_closed_word;
+use brc_words::{ONE_COUNT, QUEUED_BITS, is_closed_word};
 use law::known::{Field, Word};
 use law::world::Step;
 use std::alloc::Allocator;
@@ -72,7 +72,7 @@ impl<A: Allocator> HeapTable<A> {
         ensures keeps { KeepsNotes self.now.cells seat.old.log seat.new.log }
     {
         let word = Word::Of(Field::Shared, cell);
-        or(self, &mut seat.place, word, 2, Step::Offer(cell))
+        or(self, &mut seat.place, word, QUEUED_BITS, Step::Offer(cell))
     }
 
     #[tactic(auto, using(law::proofs::steps::Untying_Steps::unties_offered))]
@@ -124,7 +124,7 @@ impl<A: Allocator> HeapTable<A> {
         ensures newest { newest_step seat.new.log ≡ Some (steps.MergeAdd cell) }
     {
         let word = Word::Of(Field::Shared, cell);
-        let more = u64::from(local) * 4 + 1;
+        let more = u64::from(local) * ONE_COUNT + 1;
         add_up::<A, Brand>(self, &mut seat.place, word, more, Step::MergeAdd(cell))
     }
 
@@ -148,7 +148,7 @@ impl<A: Allocator> HeapTable<A> {
             (known_seen self.now.cells seat.old.log))) }
         ensures keeps { KeepsNotes self.now.cells seat.old.log seat.new.log }
     {
-        let added = u64::from(local) * 4 + 1;
+        let added = u64::from(local) * ONE_COUNT + 1;
         end_by_add(self, &mut seat.place, cell, added, Step::MergeAdd(cell))
     }
 

@@ -29,7 +29,7 @@ use crate::machine::Place;
 use crate::table::HeapTable;
 use atomic_table::Play;
 use brc_block::Block;
-use brc_words::NO_COUNT;
+use brc_words::{NO_COUNT, ONE_COUNT};
 use law::known::{Field, Word};
 use law::rule::View;
 use law::world::Step;
@@ -200,8 +200,8 @@ fn takes(step: Step, number: u64) -> bool
 {
     match step {
         Step::SeeZero(_) => number == NO_COUNT,
-        Step::MergeZero(_) | Step::MergeAdd(_) => number / 4 == 1 << 40,
-        Step::LastDown(_) => number % 2 == 1 && number / 4 == (1 << 40) + 1,
+        Step::MergeZero(_) | Step::MergeAdd(_) => number / ONE_COUNT == NO_COUNT / ONE_COUNT,
+        Step::LastDown(_) => number % 2 == 1 && number / ONE_COUNT == NO_COUNT / ONE_COUNT + 1,
         _ => false,
     }
 }

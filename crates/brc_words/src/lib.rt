@@ -21,7 +21,8 @@ pub use limits::{
     MOST_THREADS,
 };
 pub use look::{
-    CLOSED_BIT, NO_COUNT, ONE_COUNT, has_count, is_closed_word, is_merged_word, is_risen_word,
+    CLOSED_BIT, MERGED_BITS, NO_COUNT, ONE_COUNT, QUEUED_BITS, has_count, is_closed_word,
+    is_merged_word, is_risen_word,
 };
 pub use owner::{Owner, OwnerWord};
 pub use state::{State, count_of, shared_word, state_of};

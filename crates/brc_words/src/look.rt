@@ -11,6 +11,10 @@ use crate::state::State;
 pub const NO_COUNT: u64 = 1 << 42;
 /// What one reference is worth in a shared word: the two bits below it are the state.
 pub const ONE_COUNT: u64 = 4;
+/// The state bits of a shared word that is queued: an ask sets them, and an offer.
+pub const QUEUED_BITS: u64 = 2;
+/// The state bits of a shared word that is merged.
+pub const MERGED_BITS: u64 = 3;
 /// The bit that closes a queue word. Each of the 32 lowest bits is the entry of a cell.
 pub const CLOSED_BIT: u64 = 1 << 63;
 
@@ -31,7 +35,7 @@ pub fn is_merged_word(word: u64) -> bool
     ensures unmerged { IsFalse result → word % 4 ≢ 3 }
     ensures spelled { (count : ℤ) (state : State) → Spells word count state → (IsTrue result ↔ (state ≡ Merged)) }
 {
-    word % ONE_COUNT == 3
+    word % ONE_COUNT == MERGED_BITS
 }
 
 /// Whether a word in default has a count above 0.
