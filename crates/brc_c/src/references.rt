@@ -36,7 +36,7 @@ pub extern "C" fn brc_same(thread: &mut CThread, one: u64, other: u64, same: &mu
         (Writes truth_number same.old same.new) }
 {
     match thread.as_mut().client() {
-        Some(client) => write_truth(client.is_same(one, other), same),
+        Some(client) => write_truth(client.same_object(one, other), same),
         None => gone(),
     }
 }

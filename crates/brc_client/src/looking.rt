@@ -108,7 +108,7 @@ impl Client {
     }
 
     /// Whether the two are references to one object. Foreign, Stale for the first, then for the other. It takes no lock.
-    pub fn is_same(&mut self, one: u64, other: u64) -> Result<bool, Status>
+    pub fn same_object(&mut self, one: u64, other: u64) -> Result<bool, Status>
         ensures same_object { IfOk result (λ is_same. OfNamed self.old one (λ first. OfNamed self.old other (λ second.
             (IsTrue is_same → IsOne self.old first second) × (IsFalse is_same → IsOne self.old first second → ⊥)))) }
         ensures refused { IfErr result (λ status. NamesNone self.old one status

@@ -7,13 +7,13 @@ use Rattle.brc_c.proofs.references.brc_same.Goals as goal
 
 pub returns-in-Some-clause-does : goal.returns-in-Some-clause-does
 returns-in-Some-clause-does c = record {
-  answer = c.is_same.result;
-  made = IsMade c.in-Some.client.now c.is_same.new.self
+  answer = c.same_object.result;
+  made = IsMade c.in-Some.client.now c.same_object.new.self
       (works_at _ _ _ c.in-Some.ensures.value c.as_mut.ensures.value) refl
       (record {
-        same_object = c.is_same.ensures.same_object;
-        refused = c.is_same.ensures.refused;
-        same = c.is_same.ensures.same;
+        same_object = c.same_object.ensures.same_object;
+        refused = c.same_object.ensures.refused;
+        same = c.same_object.ensures.same;
       });
   told = c.write_truth.ensures.code;
   written = c.write_truth.ensures.written;
