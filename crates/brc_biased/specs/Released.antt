@@ -42,7 +42,7 @@ module _ {A : Type 0} where
     pub entries : AreCells n (entries_of block)
     pub out : new.slots ≡ out_with c block old.slots
 
-  -- an own object whose count came to 0: nobody else has counted or asked, or the counts are merged
+  -- an own object whose count came to 0: no count of others is left and nobody asked, or the counts are merged
   pub data EndedOwn (c : ℕ) (block : Option (ℕ × Payload A)) (before log : List LogItem) : Type 0 where
     SeenZero : is_there block ≡ true → EndsByStep (SeeZero c) c block before log → EndedOwn c block before log
     MergedAtZero : (seen : ℕ)

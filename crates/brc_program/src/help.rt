@@ -31,7 +31,7 @@ further line is an event, of the root (0) or of a thread T:
     0 gather T             the root sees that T has left and holds nothing
     T claim C              a free cell, for an object to be made in
     T local C              its local count is 1
-    T shared C             its shared word is 0, default
+    T shared C             its shared count is 0, default
     T born C KIND K        an object is there, held by place K of T's frame
     T up S K               T counts up on its own object; place K has it
     T down D               T counts down on its own object

@@ -3,7 +3,7 @@
 //! was used before, it opens them first.
 //!
 //! Thin, above `brc_table`: each call is one event of its seat's log, and answers what the caller has to know of the
-//! number that was found. What goes into a queue, what is popped and what a closed word does is `specs/Queue.antt`.
+//! number that was found. What a closed word does is `specs/Queued.antt` of `brc_table`.
 #![tactic(auto)]
 
 mod queue;

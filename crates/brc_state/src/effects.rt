@@ -10,7 +10,7 @@ use crate::cell_conditions::{is_default, is_merged, is_zero};
 use brc_words::{Owner, State};
 use law_world::{Cell, Dropped, Hand, LastDropped, Phase, Row, Step, is_immortal};
 
-/// Whether the whole shared word is 0.
+/// Whether the shared word is in default at count 0.
 fn is_untouched(found: Cell) -> bool
     ensures { result ≡ is_untouched found }
 {

@@ -25,7 +25,7 @@ use law::world::{Dropped, LastDropped, Step};
 use std::alloc::Allocator;
 
 impl<A: Allocator> HeapTable<A> {
-    /// SeeZero: an own object whose count is 0 is dead where nobody else counted or asked.
+    /// SeeZero: an own object whose count is 0 is dead if no count of others is left and nobody asked.
     pub fn see_zero(&self, seat: &mut ThreadSeat<A>, cell: u32) -> Found<A>
         requires table { seat.old.table ≡ self.now.table }
         requires inside { cell < self.now.cells }

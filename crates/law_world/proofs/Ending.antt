@@ -77,7 +77,7 @@ zero_parts h t c sound ok =
       ];
     }
 
--- nothing was ever counted on the shared word: the block goes to the worklist
+-- the shared word is in default at count 0: the block goes to the worklist
 taken_fits : (h : Heap) (t c : ℕ) → IsSound h → Zero h t c → is_untouched (cell_at h c) ≡ true
     → Plain h t c (cell_at h c) (record (row_at h t) { hand = hands.Free }) (frame_at h t)
     (set (worklist_at h t) c true) h.entries
