@@ -25,15 +25,11 @@ use std::sync::Wait;
 
 /// Others may wait for what the instruction has changed.
 #[inline(always)]
-pub(crate) fn stirs<R: Wait, A: Allocator>(
-    rt: &R,
-    done: Done,
-    seated: &SectionContext<'_, A>,
-) -> Done
+pub(crate) fn stirs<R: Wait, A: Allocator>(rt: &R, done: Done, own: &SectionContext<'_, A>) -> Done
     ensures { result ≡ done }
 {
     if done.is_ok() {
-        seated.board.change(rt);
+        own.board.change(rt);
     }
     done
 }
@@ -158,7 +154,7 @@ pub(crate) fn push_line<R: Wait, H: HasTable<A>, A: Allocator + Copy>(
     registers: &mut Registers<A>,
     list: Register,
     value: Register,
-    seated: &SectionContext<'_, A>,
+    own: &SectionContext<'_, A>,
 ) -> Done
     requires stands { OwnsRegisters frame.old registers.old }
     ensures led { Led frame.old frame.new registers.old registers.new (instructions.Push list value) result }
@@ -169,7 +165,7 @@ pub(crate) fn push_line<R: Wait, H: HasTable<A>, A: Allocator + Copy>(
         taking: Putting::Push,
     };
     let done = take.act(rt, alloc, frame, registers);
-    stirs(rt, done, seated)
+    stirs(rt, done, own)
 }
 
 /// `pop`: the list's last entry comes out.
@@ -181,7 +177,7 @@ pub(crate) fn pop_line<R: Wait, H: HasTable<A>, A: Allocator + Copy>(
     registers: &mut Registers<A>,
     to: Register,
     list: Register,
-    seated: &SectionContext<'_, A>,
+    own: &SectionContext<'_, A>,
 ) -> Done
     requires stands { OwnsRegisters frame.old registers.old }
     ensures led { Led frame.old frame.new registers.old registers.new (instructions.Pop to list) result }
@@ -192,7 +188,7 @@ pub(crate) fn pop_line<R: Wait, H: HasTable<A>, A: Allocator + Copy>(
         giving: TakingOut::Pop,
     };
     let done = give.act(rt, alloc, frame, registers);
-    stirs(rt, done, seated)
+    stirs(rt, done, own)
 }
 
 /// `get`: one reference more to the list's entry at this index.
@@ -227,7 +223,7 @@ pub(crate) fn set_line<R: Wait, H: HasTable<A>, A: Allocator + Copy>(
     list: Register,
     index: u32,
     value: Register,
-    seated: &SectionContext<'_, A>,
+    own: &SectionContext<'_, A>,
 ) -> Done
     requires stands { OwnsRegisters frame.old registers.old }
     ensures led { Led frame.old frame.new registers.old registers.new (instructions.Set list index value) result }
@@ -238,7 +234,7 @@ pub(crate) fn set_line<R: Wait, H: HasTable<A>, A: Allocator + Copy>(
         taking: Putting::Set(index),
     };
     let done = take.act(rt, alloc, frame, registers);
-    stirs(rt, done, seated)
+    stirs(rt, done, own)
 }
 
 /// `len`: the number of entries, as a new integer.
@@ -267,7 +263,7 @@ pub(crate) fn put_line<R: Wait, H: HasTable<A>, A: Allocator + Copy>(
     dict: Register,
     key: &Key<A>,
     value: Register,
-    seated: &SectionContext<'_, A>,
+    own: &SectionContext<'_, A>,
 ) -> Done
     requires stands { OwnsRegisters frame.old registers.old }
     ensures led { Led frame.old frame.new registers.old registers.new (instructions.Put dict key.now value) result }
@@ -278,7 +274,7 @@ pub(crate) fn put_line<R: Wait, H: HasTable<A>, A: Allocator + Copy>(
         taking: Putting::Put(key),
     };
     let done = take.act(rt, alloc, frame, registers);
-    stirs(rt, done, seated)
+    stirs(rt, done, own)
 }
 
 /// `find`: one reference more to the value beside the key.
@@ -313,7 +309,7 @@ pub(crate) fn delete_line<R: Wait, H: HasTable<A>, A: Allocator + Copy>(
     to: Register,
     dict: Register,
     key: &Key<A>,
-    seated: &SectionContext<'_, A>,
+    own: &SectionContext<'_, A>,
 ) -> Done
     requires stands { OwnsRegisters frame.old registers.old }
     ensures led { Led frame.old frame.new registers.old registers.new (instructions.Delete to dict key.now) result }
@@ -324,7 +320,7 @@ pub(crate) fn delete_line<R: Wait, H: HasTable<A>, A: Allocator + Copy>(
         giving: TakingOut::Delete(key),
     };
     let done = give.act(rt, alloc, frame, registers);
-    stirs(rt, done, seated)
+    stirs(rt, done, own)
 }
 
 /// `send`: the value becomes the mailbox's last letter.
@@ -336,7 +332,7 @@ pub(crate) fn send_line<R: Wait, H: HasTable<A>, A: Allocator + Copy>(
     registers: &mut Registers<A>,
     mailbox: Register,
     value: Register,
-    seated: &SectionContext<'_, A>,
+    own: &SectionContext<'_, A>,
 ) -> Done
     requires stands { OwnsRegisters frame.old registers.old }
     ensures led { Led frame.old frame.new registers.old registers.new (instructions.Send mailbox value) result }
@@ -347,7 +343,7 @@ pub(crate) fn send_line<R: Wait, H: HasTable<A>, A: Allocator + Copy>(
         taking: Putting::Send,
     };
     let done = take.act(rt, alloc, frame, registers);
-    stirs(rt, done, seated)
+    stirs(rt, done, own)
 }
 
 /// `recv`: the mailbox's first letter comes out. An empty mailbox is waited for.
@@ -359,7 +355,7 @@ pub(crate) fn receive_line<R: Wait, H: HasTable<A>, A: Allocator + Copy>(
     registers: &mut Registers<A>,
     to: Register,
     mailbox: Register,
-    seated: &SectionContext<'_, A>,
+    own: &SectionContext<'_, A>,
 ) -> Done
     requires stands { OwnsRegisters frame.old registers.old }
     ensures led { Led frame.old frame.new registers.old registers.new (instructions.Receive to mailbox) result }
@@ -368,7 +364,7 @@ pub(crate) fn receive_line<R: Wait, H: HasTable<A>, A: Allocator + Copy>(
         to,
         awaited: AwaitedHere::Letter(mailbox),
     };
-    Await { look, seated }.act(rt, alloc, frame, registers)
+    Await { look, own }.act(rt, alloc, frame, registers)
 }
 
 /// `add`: the sum of two integers, as a new one.

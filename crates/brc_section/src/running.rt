@@ -39,7 +39,7 @@ pub(crate) struct Halt {
 /// What each line of one section is run with: who asks for memory, whose section it is, and the gate before each line.
 pub(crate) struct LineContext<'c, G, A: Allocator + Copy> {
     pub(crate) alloc: A,
-    pub(crate) seated: &'c SectionContext<'c, A>,
+    pub(crate) own: &'c SectionContext<'c, A>,
     pub(crate) gate: &'c G,
 }
 
@@ -48,7 +48,7 @@ impl<'c, G, A: Allocator + Copy> Drop for LineContext<'c, G, A> {
     fn drop(self) {
         let Self {
             alloc: _alloc,
-            seated: _seated,
+            own: _own,
             gate: _gate,
         } = self;
     }
@@ -74,7 +74,7 @@ fn print_line<R: Wait, H: HasTable<A>, A: Allocator + Copy>(
     registers: &mut Registers<A>,
     lines: &mut Vec<u8, A>,
     from: Register,
-    seated: &SectionContext<'_, A>,
+    own: &SectionContext<'_, A>,
 ) -> Done
     requires stands { OwnsRegisters frame.old registers.old }
     ensures stands { OwnsRegisters frame.new registers.new }
@@ -91,7 +91,7 @@ fn print_line<R: Wait, H: HasTable<A>, A: Allocator + Copy>(
         Ok(()) => {}
         Err(fault) => return Err(fault),
     }
-    let _left = frame.work(seated.budget);
+    let _left = frame.work(own.budget);
     Ok(())
 }
 
@@ -105,7 +105,7 @@ fn do_line<R: Wait, H: HasTable<A>, A: Allocator + Copy>(
     lines: &mut Vec<u8, A>,
     line: &Line<A>,
     key: Option<&Key<A>>,
-    seated: &SectionContext<'_, A>,
+    own: &SectionContext<'_, A>,
 ) -> Done
     requires stands { OwnsRegisters frame.old registers.old }
     ensures stands { OwnsRegisters frame.new registers.new }
@@ -119,12 +119,12 @@ fn do_line<R: Wait, H: HasTable<A>, A: Allocator + Copy>(
 {
     let instruction = line.instruction();
     if let Instruction::Print { from } = instruction {
-        return print_line(rt, alloc, frame, registers, lines, *from, seated);
+        return print_line(rt, alloc, frame, registers, lines, *from, own);
     }
     let silent = Silent {
         instruction,
         key,
-        seated,
+        own,
     };
     let done = silent.act(rt, alloc, frame, registers);
     // After a refused instruction too: what its calls found is told by the log that the poll finds.
@@ -133,7 +133,7 @@ fn do_line<R: Wait, H: HasTable<A>, A: Allocator + Copy>(
         Ok(()) => {}
         Err(fault) => return Err(fault),
     }
-    let _left = frame.work(seated.budget);
+    let _left = frame.work(own.budget);
     Ok(())
 }
 
@@ -153,36 +153,27 @@ fn run_line<R: Wait, G: Gate, H: HasTable<A>, A: Allocator + Copy>(
     ensures heap { frame.new.heap ≡ frame.old.heap }
     ensures line { IfErr result (λ halt. line.now.number ≡ halt.line) }
     ensures busy { IfErr result (λ halt. halt.fault ≡ faults.Busy
-        → G.may_refuse context.now.gate.now context.now.seated.now.number halt.line) }
+        → G.may_refuse context.now.gate.now context.now.own.now.number halt.line) }
     ensures runs { RunsOn frame.old registers.old lines.old.items frame.new registers.new lines.new.items
         (line.now ∷ []) result }
     ensures wants { AreOwn (line.now ∷ []) → HaltsForCause frame.old frame.new result }
 {
     let number = line.number();
     let gate = context.gate;
-    let seated = context.seated;
-    if !gate.at(rt, seated.number, number) {
+    let own = context.own;
+    if !gate.at(rt, own.number, number) {
         return Err(Halt {
             fault: Fault::Busy,
             line: number,
         });
     }
-    match do_line(
-        rt,
-        context.alloc,
-        frame,
-        registers,
-        lines,
-        line,
-        key,
-        seated,
-    ) {
+    match do_line(rt, context.alloc, frame, registers, lines, line, key, own) {
         Ok(()) => {
-            tell_made(gate, seated.number, line, frame, registers);
+            tell_made(gate, own.number, line, frame, registers);
             Ok(())
         }
         Err(fault) => {
-            tell_refused(gate, seated.number, line, frame, registers);
+            tell_refused(gate, own.number, line, frame, registers);
             Err(Halt {
                 fault,
                 line: number,
@@ -206,7 +197,7 @@ fn run_lines<R: Wait, G: Gate, H: HasTable<A>, A: Allocator + Copy>(
     ensures heap { frame.new.heap ≡ frame.old.heap }
     ensures line { IfErr result (λ halt. IsLineIn halt.line body.now) }
     ensures busy { IfErr result (λ halt. halt.fault ≡ faults.Busy
-        → G.may_refuse context.now.gate.now context.now.seated.now.number halt.line) }
+        → G.may_refuse context.now.gate.now context.now.own.now.number halt.line) }
     ensures runs { RunsOn frame.old registers.old lines.old.items frame.new registers.new lines.new.items body.now result }
     ensures wants { AreOwn body.now → HaltsForCause frame.old frame.new result }
 {
@@ -236,7 +227,7 @@ fn run_times<R: Wait, G: Gate, H: HasTable<A>, A: Allocator + Copy>(
     ensures heap { frame.new.heap ≡ frame.old.heap }
     ensures line { IfErr result (λ halt. IsLineIn halt.line body.now) }
     ensures busy { IfErr result (λ halt. halt.fault ≡ faults.Busy
-        → G.may_refuse context.now.gate.now context.now.seated.now.number halt.line) }
+        → G.may_refuse context.now.gate.now context.now.own.now.number halt.line) }
     ensures runs { RunsOn frame.old registers.old lines.old.items frame.new registers.new lines.new.items
         (repeat times body.now) result }
     ensures wants { AreOwn (repeat times body.now) → HaltsForCause frame.old frame.new result }
@@ -266,7 +257,7 @@ fn run_piece<R: Wait, G: Gate, H: HasTable<A>, A: Allocator + Copy>(
     ensures heap { frame.new.heap ≡ frame.old.heap }
     ensures line { IfErr result (λ halt. IsLineOf halt.line (piece.now ∷ [])) }
     ensures busy { IfErr result (λ halt. halt.fault ≡ faults.Busy
-        → G.may_refuse context.now.gate.now context.now.seated.now.number halt.line) }
+        → G.may_refuse context.now.gate.now context.now.own.now.number halt.line) }
     ensures runs { RunsOn frame.old registers.old lines.old.items frame.new registers.new lines.new.items
         (written_out (piece.now ∷ [])) result }
     ensures wants { AreOwn (written_out (piece.now ∷ [])) → HaltsForCause frame.old frame.new result }
@@ -305,7 +296,7 @@ pub(crate) fn run_pieces<R: Wait, G: Gate, H: HasTable<A>, A: Allocator + Copy>(
     ensures heap { frame.new.heap ≡ frame.old.heap }
     ensures line { IfErr result (λ halt. IsLineOf halt.line pieces.now) }
     ensures busy { IfErr result (λ halt. halt.fault ≡ faults.Busy
-        → G.may_refuse context.now.gate.now context.now.seated.now.number halt.line) }
+        → G.may_refuse context.now.gate.now context.now.own.now.number halt.line) }
     ensures runs { RunsOn frame.old registers.old lines.old.items frame.new registers.new lines.new.items
         (written_out pieces.now) result }
     ensures wants { AreOwn (written_out pieces.now) → HaltsForCause frame.old frame.new result }

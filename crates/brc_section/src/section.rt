@@ -93,7 +93,7 @@ fn run_over<R: Wait, G: Gate, H: HasTable<A>, A: Allocator + Copy>(
     frame: &mut Frame<H, A>,
     lines: &mut Vec<u8, A>,
     section: &Section<A>,
-    seated: &SectionContext<'_, A>,
+    own: &SectionContext<'_, A>,
     gate: &G,
 ) -> Option<Halt>
     requires bare { frame.old.len ≡ 0 }
@@ -103,7 +103,7 @@ fn run_over<R: Wait, G: Gate, H: HasTable<A>, A: Allocator + Copy>(
     ensures heap { frame.new.heap ≡ frame.old.heap }
     ensures line { IfSome result (λ halt. IsLineOf halt.line section.now.pieces) }
     ensures busy { IfSome result (λ halt. halt.fault ≡ faults.Busy
-        → G.may_refuse gate.now seated.now.number halt.line) }
+        → G.may_refuse gate.now own.now.number halt.line) }
     ensures ended { lines.old.items ≡ [] → AreOwn (written_out section.now.pieces) →
         SectionEnded (ledger_seen frame.old).allocs frame.new lines.new.items (written_out section.now.pieces) result }
     ensures wanted { AreOwn (written_out section.now.pieces)
@@ -118,11 +118,7 @@ fn run_over<R: Wait, G: Gate, H: HasTable<A>, A: Allocator + Copy>(
         Err(fault) => return Some(Halt { fault, line: first }),
     };
     let names = Names::of(alloc, section);
-    let context = LineContext {
-        alloc,
-        seated,
-        gate,
-    };
+    let context = LineContext { alloc, own, gate };
     let ran = run_pieces(rt, frame, &mut registers, lines, pieces, &names, &context);
     registers.release_all(frame);
     halt_of(ran)
@@ -173,20 +169,12 @@ pub fn run_section<R: Wait, G: Gate, H: HasTable<A>, A: Allocator + Copy>(
         → MOST_BIRTHS ≤ (ledger_seen mutator.new).allocs }
 {
     let mut lines = Vec::new(alloc);
-    let seated = SectionContext {
+    let own = SectionContext {
         board,
         number,
         budget,
     };
-    let halt = run_over(
-        rt,
-        alloc,
-        mutator.frame(),
-        &mut lines,
-        section,
-        &seated,
-        gate,
-    );
+    let halt = run_over(rt, alloc, mutator.frame(), &mut lines, section, &own, gate);
     board.end(rt, number);
     mutator.settle(rt);
     SectionEnd {

@@ -36,7 +36,7 @@ enum OnGlobals {
 struct UnderKey<'i, A: Allocator> {
     shared: OnGlobals,
     key: &'i Key<A>,
-    seated: &'i SectionContext<'i, A>,
+    own: &'i SectionContext<'i, A>,
 }
 
 impl<'i, R: Wait, H: HasTable<A>, A: Allocator + Copy> Execute<R, H, A> for UnderKey<'i, A> {
@@ -54,7 +54,7 @@ impl<'i, R: Wait, H: HasTable<A>, A: Allocator + Copy> Execute<R, H, A> for Unde
                 let awaited = AwaitedHere::Name(self.key);
                 let wait = Await {
                     look: LookTry { to, awaited },
-                    seated: self.seated,
+                    own: self.own,
                 };
                 wait.act(rt, alloc, frame, registers)
             }
@@ -76,7 +76,7 @@ fn under_name<R: Wait, H: HasTable<A>, A: Allocator + Copy>(
     shared: OnGlobals,
     name: &Text<A>,
     key: Option<&Key<A>>,
-    seated: &SectionContext<'_, A>,
+    own: &SectionContext<'_, A>,
 ) -> Done
     requires stands { OwnsRegisters frame.old registers.old }
     ensures stands { OwnsRegisters frame.new registers.new }
@@ -86,11 +86,7 @@ fn under_name<R: Wait, H: HasTable<A>, A: Allocator + Copy>(
 {
     match key {
         Some(key) => {
-            let step = UnderKey {
-                shared,
-                key,
-                seated,
-            };
+            let step = UnderKey { shared, key, own };
             step.act(rt, alloc, frame, registers)
         }
         None => {
@@ -98,7 +94,7 @@ fn under_name<R: Wait, H: HasTable<A>, A: Allocator + Copy>(
             let step = UnderKey {
                 shared,
                 key: &key,
-                seated,
+                own,
             };
             step.act(rt, alloc, frame, registers)
         }
@@ -115,14 +111,14 @@ fn share_line<R: Wait, H: HasTable<A>, A: Allocator + Copy>(
     name: &Text<A>,
     value: Register,
     key: Option<&Key<A>>,
-    seated: &SectionContext<'_, A>,
+    own: &SectionContext<'_, A>,
 ) -> Done
     requires stands { OwnsRegisters frame.old registers.old }
     ensures led { Led frame.old frame.new registers.old registers.new (instructions.Share name.now value) result }
 {
     let shared = OnGlobals::Share { value };
-    let done = under_name(rt, alloc, frame, registers, shared, name, key, seated);
-    stirs(rt, done, seated)
+    let done = under_name(rt, alloc, frame, registers, shared, name, key, own);
+    stirs(rt, done, own)
 }
 
 /// `fetch`: one reference more to what has the name. A name that is missing is waited for.
@@ -135,13 +131,13 @@ fn fetch_line<R: Wait, H: HasTable<A>, A: Allocator + Copy>(
     to: Register,
     name: &Text<A>,
     key: Option<&Key<A>>,
-    seated: &SectionContext<'_, A>,
+    own: &SectionContext<'_, A>,
 ) -> Done
     requires stands { OwnsRegisters frame.old registers.old }
     ensures led { Led frame.old frame.new registers.old registers.new (instructions.Fetch to name.now) result }
 {
     let shared = OnGlobals::Fetch { to };
-    under_name(rt, alloc, frame, registers, shared, name, key, seated)
+    under_name(rt, alloc, frame, registers, shared, name, key, own)
 }
 
 /// `unshare`: what has the name comes out of the globals.
@@ -154,14 +150,14 @@ fn unshare_line<R: Wait, H: HasTable<A>, A: Allocator + Copy>(
     to: Register,
     name: &Text<A>,
     key: Option<&Key<A>>,
-    seated: &SectionContext<'_, A>,
+    own: &SectionContext<'_, A>,
 ) -> Done
     requires stands { OwnsRegisters frame.old registers.old }
     ensures led { Led frame.old frame.new registers.old registers.new (instructions.Unshare to name.now) result }
 {
     let shared = OnGlobals::Unshare { to };
-    let done = under_name(rt, alloc, frame, registers, shared, name, key, seated);
-    stirs(rt, done, seated)
+    let done = under_name(rt, alloc, frame, registers, shared, name, key, own);
+    stirs(rt, done, own)
 }
 
 /// What the instruction of a line says, where it is none that prints.
@@ -169,7 +165,7 @@ fn unshare_line<R: Wait, H: HasTable<A>, A: Allocator + Copy>(
 pub(crate) struct Silent<'i, A: Allocator> {
     pub(crate) instruction: &'i Instruction<A>,
     pub(crate) key: Option<&'i Key<A>>,
-    pub(crate) seated: &'i SectionContext<'i, A>,
+    pub(crate) own: &'i SectionContext<'i, A>,
 }
 
 impl<'i, A: Allocator + Copy> Silent<'i, A> {
@@ -185,7 +181,7 @@ impl<'i, A: Allocator + Copy> Silent<'i, A> {
         requires stands { OwnsRegisters frame.old registers.old }
         ensures led { Led frame.old frame.new registers.old registers.new self.now.instruction.now result }
     {
-        let (key, seated) = (self.key, self.seated);
+        let (key, own) = (self.key, self.own);
         match self.instruction {
             Instruction::Int { to, number } => {
                 int_line(rt, alloc, frame, registers, *to, *number)
@@ -199,46 +195,46 @@ impl<'i, A: Allocator + Copy> Silent<'i, A> {
             Instruction::Drop { from } => drop_line(rt, alloc, frame, registers, *from),
 
             Instruction::Push { list, value } => {
-                push_line(rt, alloc, frame, registers, *list, *value, seated)
+                push_line(rt, alloc, frame, registers, *list, *value, own)
             }
             Instruction::Pop { to, list } => {
-                pop_line(rt, alloc, frame, registers, *to, *list, seated)
+                pop_line(rt, alloc, frame, registers, *to, *list, own)
             }
             Instruction::Get { to, list, index } => {
                 get_line(rt, alloc, frame, registers, *to, *list, *index)
             }
             Instruction::Set { list, index, value } => {
-                set_line(rt, alloc, frame, registers, *list, *index, *value, seated)
+                set_line(rt, alloc, frame, registers, *list, *index, *value, own)
             }
             Instruction::Len { to, container } => {
                 len_line(rt, alloc, frame, registers, *to, *container)
             }
 
             Instruction::Put { dict, key, value } => {
-                put_line(rt, alloc, frame, registers, *dict, key, *value, seated)
+                put_line(rt, alloc, frame, registers, *dict, key, *value, own)
             }
             Instruction::Find { to, dict, key } => {
                 find_line(rt, alloc, frame, registers, *to, *dict, key)
             }
             Instruction::Delete { to, dict, key } => {
-                delete_line(rt, alloc, frame, registers, *to, *dict, key, seated)
+                delete_line(rt, alloc, frame, registers, *to, *dict, key, own)
             }
 
             Instruction::Share { name, value } => {
-                share_line(rt, alloc, frame, registers, name, *value, key, seated)
+                share_line(rt, alloc, frame, registers, name, *value, key, own)
             }
             Instruction::Fetch { to, name } => {
-                fetch_line(rt, alloc, frame, registers, *to, name, key, seated)
+                fetch_line(rt, alloc, frame, registers, *to, name, key, own)
             }
             Instruction::Unshare { to, name } => {
-                unshare_line(rt, alloc, frame, registers, *to, name, key, seated)
+                unshare_line(rt, alloc, frame, registers, *to, name, key, own)
             }
 
             Instruction::Send { mailbox, value } => {
-                send_line(rt, alloc, frame, registers, *mailbox, *value, seated)
+                send_line(rt, alloc, frame, registers, *mailbox, *value, own)
             }
             Instruction::Receive { to, mailbox } => {
-                receive_line(rt, alloc, frame, registers, *to, *mailbox, seated)
+                receive_line(rt, alloc, frame, registers, *to, *mailbox, own)
             }
 
             Instruction::Add { to, first, second } => {

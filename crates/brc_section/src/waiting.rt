@@ -76,7 +76,7 @@ fn is_nothing(tried: &Done) -> bool
 #[derive(Drop)]
 struct LookNext<'w, A: Allocator> {
     look: &'w LookTry<'w, A>,
-    seated: &'w SectionContext<'w, A>,
+    own: &'w SectionContext<'w, A>,
 }
 
 impl<'w, R: Wait, H: HasTable<A>, A: Allocator + Copy> Execute<R, H, A> for LookNext<'w, A> {
@@ -86,7 +86,7 @@ impl<'w, R: Wait, H: HasTable<A>, A: Allocator + Copy> Execute<R, H, A> for Look
 
     fn act(&self, rt: &R, alloc: A, frame: &mut Frame<H, A>, registers: &mut Registers<A>) -> Done {
         let _told = frame.poll();
-        let _left = frame.work(self.seated.budget);
+        let _left = frame.work(self.own.budget);
         hint::spin_loop();
         self.look.act(rt, alloc, frame, registers)
     }
@@ -100,7 +100,7 @@ impl<'w, R: Wait, H: HasTable<A>, A: Allocator + Copy> Execute<R, H, A> for Look
 #[derive(Drop)]
 struct LookSoon<'w, A: Allocator> {
     look: &'w LookTry<'w, A>,
-    seated: &'w SectionContext<'w, A>,
+    own: &'w SectionContext<'w, A>,
 }
 
 impl<'w, R: Wait, H: HasTable<A>, A: Allocator + Copy> Execute<R, H, A> for LookSoon<'w, A> {
@@ -111,7 +111,7 @@ impl<'w, R: Wait, H: HasTable<A>, A: Allocator + Copy> Execute<R, H, A> for Look
     fn act(&self, rt: &R, alloc: A, frame: &mut Frame<H, A>, registers: &mut Registers<A>) -> Done {
         let next = LookNext {
             look: self.look,
-            seated: self.seated,
+            own: self.own,
         };
         for _ in 1..TRIES {
             let tried = next.act(rt, alloc, frame, registers);
@@ -128,7 +128,7 @@ impl<'w, R: Wait, H: HasTable<A>, A: Allocator + Copy> Execute<R, H, A> for Look
 #[derive(Drop)]
 struct LookAgain<'w, A: Allocator> {
     look: &'w LookTry<'w, A>,
-    seated: &'w SectionContext<'w, A>,
+    own: &'w SectionContext<'w, A>,
 }
 
 impl<'w, R: Wait, H: HasTable<A>, A: Allocator + Copy> Execute<R, H, A> for LookAgain<'w, A> {
@@ -137,10 +137,10 @@ impl<'w, R: Wait, H: HasTable<A>, A: Allocator + Copy> Execute<R, H, A> for Look
     ghost why = { λ it. WantsForLetter it.look.now.awaited };
 
     fn act(&self, rt: &R, alloc: A, frame: &mut Frame<H, A>, registers: &mut Registers<A>) -> Done {
-        let seated = self.seated;
+        let own = self.own;
         let tries = LookSoon {
             look: self.look,
-            seated,
+            own,
         };
         for _ in rt.forever() {
             let soon = tries.act(rt, alloc, frame, registers);
@@ -148,14 +148,14 @@ impl<'w, R: Wait, H: HasTable<A>, A: Allocator + Copy> Execute<R, H, A> for Look
                 return soon;
             }
             let _told = frame.poll();
-            let _left = frame.work(seated.budget);
-            seated.board.looks(rt, seated.number);
+            let _left = frame.work(own.budget);
+            own.board.looks(rt, own.number);
             let tried = self.look.act(rt, alloc, frame, registers);
             if !is_nothing(&tried) {
-                seated.board.found();
+                own.board.found();
                 return tried;
             }
-            if !seated.board.waits(rt, seated.number) {
+            if !own.board.waits(rt, own.number) {
                 return tried;
             }
         }
@@ -167,7 +167,7 @@ impl<'w, R: Wait, H: HasTable<A>, A: Allocator + Copy> Execute<R, H, A> for Look
 #[derive(Drop)]
 pub(crate) struct Await<'w, A: Allocator> {
     pub(crate) look: LookTry<'w, A>,
-    pub(crate) seated: &'w SectionContext<'w, A>,
+    pub(crate) own: &'w SectionContext<'w, A>,
 }
 
 impl<'w, R: Wait, H: HasTable<A>, A: Allocator + Copy> Execute<R, H, A> for Await<'w, A> {
@@ -189,7 +189,7 @@ impl<'w, R: Wait, H: HasTable<A>, A: Allocator + Copy> Execute<R, H, A> for Awai
         }
         let again = LookAgain {
             look: &self.look,
-            seated: self.seated,
+            own: self.own,
         };
         again.act(rt, alloc, frame, registers)
     }
