@@ -8,7 +8,7 @@ use Rattle.brc_table.specs.Seated.{SeatSeen}
 use Rattle.brc_table.specs.Shown.{shows}
 use Rattle.law.specs.steps.Owing.{Enqueues}
 use Rattle.law.proofs.steps.Queueing_Steps.{enqueues}
-use Rattle.brc_table.proofs.table.HeapTable.enqueue.Goals as goal
+use Rattle.brc_table.proofs.table.HeapTable.enqueue_word.Goals as goal
 
 pub or-requires-clause-allowed : goal.or-requires-clause-allowed
 or-requires-clause-allowed g c =
