@@ -38,12 +38,14 @@
  * References. A brc_ref is a number and no pointer. It names one reference that its thread holds.
  * Every reference that a call hands out is the caller's: nothing is borrowed. It ends in brc_release,
  * or in a call that gives it to a container. Each call looks at its numbers first. A number whose
- * reference has ended is STALE. A number of another thread or heap is FOREIGN, and so is 0, which is
- * never a reference. A stale number is taken for a live one only after a rare coincidence: one place
- * of the thread was vacated 2^32 times since, or the heap registered 65,535 threads since.
+ * reference has ended is STALE. A number of another thread of the heap is FOREIGN, and so is 0, which
+ * is never a reference. One of another heap is FOREIGN if the two heaps' numbers begin apart: see
+ * brc_heap_new. A stale number is taken for a live one only after a rare coincidence: one place of
+ * the thread was vacated 2^32 times since, or the heap registered 65,535 threads since.
  *
- * Refusals. A call that returns another status than OK changes nothing. What it was given is still
- * the caller's, and no out parameter is written. No call aborts, throws, calls back, or waits for
+ * Refusals. A call that returns another status than OK changes nothing, but for two: a brc_heap_close
+ * that is OUT_OF_MEMORY has ended its heap, and a brc_thread_leave that is BUSY has gone on. What a
+ * call was given is still the caller's, and no out parameter is written. No call aborts, throws, calls back, or waits for
  * another thread. Below, the statuses of each call stand in the order in which it looks for them. A
  * status behind a number is looked for at that number; numbers are looked at in the order written.
  *
@@ -100,7 +102,7 @@ enum {
     BRC_BAD_OPTIONS = 14,                   /* a size of a heap is out of its range */
     BRC_LEDGER_FULL = 17,                   /* the thread has made 2^47 objects */
     BRC_STALE = 64,                         /* the reference was released or given away */
-    BRC_FOREIGN = 65,                       /* another thread's or heap's number, or none */
+    BRC_FOREIGN = 65,                       /* another thread's number, or none */
     BRC_SAME = 66,                          /* one number stands in two places of a call */
     BRC_GONE = 67,                          /* the thread has left; the heap is closed */
     BRC_NOT_TEXT = 68                       /* the bytes are not UTF-8 */
@@ -131,7 +133,8 @@ uint32_t brc_version(void);
 /* Opens a heap, and writes it to `at`, the field of a brc_heap. `cells` is 512 to 65,536. With
  * `local_limit` references to an object of its own, a thread counts further ones atomically: 1 to
  * 4,294,967,294. `first` begins the numbers of this heap's threads. If the heaps of one program get
- * 0, 1024, 2048 and so on, the references of one are FOREIGN to the others.
+ * 0, 1024, 2048 and so on, the references of one are FOREIGN to the others, as long as each has
+ * registered at most 1,024 threads.
  * BAD_OPTIONS, OUT_OF_MEMORY. */
 brc_status brc_heap_new(void **at, uint32_t cells, uint32_t local_limit, uint32_t first);
 
@@ -141,7 +144,7 @@ brc_status brc_heap_counts(brc_heap *, uint32_t *registered, uint32_t *left, uin
 
 /* Closes the heap: how many objects remain, and how many groups of them hold one another in a circle.
  * A heap that is closed returns the same numbers again. A heap that got OUT_OF_MEMORY has ended without
- * a report: that is the one refusal that changes something. From then on it is GONE.
+ * a report, and is GONE from then on.
  * GONE; BUSY; MISSING while a registered thread hasn't left; BUSY while a thread's last call runs;
  * OUT_OF_MEMORY. */
 brc_status brc_heap_close(brc_heap *, uint64_t *live, uint64_t *cycles);
@@ -170,7 +173,8 @@ brc_status brc_thread_fork(brc_thread *, void **at);
 /* The thread leaves the heap. It hands over what it owns, so it may take several calls. BUSY says
  * that there is more to do, or that another call has the register of threads. A thread that is on its
  * way out may be GONE in the other calls already. After OK it has left.
- * GONE, NOT_IDLE if it has references, BUSY, OUT_OF_MEMORY. */
+ * GONE; NOT_IDLE if it has references; BUSY while something is left to do; OUT_OF_MEMORY; BUSY again,
+ * for the rest of its way. */
 brc_status brc_thread_leave(brc_thread *);
 
 /* Lets go of the thread, at any time. It releases all its references, and leaves if it can at once.
@@ -344,7 +348,8 @@ brc_status brc_dict_pair(brc_thread *, brc_ref dict, uint32_t index, brc_key *ke
         }                                                                                             \
     } while (0)
 
-/* A heap of so many cells, with the other options as usual. */
+/* A heap of so many cells, with the other options as usual and `first` 0. A program with several
+ * heaps calls brc_heap_new. */
 static inline brc_status brc_heap_open(brc_heap *heap, uint32_t cells) {
     return brc_heap_new(&heap->at, cells, 4294967294u, 0);
 }
