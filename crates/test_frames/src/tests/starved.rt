@@ -8,12 +8,11 @@ ghost use Rattle.test_tools.specs.Calls.{IsBare, OwnsAll, OwnsBoth, OwnsOne, Par
 
 use crate::tests::comparing::same;
 use crate::tests::lists::hands_over;
-use crate::tests::phases::{SMALL, ends, entered, leaves, leaves_late, opened_with, says};
+use crate::tests::phases::{ends, entered, leaves, leaves_late, opened_with, says};
 use brc_count::biased::HasTable;
 use brc_count::{Frame, Handle};
 use brc_handles::Handles;
 use brc_lists::try_list_push;
-use brc_thread::{Heap, Mutator, Root, take_apart};
 use linked_list_allocator::LocalHeap;
 use std::alloc::{Allocator, Global};
 use std::process::Abort;
@@ -260,44 +259,23 @@ fn passes_lists<R: Abort + Wait, H: HasTable<A>, A: Allocator + Copy>(
     }
 }
 
-/// A thread that has no handle leaves, and is gathered; its ledger has so many births and frees.
-fn leaves_at_once<'h, A: Allocator>(
-    rt: &(impl Abort + Wait),
-    heap: &'h Heap<A>,
-    root: &mut Root<A>,
-    mutator: Mutator<&'h Heap<A>, A>,
-    sums: (u64, u64),
-)
-    requires root { root.old.table ≡ heap.now.table }
-    requires heap { mutator.heap ≡ heap.now }
-    requires unlocked { IsUnlocked mutator }
-    ensures root { root.new.table ≡ root.old.table }
-{
-    match mutator.leave() {
-        Err(_mutator) => panic!(rt; "a handle or a block is left"),
-        Ok(leaving) => {
-            let retired = leaving.finish_all(rt);
-            says(rt, retired.ledger(), sums);
-            root.gather(heap, retired);
-        }
-    }
-}
-
 /// A thread leaves, without memory, while another one holds its lists: they are nobody's then, and the other frees them.
 fn hands_over_on_a_heap<'h>(rt: &(impl Abort + Wait), alloc: Global, memory: &'h LocalHeap) {
-    let (heap, mut root) = Heap::new(memory, SMALL).expect(rt, "memory");
-    let mut maker = root.register(memory, &heap).expect(rt, "memory");
-    let mut other = root.register(memory, &heap).expect(rt, "memory");
+    let (table, mut root) = opened_with(rt, memory, 512);
+    let mut maker = entered(rt, memory, &table, &mut root);
+    let mut other = entered(rt, memory, &table, &mut root);
     let mut kept = Handles::new(memory);
-    passes_lists(rt, memory, maker.frame(), other.frame(), &mut kept, 100);
+    passes_lists(rt, memory, &mut maker, &mut other, &mut kept, 100);
     let mut starving = Starving::new(alloc, memory);
     starving.starve(rt);
-    leaves_at_once(rt, &heap, &mut root, maker, (100, 0));
+    let left = leaves_late(rt, &table, &mut root, maker, 0);
+    says(rt, left, (100, 0));
     starving.starve(rt);
-    kept.release_all(other.frame());
-    takes_turns(rt, &mut starving, other.frame(), 100);
-    leaves_at_once(rt, &heap, &mut root, other, (0, 100));
-    ends(rt, take_apart(heap, root));
+    kept.release_all(&mut other);
+    takes_turns(rt, &mut starving, &mut other, 100);
+    says(rt, other.ledger(), (0, 100));
+    leaves(rt, &table, &mut root, other);
+    ends(rt, table.take_apart(root));
 }
 
 #[test]
