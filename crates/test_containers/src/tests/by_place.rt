@@ -97,8 +97,8 @@ fn starves_places<'h, H: HasTable<&'h LocalHeap>>(
     panic!(rt; "places that are never missing")
 }
 
-/// What is read, in both forms.
-fn reads<R: Abort + Wait, H: HasTable<A>, A: Allocator>(
+/// The kinds of two objects, in one form each.
+fn reads_kinds<R: Abort + Wait, H: HasTable<A>, A: Allocator>(
     rt: &R,
     frame: &mut Frame<H, A>,
     handles: &Handles<A>,
@@ -109,14 +109,66 @@ fn reads<R: Abort + Wait, H: HasTable<A>, A: Allocator>(
 {
     same(rt, kind_at(rt, frame, handles, 2), Ok(Kind::Text));
     same(rt, try_kind_at(frame, handles, 1), Ok(Kind::Nothing));
+}
+
+/// How many pairs the dictionary has.
+fn reads_lens<R: Abort + Wait, H: HasTable<A>, A: Allocator>(
+    rt: &R,
+    frame: &mut Frame<H, A>,
+    handles: &Handles<A>,
+)
+    requires { OwnsAll frame.old handles.now }
+    ensures all { OwnsAll frame.new handles.now }
+    ensures heap { frame.new.heap ≡ frame.old.heap }
+{
     same(rt, len_at(rt, frame, handles, 0), Ok(1));
     same(rt, try_len_at(frame, handles, 0), Ok(1));
+}
+
+/// The integer, and that a text is none.
+fn reads_ints<R: Abort + Wait, H: HasTable<A>, A: Allocator>(
+    rt: &R,
+    frame: &mut Frame<H, A>,
+    handles: &Handles<A>,
+)
+    requires { OwnsAll frame.old handles.now }
+    ensures all { OwnsAll frame.new handles.now }
+    ensures heap { frame.new.heap ≡ frame.old.heap }
+{
     same(rt, int_at(rt, frame, handles, 3), Ok(1_000));
     same(rt, try_int_at(frame, handles, 2), Err(Fault::WrongKind));
+}
+
+/// At which place a key stands, and that another one does nowhere.
+fn seeks_keys<R: Abort + Wait, H: HasTable<A>, A: Allocator>(
+    rt: &R,
+    frame: &mut Frame<H, A>,
+    handles: &Handles<A>,
+)
+    requires { OwnsAll frame.old handles.now }
+    ensures all { OwnsAll frame.new handles.now }
+    ensures heap { frame.new.heap ≡ frame.old.heap }
+{
     let dict = handles.get(0).expect(rt, "no dictionary");
     same(rt, dict_key_by(rt, frame, dict, KeyRef::Int(7)), Ok(0));
     let missing = try_dict_key_by(frame, dict, KeyRef::Text(SOME_TEXT));
     same(rt, missing, Err(Fault::NoSuchKey));
+}
+
+/// What is read, in both forms.
+fn reads<R: Abort + Wait, H: HasTable<A>, A: Allocator>(
+    rt: &R,
+    frame: &mut Frame<H, A>,
+    handles: &Handles<A>,
+)
+    requires { OwnsAll frame.old handles.now }
+    ensures all { OwnsAll frame.new handles.now }
+    ensures heap { frame.new.heap ≡ frame.old.heap }
+{
+    reads_kinds(rt, frame, handles);
+    reads_lens(rt, frame, handles);
+    reads_ints(rt, frame, handles);
+    seeks_keys(rt, frame, handles);
 }
 
 /// The call. A copy is as it should be, and goes again.
