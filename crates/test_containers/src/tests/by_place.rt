@@ -227,6 +227,8 @@ fn passes_with_memory<'h, R: Abort + Wait, H: HasTable<&'h LocalHeap>>(
             }
             Err(fault) => same(rt, fault, Fault::OutOfMemory),
         }
+        // What was made, and found no place, is dead, and gives its memory back.
+        let _turns = frame.work(8);
         same(rt, (frame.len(), handles.len()), before);
         assert!(rt; pieces.give_one());
     }
