@@ -28,6 +28,10 @@ static void fill_the_frame(brc_thread *t) {
     CHECK(brc_retain(t, one, &more) == BRC_OK && more != last);
     CHECK(brc_release(t, last) == BRC_STALE);
     CHECK(brc_release_all(t) == BRC_OK && brc_count(t) == 0 && brc_release(t, one) == BRC_STALE);
+    /* The numbers of before name nothing, though each place has a reference again. */
+    CHECK(brc_new_int(t, 1000, &more) == BRC_OK && more != one);
+    for (int i = 1; i < REFERENCES; i++) CHECK(brc_retain(t, more, &last) == BRC_OK && last != one);
+    CHECK(brc_release(t, one) == BRC_STALE && brc_release_all(t) == BRC_OK);
 }
 
 /* A container of each kind has so many entries. The last one is refused, and is still the caller's. */
@@ -86,10 +90,10 @@ int main(void) {
     brc_thread_drop(t);
     register_all(&heap, 1);
     CHECK(brc_heap_counts(&heap, &registered, &left, &allocs, &frees) == BRC_OK);
-    CHECK(registered == REGISTRATIONS && left == REGISTRATIONS && allocs == 4 && frees == 4);
+    CHECK(registered == REGISTRATIONS && left == REGISTRATIONS && allocs == 5 && frees == 5);
     CHECK(brc_heap_close(&heap, &live, &cycles) == BRC_OK && live == 0 && cycles == 0);
     CHECK(brc_heap_close(&heap, &live, &cycles) == BRC_OK && brc_thread_open(&heap, &t) == BRC_GONE);
-    CHECK(brc_heap_report(&heap, 0, text, sizeof text, &len) == BRC_OK && len == 13 && !memcmp(text, "ledger 4 4 0\n", 13));
+    CHECK(brc_heap_report(&heap, 0, text, sizeof text, &len) == BRC_OK && len == 13 && !memcmp(text, "ledger 5 5 0\n", 13));
     brc_heap_drop(heap);
     printf("%d references, %d entries, %d threads, %d registrations\n", REFERENCES, ENTRIES, THREADS, REGISTRATIONS);
     return 0;

@@ -100,7 +100,7 @@ enum {
     BRC_NOT_IDLE = 10,                      /* the thread has references; the heap isn't closed */
     BRC_MISSING = 11,                       /* a registered thread hasn't left */
     BRC_BAD_OPTIONS = 14,                   /* a size of a heap is out of its range */
-    BRC_LEDGER_FULL = 17,                   /* the thread has made 2^47 objects */
+    BRC_LEDGER_FULL = 17,                   /* the thread has made 2^47 objects since its registration */
     BRC_STALE = 64,                         /* the reference was released or given away */
     BRC_FOREIGN = 65,                       /* another thread's number, or none */
     BRC_SAME = 66,                          /* one number stands in two places of a call */

@@ -12,8 +12,8 @@ use Rattle.brc_client.specs.declared.thread.Stage.{Stage}
 use Rattle.brc_client.specs.declared.thread.Stage.TheVariants as stages
 use Rattle.brc_client.specs.declared.owner.OwnerStage.{OwnerStage}
 use Rattle.brc_client.specs.declared.owner.Left.{Left}
-use Rattle.brc_client.specs.Ends.{OpensWith, RegistersAt, RegisterRefused, LeaveRefused, LedgerOf, open_at, CountsAt}
-use Rattle.brc_client.specs.Ends.{ClosedAs, CloseRefused, report_of, Shows, text_in, shown_from, ReportRefused}
+use Rattle.brc_client.specs.Ends.{OpensWith, RegistersAt, RegisterRefused, HasReference, LeaveRefused, LedgerOf, open_at}
+use Rattle.brc_client.specs.Ends.{CountsAt, ClosedAs, CloseRefused, report_of, Shows, text_in, shown_from, ReportRefused}
 use Rattle.brc_c.specs.Exports.{code_of}
 
 -- ---- threads
@@ -25,9 +25,10 @@ module _ {S : Type 0} where
     pub refused : IfErr answer RegisterRefused
     pub same : new ≡ old
 
--- the thread is gathered; or it isn't yet
+-- the thread had no reference, and is gathered; or it isn't yet
 pub record Leaves (old new : Stage) (answer : Result (Unit {0}) Status) : Type 0 where
   pub gone : OnOk answer (new ≡ stages.Gone)
+  pub bare : OnOk answer (HasReference old → ⊥)
   pub refused : IfErr answer (LeaveRefused old new)
 
 -- what the thread has made and given back; or it is gathered

@@ -3,7 +3,8 @@
 ghost use Rattle.std.specs.Option.{option_copied_mut};
 ghost use Rattle.std.specs.Prelude.{◌≡◌, IfOk, IfErr, OnOk, OnErr};
 ghost use Rattle.brc_client.specs.declared.thread.Stage.TheVariants as stages;
-ghost use Rattle.brc_client.specs.Ends.{client_of, heap_of, RegistersAt, RegisterRefused, LeaveRefused, LedgerOf};
+ghost use Rattle.brc_client.specs.Ends.{client_of, heap_of, RegistersAt, RegisterRefused, HasReference, LeaveRefused};
+ghost use Rattle.brc_client.specs.Ends.{LedgerOf};
 
 use brc_client::{Client, Ledger, Owner, Status, Thread};
 use std::alloc::Global;
@@ -55,6 +56,7 @@ impl Held {
     /// The thread goes on with its way out.
     pub(crate) fn leave(&mut self) -> Result<(), Status>
         ensures gone { OnOk result (self.new.thread ≡ stages.Gone) }
+        ensures bare { OnOk result (HasReference self.old.thread → ⊥) }
         ensures refused { IfErr result (LeaveRefused self.old.thread self.new.thread) }
     {
         self.thread.leave()

@@ -1,3 +1,4 @@
-mod Placed
 mod Named
+mod Placed
+mod Spending
 pub mod Statuses

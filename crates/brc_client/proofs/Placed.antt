@@ -18,7 +18,7 @@ use Rattle.brc_client.specs.Clients.{IsClient, NamesIn}
 slot_set : (hs : List (Option HandleSeen)) (i : ℕ) (x : Option HandleSeen) → i < length hs → slot (slice_set hs i x) i ≡ x
 slot_set hs i x inside = grind (arith, common_steps)
 
-slot_else : (hs : List (Option HandleSeen)) (i k : ℕ) (x : Option HandleSeen) → k ≢ i
+pub slot_else : (hs : List (Option HandleSeen)) (i k : ℕ) (x : Option HandleSeen) → k ≢ i
     → slot (slice_set hs i x) k ≡ slot hs k
 slot_else hs i k x other = grind (arith, common_steps)
 

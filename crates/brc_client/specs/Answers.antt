@@ -13,7 +13,7 @@ use Rattle.brc_things.specs.Makers.{truth_cell}
 use Rattle.brc_dicts.specs.Calls.{DictPair}
 use Rattle.brc_handles.specs.Handles.{filled, IsBare}
 use Rattle.brc_client.specs.declared.status.Status.{Status}
-use Rattle.brc_client.specs.Clients.{ClientSeen, Names, NamesNone, KeepsNumbers, KeepsNames, SpendsName}
+use Rattle.brc_client.specs.Clients.{ClientSeen, Names, NamesNone, KeepsNumbers, KeepsNames, SpendsName, SpendsEach}
 use Rattle.brc_client.specs.Calls.{OfNamed, ByHeap, RefusedOf, Adds, WithKey, Retained, Releases, PutsIn, PutsNot}
 use Rattle.brc_client.specs.Calls.{Looks, Reads, IsOne}
 
@@ -72,10 +72,11 @@ pub record Takes (call : FrameSeen Global → FrameSeen Global → ℕ → Handl
   pub came : IfOk answer (λ came. IfSome came (Names new))
   pub unchanged : OnErr answer (KeepsNumbers old new)
 
--- no reference is left, and no number names anything
+-- No reference is left, and no number names anything. None of them is given for its place again: it was vacated.
 pub record LetsAllGo (old new : ClientSeen) : Type 0 where
   pub none : IsBare new.handles
   pub nameless : (n : ℕ) → Names new n → ⊥
+  pub spent : SpendsEach old.handles old.numbers new.numbers
   pub heap : new.frame.heap ≡ old.frame.heap
 
 -- ---- a look

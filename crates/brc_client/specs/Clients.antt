@@ -1,5 +1,5 @@
 -- What is seen of a client that has numbers and no handles, and what a number names.
-use Rattle.std.specs.Prelude.{◌≡◌, ◌≢◌, ℕ, List, Option, Some, length}
+use Rattle.std.specs.Prelude.{◌≡◌, ◌≢◌, ◌<◌, ℕ, List, Option, Some, None, length, get_or}
 use Rattle.std.specs.declared.alloc.Global.{Global}
 use Rattle.brc_count.specs.Frames.{FrameSeen, HandleSeen}
 use Rattle.brc_count.specs.Owned.{Keeps}
@@ -7,7 +7,7 @@ use Rattle.brc_handles.specs.Handles.{slot}
 use Rattle.brc_handles.specs.Standing.{Stands}
 use Rattle.brc_client.specs.declared.status.Status.{Status}
 use Rattle.brc_client.specs.declared.status.Status.TheVariants as statuses
-use Rattle.brc_client.specs.Numbers.{NumbersSeen, number_at, place_in, stamp_in}
+use Rattle.brc_client.specs.Numbers.{NumbersSeen, number_at, place_in, stamp_in, once_more}
 
 -- The thread's frame; the handle in each place, if one is there; the numbers of the places; and the text that was read
 -- last.
@@ -67,3 +67,13 @@ KeepsNames old new = (n : ℕ) (h : HandleSeen) → NamesAs old n h → NamesAs 
 pub record SpendsName (old new : ClientSeen) (spent : ℕ) : Type 0 where
   pub none : Names new spent → ⊥
   pub others : (n : ℕ) (h : HandleSeen) → n ≢ spent → NamesAs old n h → NamesAs new n h
+
+-- how often a place was vacated, once what it had is gone
+abbrev pub vacated : Option HandleSeen → ℕ → ℕ
+vacated None uses = uses
+vacated (Some _) uses = once_more uses
+
+-- Each place that had a handle was vacated once more, and no other was.
+pub record SpendsEach (handles : List (Option HandleSeen)) (was is : NumbersSeen) : Type 0 where
+  pub stamp : is.stamp ≡ was.stamp
+  pub uses : (k : ℕ) → k < 65536 → get_or is.uses k 0 ≡ vacated (slot handles k) (get_or was.uses k 0)

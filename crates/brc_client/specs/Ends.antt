@@ -57,8 +57,9 @@ abbrev pub HasReference : Stage → Type 0
 HasReference (stages.Works client) = 0 < filled client.handles
 HasReference _ = ⊥
 
--- the thread is of the same heap still
+-- the thread had no reference, and is of the same heap still
 pub record StaysAt (old new : Stage) : Type 0 where
+  pub bare : HasReference old → ⊥
   pub heap : TableSeen
   pub was : heap_of old ≡ Some heap
   pub is : heap_of new ≡ Some heap

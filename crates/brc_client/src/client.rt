@@ -6,7 +6,7 @@ ghost use Rattle.brc_count.specs.Frames.{IsUnlocked, KeepsHandles, ledger_seen, 
 ghost use Rattle.brc_handles.specs.Handles.{slot, filled, IsApart, IsBare, ComesIn};
 ghost use Rattle.brc_client.specs.Numbers.{number_at, place_in};
 ghost use Rattle.brc_client.specs.Clients.{IsClient, Names, NamesIn, NamesNone, NamesNoneIn};
-ghost use Rattle.brc_client.specs.Clients.{KeepsNumbers, KeepsNames, SpendsName};
+ghost use Rattle.brc_client.specs.Clients.{KeepsNumbers, KeepsNames, SpendsName, SpendsEach};
 ghost use Rattle.brc_client.specs.Calls.{OfNamed, RefusedOf, Adds, Retained, Releases};
 
 use crate::numbers::{Numbers, PLACES};
@@ -81,6 +81,7 @@ pub(crate) fn find<'h>(
 }
 
 /// All handles go, by rising place, and their numbers with them.
+#[tactic(auto, using(crate::proofs::Spending::begins, crate::proofs::Spending::passes, crate::proofs::Spending::vacates))]
 fn release_each(
     frame: &mut Frame<Shared, Global>,
     handles: &mut Handles<Global>,
@@ -89,14 +90,15 @@ fn release_each(
     requires client { IsClient frame.old handles.old }
     ensures client { IsClient frame.new handles.new }
     ensures none { IsBare handles.new }
+    ensures spent { SpendsEach handles.old numbers.old numbers.new }
     ensures heap { frame.new.heap ≡ frame.old.heap }
 {
-    for place in 0..PLACES {
+    for at in 0..PLACES {
         if frame.len() == 0 {
             break;
         }
-        if let Some(handle) = handles.take(place) {
-            numbers.spend(place);
+        if let Some(handle) = handles.take(at) {
+            numbers.spend(at);
             frame.release(handle);
         }
     }
@@ -197,6 +199,7 @@ impl Client {
     pub fn release_all(&mut self)
         ensures none { IsBare self.new.handles }
         ensures nameless { (n : ℕ) → Names self.new n → ⊥ }
+        ensures spent { SpendsEach self.old.handles self.old.numbers self.new.numbers }
         ensures heap { self.new.frame.heap ≡ self.old.frame.heap }
     {
         release_each(self.mutator.frame(), &mut self.handles, &mut self.numbers);

@@ -102,6 +102,7 @@ impl Numbers {
         requires inside { place < 65536 }
         ensures stamp { self.new.stamp ≡ self.old.stamp }
         ensures uses { self.new.uses ≡ slice_set self.old.uses place (once_more (get_or self.old.uses place 0)) }
+        ensures counted { get_or self.new.uses place 0 ≡ once_more (get_or self.old.uses place 0) }
         ensures spent { number_at self.new place ≢ number_at self.old place }
         ensures others { (k : ℕ) → k ≢ place → number_at self.new k ≡ number_at self.old k }
     {

@@ -3,7 +3,9 @@
 ghost use Rattle.std.specs.Option.{option_copied_mut};
 ghost use Rattle.std.specs.Prelude.{◌≡◌, IfOk, IfErr, OnOk, OnErr};
 ghost use Rattle.brc_client.specs.declared.thread.Stage.TheVariants as stages;
-ghost use Rattle.brc_client.specs.Ends.{client_of, heap_of, LeaveRefused, RegistersAt, RegisterRefused, LedgerOf};
+ghost use Rattle.brc_handles.specs.Handles.{filled};
+ghost use Rattle.brc_client.specs.Ends.{client_of, heap_of, HasReference, LeaveRefused, RegistersAt, RegisterRefused};
+ghost use Rattle.brc_client.specs.Ends.{LedgerOf};
 
 use crate::client::Client;
 use crate::numbers::{Numbers, PLACES};
@@ -131,6 +133,7 @@ impl LeavingThread {
 /// The thread leaves, if it has no reference, nobody has asked it for anything, and no dead object is left.
 fn leave(client: Client) -> (Stage, Result<(), Status>)
     ensures gone { OnOk result.1 (result.0 ≡ stages.Gone) }
+    ensures bare { OnOk result.1 (filled client.handles ≡ 0) }
     ensures refused { IfErr result.1 (LeaveRefused (stages.Works client) result.0) }
 {
     let mut client = client;
@@ -171,6 +174,7 @@ impl Stage {
     /// As far on the way out as it goes without waiting.
     fn end(self) -> (Stage, Result<(), Status>)
         ensures gone { OnOk result.1 (result.0 ≡ stages.Gone) }
+        ensures bare { OnOk result.1 (HasReference self → ⊥) }
         ensures refused { IfErr result.1 (LeaveRefused self result.0) }
     {
         match self {
@@ -227,6 +231,7 @@ impl Thread {
     /// root at this moment: then it is to be called again. Gone once it is gathered.
     pub fn leave(&mut self) -> Result<(), Status>
         ensures gone { OnOk result (self.new ≡ stages.Gone) }
+        ensures bare { OnOk result (HasReference self.old → ⊥) }
         ensures refused { IfErr result (LeaveRefused self.old self.new) }
     {
         let stage = mem::replace(&mut self.stage, Stage::Gone);

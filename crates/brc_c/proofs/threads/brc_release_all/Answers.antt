@@ -14,6 +14,7 @@ returns-in-Some c = record {
         (record {
           none = c.release_all.ensures.none;
           nameless = c.release_all.ensures.nameless;
+          spent = c.release_all.ensures.spent;
           heap = c.release_all.ensures.heap;
         });
     told = refl;

@@ -1,11 +1,21 @@
 use Rattle.std.proofs.Common.{arith}
 use Rattle.brc_client.proofs.Placed.{bare_below, bare_counted}
+use Rattle.brc_client.proofs.Spending.{spent_whole, spent_bare}
 use Rattle.brc_client.proofs.client.release_each.Goals as goal
 
-pub returns-after-loop-place-clause-none : goal.returns-after-loop-place-clause-none
-returns-after-loop-place-clause-none c = bare_below c.loop-place.handles c.loop-place.place c.loop-place.invariant.1
-    (omega (arith, c.loop-place-test.false, c.loop-place.invariant.0.places))
+pub returns-after-loop-at-clause-none : goal.returns-after-loop-at-clause-none
+returns-after-loop-at-clause-none c = bare_below c.loop-at.handles c.loop-at.at c.loop-at.invariant.1
+    (omega (arith, c.loop-at-test.false, c.loop-at.invariant.0.places))
+
+pub returns-after-loop-at-clause-spent : goal.returns-after-loop-at-clause-spent
+returns-after-loop-at-clause-spent c = spent_whole c.loop-at.at _ _ _ _ c.loop-at.invariant.3
+    (omega (arith, c.loop-at-test.false))
 
 pub returns-then-len-eq0-clause-none : goal.returns-then-len-eq0-clause-none
-returns-then-len-eq0-clause-none c = bare_counted c.loop-place.frame c.loop-place.handles c.loop-place.invariant.0
+returns-then-len-eq0-clause-none c = bare_counted c.loop-at.frame c.loop-at.handles c.loop-at.invariant.0
     (omega (arith, c.if-len-eq0.true, c.len.ensures))
+
+pub returns-then-len-eq0-clause-spent : goal.returns-then-len-eq0-clause-spent
+returns-then-len-eq0-clause-spent c = spent_bare c.loop-at.at _ _ _ _ c.loop-at.invariant.3
+    (bare_counted c.loop-at.frame c.loop-at.handles c.loop-at.invariant.0
+    (omega (arith, c.if-len-eq0.true, c.len.ensures)))
