@@ -1,7 +1,12 @@
 -- What a thread takes along, and what it hands back, go to another thread of the machine.
 use denote.Param.Send.{IsSend, IsSync, sendable}
 use Rattle.std.proofs.Crossing.{crosses}
-use Rattle.brc_thread.proofs.Sent.{retired_send}
+use Rattle.std.specs.contracts.option.Option as Option
+use Rattle.std.proofs.option.Option.TheSendSync as option
+use Rattle.std.specs.contracts.alloc.Global as Global
+use Rattle.std.specs.contracts.impls.GlobalAllocator.TheImpl.{ghosts}
+use Rattle.brc_thread.specs.contracts.resting.Resting as Resting
+use Rattle.brc_thread.proofs.Sent.{resting_send, retired_send}
 use Rattle.test_threads.specs.contracts.crowd.gate.Gate as Gate
 use Rattle.test_threads.specs.contracts.crowd.lives.Done as Done
 
@@ -10,3 +15,6 @@ gate_sync = search (sendable, crosses) depth 40
 
 pub done_send : IsSend Done.the_row
 done_send = search (sendable, crosses, retired_send) depth 40
+
+pub maybe_send : IsSend (Option.the_row (Resting.the_row Global.the_row ghosts))
+maybe_send = option.the_send _ resting_send

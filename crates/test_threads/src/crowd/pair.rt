@@ -1,9 +1,11 @@
-//! The two threads of a heap: one makes a list, the other takes it out of the globals, and both let it go at once.
+//! The two threads of a heap: one makes a list, the other takes it out of the globals, and both let it go at once, and
+//! leave.
 
+ghost use Rattle.std.specs.Prelude.{◌≡◌};
 ghost use Rattle.brc_heap.specs.Words.{IsUnlocked, Keeps, Owns};
 
-use brc_heap::{Frame, Handle, Key, Mutator, dict_del, dict_put, len_of, new_list};
-use brc_loops::Life;
+use brc_heap::{Frame, Handle, Heap, Key, Mutator, Resting, Retired};
+use brc_heap::{dict_del, dict_put, len_of, new_list};
 use std::alloc::Global;
 use std::sync::Wait;
 use std::thread;
@@ -13,6 +15,9 @@ const LIST: i64 = 1;
 
 /// How often a thread looks whether the other has done its part, before it gives up: for some seconds.
 const LOOKS: u32 = 10_000_000;
+
+/// How many turns a thread that leaves takes at most to take apart what is dead.
+const TURNS: usize = 1 << 20;
 
 /// The globals get a reference to the list: whether they have it.
 fn puts(rt: &impl Wait, frame: &mut Frame, globals: &Handle, list: &Handle) -> bool
@@ -69,8 +74,21 @@ fn makes(rt: &impl Wait, alloc: Global, frame: &mut Frame, globals: &Handle) -> 
     taken
 }
 
-/// The list is taken out of the globals as soon as it is there, and let go: whether it came to that.
-fn takes(rt: &impl Wait, frame: &mut Frame, globals: &Handle) -> bool
+/// Looks so often at the globals.
+fn looks(rt: &impl Wait, frame: &mut Frame, globals: &Handle, count: u32)
+    requires owned { Owns frame.old globals.now }
+    requires unlocked { IsUnlocked frame.old }
+    ensures keeps { Keeps frame.old frame.new }
+    ensures unlocked { IsUnlocked frame.new }
+{
+    for _ in 0..count {
+        let _len = len_of(rt, frame, globals);
+    }
+}
+
+/// The list is taken out of the globals as soon as it is there, and let go after so many looks at them, since the other
+/// thread lets it go a moment later: whether it came to that.
+fn takes(rt: &impl Wait, frame: &mut Frame, globals: &Handle, after: u32) -> bool
     requires owned { Owns frame.old globals.now }
     requires unlocked { IsUnlocked frame.old }
     ensures keeps { Keeps frame.old frame.new }
@@ -79,6 +97,7 @@ fn takes(rt: &impl Wait, frame: &mut Frame, globals: &Handle) -> bool
     for _ in 0..LOOKS {
         match dict_del(rt, frame, globals, &Key::Int(LIST)) {
             Ok(list) => {
+                looks(rt, frame, globals, after);
                 frame.release(list);
                 return true;
             }
@@ -88,28 +107,60 @@ fn takes(rt: &impl Wait, frame: &mut Frame, globals: &Handle) -> bool
     false
 }
 
-/// Thread 1 makes the list, and thread 2 takes it.
-#[derive(Drop)]
-pub(crate) struct Parting {
-    pub(crate) alloc: Global,
+/// What a thread of the two does.
+#[derive(Clone, Copy)]
+pub(crate) enum Part {
+    /// It makes the list.
+    Makes,
+    /// It takes the list, and lets it go after so many looks at the globals.
+    Takes(u32),
 }
 
-impl<R: Wait> Life<R> for Parting {
-    /// Whether the thread has done its part.
-    type Answer = bool;
+/// A thread does its part: whether it came to that.
+fn plays(rt: &impl Wait, alloc: Global, mutator: &mut Mutator, part: Part) -> bool
+    requires bare { mutator.old.len ≡ 0 }
+    requires unlocked { IsUnlocked mutator.old }
+    ensures heap { mutator.new.heap ≡ mutator.old.heap }
+    ensures bare { mutator.new.len ≡ 0 }
+    ensures unlocked { IsUnlocked mutator.new }
+{
+    let Ok(globals) = mutator.globals() else {
+        return false;
+    };
+    let frame = mutator.frame();
+    let done = match part {
+        Part::Makes => makes(rt, alloc, frame, &globals),
+        Part::Takes(after) => takes(rt, frame, &globals, after),
+    };
+    frame.release(globals);
+    done
+}
 
-    fn live(&self, rt: &R, mutator: &mut Mutator) -> bool {
-        let is_first = mutator.thread() == 1;
-        let Ok(globals) = mutator.globals() else {
-            return false;
-        };
-        let frame = mutator.frame();
-        let done = if is_first {
-            makes(rt, self.alloc, frame, &globals)
-        } else {
-            takes(rt, frame, &globals)
-        };
-        frame.release(globals);
-        done
+/// A thread takes apart what is dead and leaves, and finishes after that: what others asked of it, it looks at only then.
+/// One that has too much to take apart settles first.
+fn leaves(rt: &impl Wait, mutator: Mutator) -> Retired
+    requires bare { mutator.len ≡ 0 }
+    requires unlocked { IsUnlocked mutator }
+    ensures heap { result.heap ≡ mutator.entry.heap }
+{
+    match mutator.leave_without_waiting(TURNS) {
+        Ok(leaving) => leaving.finish_all(rt),
+        Err(mutator) => mutator.settle_and_leave(rt),
     }
+}
+
+/// The life of one of the two: whether it has done its part, and what is to be gathered.
+pub(crate) fn parts(
+    rt: &impl Wait,
+    alloc: Global,
+    heap: &Heap,
+    resting: Resting,
+    part: Part,
+) -> (bool, Retired)
+    requires heap { resting.heap ≡ heap.now }
+    ensures heap { result.1.heap ≡ heap.now }
+{
+    let mut mutator = resting.wake(heap);
+    let done = plays(rt, alloc, &mut mutator, part);
+    (done, leaves(rt, mutator))
 }
