@@ -50,8 +50,36 @@ fn sets<R: Abort + Wait, H: HasTable<A>, A: Allocator + Copy>(
     }
 }
 
-/// The new key is refused until there is memory for its pair and its copy; each refusal leaves no entry, and as many
-/// handles as before.
+/// Numbers go in as keys until there is no memory for another pair; the refusal leaves as many entries and handles as
+/// before.
+fn fills<R: Abort + Wait, H: HasTable<A>, A: Allocator + Copy>(
+    rt: &R,
+    scarce: A,
+    frame: &mut Frame<H, A>,
+    dict: &Handle<A>,
+    way: Way,
+)
+    requires { OwnsOne frame.old dict.now }
+    ensures { Stays frame.old frame.new }
+{
+    let handles = frame.len();
+    for key in 1..1_000u32 {
+        let before = entries(rt, frame, dict);
+        match sets(rt, scarce, frame, dict, &Key::Int(key as i64), way) {
+            Ok(is_new) => assert!(rt; is_new),
+            Err(fault) => {
+                same(rt, fault, Fault::OutOfMemory);
+                same(rt, entries(rt, frame, dict), before);
+                same(rt, frame.len(), handles);
+                return;
+            }
+        }
+    }
+    panic!(rt; "memory that is never missing")
+}
+
+/// The new key is refused until there is memory for its pair and its copy; each refusal leaves as many entries and handles
+/// as before.
 fn sets_with_memory<'h, R: Abort + Wait, H: HasTable<&'h LocalHeap>>(
     rt: &R,
     scarce: &'h LocalHeap,
@@ -65,29 +93,32 @@ fn sets_with_memory<'h, R: Abort + Wait, H: HasTable<&'h LocalHeap>>(
     ensures { Stays frame.old frame.new }
 {
     let handles = frame.len();
+    let before = entries(rt, frame, dict);
     for tried in 0..1_000 {
         match sets(rt, scarce, frame, dict, key, way) {
             Ok(is_new) => {
                 assert!(rt; is_new && tried > 1);
-                same(rt, entries(rt, frame, dict), 1);
+                same(rt, entries(rt, frame, dict), before.wrapping_add(1));
                 return;
             }
             Err(fault) => same(rt, fault, Fault::OutOfMemory),
         }
-        same(rt, entries(rt, frame, dict), 0);
+        same(rt, entries(rt, frame, dict), before);
         same(rt, frame.len(), handles);
         assert!(rt; pieces.give_one());
     }
     panic!(rt; "the call never passes")
 }
 
-/// A text's key goes into an empty dictionary once there is memory for it, and another value beside it without any.
+/// A text's key goes into a full or an empty dictionary once there is memory for it, and another value beside it without
+/// any.
 fn goes_in<'h, R: Abort + Wait, H: HasTable<&'h LocalHeap>>(
     rt: &R,
     alloc: Global,
     memories: Memories<&'h LocalHeap>,
     frame: &mut Frame<H, &'h LocalHeap>,
     way: Way,
+    is_full: bool,
 )
     requires { IsUnlocked frame.old }
     ensures { Stays frame.old frame.new }
@@ -96,7 +127,13 @@ fn goes_in<'h, R: Abort + Wait, H: HasTable<&'h LocalHeap>>(
     let text = String::from_str(ample, "a key of its own").expect(rt, "memory");
     let key = Key::Text(Text::new(text));
     let dict = made(scarce, frame, Thing::Dict).expect(rt, "no dictionary is made");
+    if is_full {
+        assert!(rt; sets(rt, scarce, frame, &dict, &Key::Int(0), way) == Ok(true));
+    }
     let mut pieces = Pieces::take_all(alloc, scarce).expect(rt, "a heap never full");
+    if is_full {
+        fills(rt, scarce, frame, &dict, way);
+    }
     sets_with_memory(rt, scarce, &mut pieces, frame, &dict, &key, way);
     let _rest = Pieces::take_all(alloc, scarce).expect(rt, "a heap never full");
     assert!(rt; sets(rt, scarce, frame, &dict, &key, way) == Ok(false));
@@ -105,12 +142,17 @@ fn goes_in<'h, R: Abort + Wait, H: HasTable<&'h LocalHeap>>(
 
 #[test]
 fn a_refused_set_changes_nothing(rt: HostRuntime) {
-    for way in [Way::AtOnce, Way::Late] {
+    for (way, is_full) in [
+        (Way::AtOnce, false),
+        (Way::Late, false),
+        (Way::AtOnce, true),
+        (Way::Late, true),
+    ] {
         let heaps = Heaps::new(rt.alloc(), 1 << 20, 1 << 14).expect(&rt, "memory");
         let memories = heaps.memories();
         let (heap, mut root) = a_heap(&rt, memories.ample, 512);
         let mut thread = a_thread(&rt, memories.ample, &heap, &mut root);
-        goes_in(&rt, rt.alloc(), memories, thread.frame(), way);
+        goes_in(&rt, rt.alloc(), memories, thread.frame(), way, is_full);
         let ledger = thread.settle_and_join(&rt, &mut root, &heap);
         same(&rt, (ledger.allocs, ledger.frees), (1, 1));
         is_empty(&rt, heap, root);
