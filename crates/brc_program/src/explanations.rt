@@ -48,17 +48,6 @@ fn form_of(word: Keyword) -> &'static str
     }
 }
 
-/// Writes the line of these words.
-fn put_words<E: Write>(errors: &mut E, before: &str, text: &str) -> Result<(), Fault>
-    ensures { PutsText (E.contents errors.old) (E.contents errors.new) result
-        (together (codes "brc: why: " ∷ before.now ∷ text.now ∷ (10 ∷ []) ∷ [])) }
-{
-    put_parts(
-        errors,
-        &[b"brc: why: ", before.as_bytes(), text.as_bytes(), b"\n"],
-    )
-}
-
 /// Writes the line of a word that no trace has.
 fn put_unknown_word<E: Write>(errors: &mut E, word: &Excerpt) -> Result<(), Fault>
     ensures { PutsText (E.contents errors.old) (E.contents errors.new) result
@@ -88,13 +77,15 @@ fn put_cause<E: Write>(errors: &mut E, cause: Cause) -> Result<(), Fault>
         }
         Cause::NotAnEvent => "no event begins so",
         Cause::OutOfRange => "a number is out of its range",
-        Cause::NotItsForm(word) => return put_words(
-            errors,
-            "its event has the form ",
-            form_of(word),
-        ),
+        Cause::NotItsForm(word) => {
+            let form = form_of(word).as_bytes();
+            return put_parts(
+                errors,
+                &[b"brc: why: its event has the form ", form, b"\n"],
+            );
+        }
     };
-    put_words(errors, "", text)
+    put_parts(errors, &[b"brc: why: ", text.as_bytes(), b"\n"])
 }
 
 /// The condition that the event fails first, or which part of it, if it has several.

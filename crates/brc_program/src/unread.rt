@@ -140,12 +140,25 @@ fn without_value(word: &[u8]) -> &[u8] {
     word
 }
 
-/// Whether the text begins with the name, and behind it with the end of a quotation or a space.
+/// Whether the text begins with the name, and the quotation ends behind it, or goes on with an option's value.
 fn begins_with(text: &[u8], name: &[u8]) -> bool {
-    text.starts_with(name) && matches!(text.get(name.len()), Some(b'\'' | b' '))
+    match text.strip_prefix(name) {
+        Some(rest) => rest.starts_with(b"'") || rest.starts_with(b" <"),
+        None => false,
+    }
 }
 
-/// Whether a quotation in the text begins with the name.
+/// Whether the first quotation in the text is of the name.
+fn is_quoted_first(text: &[u8], name: &[u8]) -> bool {
+    for (at, byte) in text.iter().enumerate() {
+        if *byte == b'\'' {
+            return begins_with(&text[at + 1..], name);
+        }
+    }
+    false
+}
+
+/// Whether a quotation in the text is of the name.
 fn is_quoted(text: &[u8], name: &[u8]) -> bool {
     for (at, byte) in text.iter().enumerate() {
         if *byte == b'\'' && begins_with(&text[at + 1..], name) {
@@ -155,19 +168,40 @@ fn is_quoted(text: &[u8], name: &[u8]) -> bool {
     false
 }
 
-/// Whether the line of `clap`'s text that says what is wrong quotes the word, up to its value. What has a value too many
-/// has one.
-fn is_meant(line: &[u8], misfit: Misfit, word: &[u8]) -> bool {
+/// Whether the first quotation in the text is of a letter that stands with others behind one dash.
+fn has_letter(text: &[u8], word: &[u8]) -> bool {
+    if !word.starts_with(b"-") || word.starts_with(b"--") {
+        return false;
+    }
+    for letter in word {
+        if is_quoted_first(text, &[b'-', *letter]) {
+            return true;
+        }
+    }
+    false
+}
+
+/// Whether the word is the one that `clap`'s text is of. An option with a value is quoted without it, and letters behind
+/// one dash each by itself. What has a value too many is quoted behind that value.
+fn is_meant(text: &[u8], misfit: Misfit, word: &[u8]) -> bool {
     let name = without_value(word);
-    is_quoted(line, name) && (misfit != Misfit::WithValue || name.len() < word.len())
+    match misfit {
+        Misfit::NotTaken => {
+            is_quoted_first(text, name) || is_quoted_first(text, word) || has_letter(text, word)
+        }
+        Misfit::NoCommand => is_quoted_first(text, word),
+        Misfit::NoValue => name.len() == word.len() && is_quoted_first(text, name),
+        Misfit::WithValue => name.len() < word.len() && is_quoted(text, name),
+        Misfit::Twice => is_quoted_first(text, name),
+    }
 }
 
 /// The first of the words behind the program's name that is meant.
-fn meant_word(words: &[String], line: &[u8], misfit: Misfit) -> Option<Excerpt>
+fn meant_word(words: &[String], text: &[u8], misfit: Misfit) -> Option<Excerpt>
     ensures { IfSome result (IsOneOf words.now) }
 {
     for (at, word) in words.iter().enumerate() {
-        if at > 0 && is_meant(line, misfit, word.as_bytes()) {
+        if at > 0 && is_meant(text, misfit, word.as_bytes()) {
             return Some(Excerpt::of(word.as_bytes()));
         }
     }
@@ -182,8 +216,13 @@ fn unread_word(alloc: Global, words: &[String], error: &Error) -> Option<Unread>
     let Ok(text) = error.to_string(alloc) else {
         return None;
     };
-    let line = text.as_str().lines().next()?;
-    let word = meant_word(words, line.as_bytes(), misfit)?;
+    let text = text.as_str();
+    // A word may have a line feed; but behind a value too many stand other quotations, in the lines of help.
+    let said = match misfit {
+        Misfit::WithValue => text.lines().next()?,
+        _ => text,
+    };
+    let word = meant_word(words, said.as_bytes(), misfit)?;
     Some(Unread::Word(misfit, word))
 }
 
