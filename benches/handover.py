@@ -2,9 +2,11 @@
 """A letter that goes to and fro between two sections: handover.py PEER=COMMAND .. [--turns N] [--rounds N].
 
 Each command gets a script on standard input (`brc run --cells 65536` for brc). Two sections send one integer to each other through two
-mailboxes, N times or 5 N times. A round trip takes (time with 5 N - time with N) / 4 N of wall time; told are the least and the median of
-the rounds in microseconds, the commands interleaved."""
+mailboxes, in one loop of N turns each or in five, one after the other, as the scripts of loops.py have it. A round trip takes (time with
+five - time with one) / 4 N of wall time. Told are, in microseconds, that of the least times, and the median of the rounds. The commands
+are interleaved, and one that ends with another status than 0 or 1 is told."""
 import argparse
+import re
 import shlex
 import statistics
 import subprocess
@@ -36,8 +38,11 @@ end
 def seconds(command, path):
     with open(path, "rb") as script, tempfile.TemporaryFile() as out:
         start = time.perf_counter()
-        subprocess.run(command, stdin=script, stdout=out, stderr=out, check=False)
-        return time.perf_counter() - start
+        status = subprocess.run(command, stdin=script, stdout=out, stderr=out, check=False).returncode
+        took = time.perf_counter() - start
+    if status not in (0, 1):
+        print(f"{shlex.join(command)}: status {status}")
+    return took
 
 
 def main():
@@ -47,17 +52,19 @@ def main():
     args.add_argument("--rounds", type=int, default=9)
     asked = args.parse_args()
     peers = [(it.split("=", 1)[0], shlex.split(it.split("=", 1)[1])) for it in asked.peers]
-    took = {name: [] for name, _ in peers}
+    took = {name: ([], []) for name, _ in peers}
     with tempfile.TemporaryDirectory() as room:
         for times in (1, 5):
             with open(f"{room}/{times}", "w", encoding="utf-8") as it:
-                it.write(SCRIPT.replace("{n}", str(times * asked.turns)))
+                it.write(re.sub(r"repeat .*?end\n", lambda loop: loop[0] * times, SCRIPT.replace("{n}", str(asked.turns)), flags=re.S))
         for _ in range(asked.rounds):
             for name, command in peers:
-                once, five = (seconds(command, f"{room}/{it}") for it in (1, 5))
-                took[name].append((five - once) / (4 * asked.turns) * 1e6)
-    for name, each in took.items():
-        print(f"{name}: {min(each):.2f} {statistics.median(each):.2f} µs a round trip")
+                for times, each in zip((1, 5), took[name]):
+                    each.append(seconds(command, f"{room}/{times}"))
+    for name, (once, five) in took.items():
+        least, rounds = min(five) - min(once), [b - a for a, b in zip(once, five)]
+        told = [it / (4 * asked.turns) * 1e6 for it in (least, statistics.median(rounds))]
+        print(f"{name}: {told[0]:.2f} {told[1]:.2f} µs a round trip")
 
 
 main()
