@@ -63,10 +63,10 @@ vacates at before now after was is new gone so there set stamp uses counted =
     let first : at ≤ at = omega arith in
     let others : (k : ℕ) → k ≢ at → get_or new.uses k 0 ≡ get_or is.uses k 0
     = λ k other. ap (λ (l : List ℕ). get_or l k 0) uses
-        ∙ uses_else is.uses at k (once_more (get_or is.uses at 0)) other in
+    ∙ uses_else is.uses at k (once_more (get_or is.uses at 0)) other in
     let here : get_or new.uses at 0 ≡ vacated (slot before at) (get_or was.uses at 0)
     = counted ∙ ap once_more (so.left at first)
-        ∙ left_by (slot before at) gone (get_or was.uses at 0) (sym (so.there at first) ∙ there) in
+    ∙ left_by (slot before at) gone (get_or was.uses at 0) (sym (so.there at first) ∙ there) in
     record {
       stamp = stamp ∙ so.stamp;
       done = λ k below. elim (cases_order k at) [
@@ -97,7 +97,7 @@ pub spent_bare : (at : ℕ) (before now : List (Option HandleSeen)) (was is : Nu
 spent_bare at before now was is so bare =
     let rest : (k : ℕ) → at ≤ k → get_or is.uses k 0 ≡ vacated (slot before k) (get_or was.uses k 0)
     = λ k past. so.left k past ∙ left_alone (slot before k) (get_or was.uses k 0)
-        (sym (so.there k past) ∙ bare.places k) in
+    (sym (so.there k past) ∙ bare.places k) in
     record {
       stamp = so.stamp;
       uses = λ k inside. elim (cases_order k at) [

@@ -79,10 +79,7 @@ fn put_cause<E: Write>(errors: &mut E, cause: Cause) -> Result<(), Fault>
         Cause::OutOfRange => "a number is out of its range",
         Cause::NotItsForm(word) => {
             let form = form_of(word).as_bytes();
-            return put_parts(
-                errors,
-                &[b"brc: why: its event has the form ", form, b"\n"],
-            );
+            return put_parts(errors, &[b"brc: why: its event has the form ", form, b"\n"]);
         }
     };
     put_parts(errors, &[b"brc: why: ", text.as_bytes(), b"\n"])

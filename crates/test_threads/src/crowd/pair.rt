@@ -4,8 +4,9 @@
 ghost use Rattle.std.specs.Prelude.{◌≡◌};
 ghost use Rattle.brc_heap.specs.Words.{IsUnlocked, Keeps, Owns};
 
-use brc_heap::{Frame, Handle, Heap, Key, Mutator, Resting, Retired};
-use brc_heap::{dict_del, dict_put, len_of, new_list};
+use brc_heap::{
+    Frame, Handle, Heap, Key, Mutator, Resting, Retired, dict_del, dict_put, len_of, new_list,
+};
 use std::alloc::Global;
 use std::sync::Wait;
 use std::thread;
