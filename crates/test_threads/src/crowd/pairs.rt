@@ -1,6 +1,6 @@
 //! A list that two threads let go as they leave, on each of a thousand heaps. Its maker has put it into the globals and
-//! kept a handle, and the other thread has taken it out there. The one lets it go before, after or while the other does,
-//! and it is freed once, by either of them.
+//! kept a handle, and the other thread has taken it out there. The taker lets it go after 0 to 63 looks at the
+//! globals, so the distance of the two changes from heap to heap. It is freed once, by either of them.
 
 ghost use Rattle.std.specs.Prelude.{◌≡◌, IfSome};
 
@@ -101,7 +101,7 @@ where
     R: Threads + Wait + Sync,
 {
     for before in 0..HEAPS {
-        // On most the two let it go one after the other, and on some at the same time.
+        // (how often the two overlap isn't measured)
         if !is_freed_once(rt, alloc, before % 64) {
             return before;
         }
