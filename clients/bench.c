@@ -83,6 +83,9 @@ int main(int argc, char **argv) {
     TIME("retain + list_push + list_pop + release", count / 4, brc_retain(&t, own, &one); brc_list_push(&t, list, one);
          brc_list_pop(&t, list, &one); brc_release(&t, one));
     MUST(brc_retain(&t, own, &one));
+    TIME("list_push + list_pop", count / 4, brc_list_push(&t, list, one); brc_list_pop(&t, list, &one));
+    MUST(brc_release(&t, one));
+    MUST(brc_retain(&t, own, &one));
     MUST(brc_dict_put_int(&t, dict, 1, one, &old));
     MUST(brc_retain(&t, own, &one));
     MUST(brc_put(&t, dict, "key", one, &old));

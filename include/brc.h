@@ -164,7 +164,8 @@ void brc_heap_drop(brc_heap);
  * status: of such a thread they return 0, `turns` and 0. */
 
 /* Registers a thread, and writes it to `at`, the field of a brc_thread. The first call is for the
- * thread that has the heap's variable, the second for any registered thread.
+ * thread that has the heap's variable, the second for any registered thread. All memory for the
+ * thread's numbers is had here: 1 MB.
  * OUT_OF_MEMORY for what `at` leads to; GONE; OUT_OF_MEMORY for its numbers; BUSY; TOO_MANY_THREADS;
  * OUT_OF_MEMORY. */
 brc_status brc_thread_new(brc_heap *, void **at);

@@ -4,13 +4,15 @@ ghost use Rattle.std.specs.Prelude.{◌≡◌, ◌≢◌, ◌<◌};
 ghost use Rattle.brc_count.specs.Frames.{IsUnlocked, Owns};
 ghost use Rattle.brc_count.specs.Owned.{Keeps};
 
-use crate::operations::{Operation, strewn};
+use crate::containers::{Spot, put_in};
+use crate::operations::{On, Operation, strewn};
 use brc_count::biased::HasTable;
+use brc_count::block::KeyRef;
 use brc_count::{Frame, Handle};
-use brc_dicts::{dict_find, dict_put};
-use brc_loops::{Passing, pass_on};
-use brc_things::new_int;
-use brc_words::Key;
+use brc_dicts::{dict_find, dict_find_by, dict_put};
+use brc_loops::{Passing, Source, pass_on, repeat};
+use brc_things::{new_dict, new_int};
+use brc_words::{Key, Text};
 use std::alloc::Allocator;
 use std::sync::Wait;
 
@@ -141,5 +143,86 @@ impl<'r, R: Wait, H: HasTable<A>, A: Allocator + Copy> Operation<H, A> for PutsA
         } = pass_on(turning, frame, self.n)?;
         frame.release(value);
         Some(())
+    }
+}
+
+/// The text key of a dictionary with two keys.
+const NAME: &str = "key";
+
+/// The key that is found.
+#[derive(Clone, Copy)]
+pub enum Sought {
+    /// 1.
+    Number,
+    /// `NAME`.
+    Name,
+}
+
+/// The reference beside a key of a dictionary with two keys is found, and released.
+#[derive(Drop)]
+pub struct Seek<'r, R> {
+    pub rt: &'r R,
+    pub sought: Sought,
+}
+
+impl<'r, R: Wait, H: HasTable<A>, A: Allocator> Operation<H, A> for Seek<'r, R> {
+    #[inline(always)]
+    fn run_on(&self, frame: &mut Frame<H, A>, dict: &Handle<A>, _before: u64) -> Option<()> {
+        let key = match self.sought {
+            Sought::Number => KeyRef::Int(1),
+            Sought::Name => KeyRef::Text(NAME),
+        };
+        let found = dict_find_by(self.rt, frame, dict, key).ok()?;
+        frame.release(found);
+        Some(())
+    }
+}
+
+/// An integer goes beside 1, and then one beside `NAME`.
+#[derive(Drop)]
+struct PutOne<'r, R, A> {
+    rt: &'r R,
+    alloc: A,
+}
+
+impl<'r, R, A: Allocator + Copy> PutOne<'r, R, A> {
+    /// The key of this turn; None if its text can't be had.
+    fn key(&self, before: u64) -> Option<Key<A>> {
+        if before == 0 {
+            return Some(Key::Int(1));
+        }
+        let mut name = String::new(self.alloc);
+        name.push_str(NAME).ok()?;
+        Some(Key::Text(Text::new(name)))
+    }
+}
+
+impl<'r, R: Wait, H: HasTable<A>, A: Allocator + Copy> Operation<H, A> for PutOne<'r, R, A> {
+    fn run_on(&self, frame: &mut Frame<H, A>, dict: &Handle<A>, before: u64) -> Option<()> {
+        let key = self.key(before)?;
+        let value = new_int(self.alloc, frame, 1_000).ok()?;
+        put_in(self.rt, frame, dict, Spot::Beside(key), value)
+    }
+}
+
+/// New dictionaries with two keys.
+#[derive(Drop)]
+pub struct TwoKeys<'r, R, A> {
+    pub rt: &'r R,
+    pub alloc: A,
+}
+
+impl<'r, R: Wait, H: HasTable<A>, A: Allocator + Copy> Source<H, A> for TwoKeys<'r, R, A> {
+    fn next(&self, frame: &mut Frame<H, A>, _before: u64) -> Option<Handle<A>> {
+        let rt = self.rt;
+        let alloc = self.alloc;
+        let dict = new_dict(alloc, frame).ok()?;
+        match repeat(&On(&dict, PutOne { rt, alloc }), frame, 2) {
+            Some(()) => Some(dict),
+            None => {
+                frame.release(dict);
+                None
+            }
+        }
     }
 }

@@ -7,7 +7,7 @@ ghost use Rattle.brc_handles.specs.Handles.{OwnsEach};
 
 use crate::containers::{Full, Kind, NewList10};
 use crate::deaths::{Chains, life_of};
-use crate::dicts::{Keys, PutsAndFinds};
+use crate::dicts::{Keys, PutsAndFinds, Seek, Sought, TwoKeys};
 use crate::globals::{first_key, take_from_globals};
 use crate::letters::{Post, ReceiveOne, SENDERS, SendOne};
 use crate::lists::PushesAndPops;
@@ -91,6 +91,7 @@ fn handles_for(case: Case) -> u64 {
     match case {
         Case::PairOwn | Case::PairShared | Case::NewList10 | Case::NewList10Apart => 1,
         Case::List | Case::ListShared | Case::Dict | Case::Dict4 | Case::Mail => 1,
+        Case::FindInt | Case::FindText => 1,
         Case::PairOwn8 => 8,
         Case::PairOwn256 => 256,
         Case::PairForeign => FOREIGN as u64,
@@ -130,6 +131,7 @@ impl<'r, R: Wait, H: HasTable<A>, A: Allocator + Copy> Source<H, A> for Worker<'
             Case::Wide => Full::new(rt, alloc, Kind::List, n).next(frame, before),
             Case::Dict => Full::new(rt, alloc, Kind::Dict, Keys::Many.count()).next(frame, before),
             Case::Dict4 => Full::new(rt, alloc, Kind::Dict, Keys::Few.count()).next(frame, before),
+            Case::FindInt | Case::FindText => TwoKeys { rt, alloc }.next(frame, before),
             Case::Chain | Case::MakeChain | Case::MakeChainNear => {
                 let count = n;
                 Chains { rt, alloc, count }.next(frame, before)
@@ -187,6 +189,14 @@ impl<'r, R: Wait + Clock + CpuClock, A: Allocator + Copy> Worker<'r, R, A> {
             Case::Dict4 => {
                 let keys = Keys::Few;
                 PutsAndFinds { rt, alloc, keys, n }.run_on(frame, handle, 0)
+            }
+            Case::FindInt => {
+                let sought = Sought::Number;
+                repeat(&On(handle, Seek { rt, sought }), frame, n)
+            }
+            Case::FindText => {
+                let sought = Sought::Name;
+                repeat(&On(handle, Seek { rt, sought }), frame, n)
             }
             Case::Mail => {
                 if frame.thread() > SENDERS {

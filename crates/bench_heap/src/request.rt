@@ -35,6 +35,10 @@ pub enum Case {
     Dict,
     /// The same of 4 keys.
     Dict4,
+    /// A find beside the integer key of a dictionary of the thread's own, which has a text key too, and a release.
+    FindInt,
+    /// The same beside the text key.
+    FindText,
     /// A send of a new integer by each of two threads, and its receiving by a third.
     Mail,
     /// One of so many lists, of which each holds the next, is taken apart.
@@ -60,7 +64,7 @@ const FEW_CELLS: u32 = 512;
 
 /// The names of the cases.
 pub const CASES: &str =
-    "pair_own pair_own8 pair_own256 pair_shared pair_foreign new_int new_text16 new_list10 new_int_apart new_text16_apart new_list10_apart list list_shared dict dict4 mail chain make_chain make_chain_near wide claim_full claim_full_near thread_life0 thread_life1 thread_life200 thread_life0_large thread_life1_large thread_life1000_large leave10000";
+    "pair_own pair_own8 pair_own256 pair_shared pair_foreign new_int new_text16 new_list10 new_int_apart new_text16_apart new_list10_apart list list_shared dict dict4 find_int find_text mail chain make_chain make_chain_near wide claim_full claim_full_near thread_life0 thread_life1 thread_life200 thread_life0_large thread_life1_large thread_life1000_large leave10000";
 
 /// What a line asks for.
 #[derive(Clone, Copy)]
@@ -96,6 +100,8 @@ fn case_of(name: &str) -> Option<Case> {
         "list_shared" => Some(Case::ListShared),
         "dict" => Some(Case::Dict),
         "dict4" => Some(Case::Dict4),
+        "find_int" => Some(Case::FindInt),
+        "find_text" => Some(Case::FindText),
         "mail" => Some(Case::Mail),
         "chain" => Some(Case::Chain),
         "make_chain" => Some(Case::MakeChain),

@@ -10,7 +10,8 @@ use Rattle.brc_table.specs.law.world.declared.row.Hand.TheVariants as hands
 use Rattle.brc_table.specs.law.world.Lists.{is_marked, front_of}
 use Rattle.brc_table.specs.law.world.Steps.{is_free_step, takes_block, worklist_with}
 use Rattle.brc_table.proofs.law.world.Changes.{read_here, read_there}
-use Rattle.brc_table.specs.law.known.Items.{Item, Did, Saw, Lost, Part, part_of, part_by, part_after, meant, cell_told, has_found}
+use Rattle.brc_table.specs.law.known.Items.{Item, Stepped, Loaded, Lost, Part, part_of, part_by, part_after, meant}
+use Rattle.brc_table.specs.law.known.Items.{cell_told, has_found}
 use Rattle.brc_table.specs.law.known.Items.{has_without}
 use Rattle.brc_table.specs.law.known.Going_On.{handing, settling, taking}
 use Rattle.brc_table.specs.law.rule.declared.told.LogItem.{LogItem}
@@ -27,12 +28,12 @@ with_wide false true c marks = length-set marks c true
 with_wide false false c marks = refl
 
 after_wide : (n : ℕ) (part : Part) (x : Item) → length (part_after n part x).worklist ≡ length part.worklist
-after_wide n part (Did s number entries) = by_cell (meant part s)
+after_wide n part (Stepped s number entries) = by_cell (meant part s)
   where
     by_cell : (m : Option ℕ) → length (part_by n part s number entries m).worklist ≡ length part.worklist
     by_cell None = refl
     by_cell (Some c) = with_wide (is_free_step s) (takes_block s (cell_told s number)) c part.worklist
-after_wide n part (Saw word number) = refl
+after_wide n part (Loaded word number) = refl
 after_wide n part (Lost word number) = refl
 
 items_wide : (n : ℕ) (items : List Item) → length (part_of n items).worklist ≡ n

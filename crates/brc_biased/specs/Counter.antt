@@ -17,6 +17,10 @@ pub record CounterSeen (A : Type 0) : Type 0 where
 abbrev pub heap_of : {A : Type 0} → SeatSeen A → ℕ → ℕ → TableSeen
 heap_of seat cells limit = record { table = seat.table; cells = cells; local_limit = limit }
 
+-- the thread counts the mortal object, with more than one reference
+abbrev pub CountsMore : ℕ → List LogItem → ℕ → Type 0
+CountsMore n log c = (FIRST_MORTAL ≤ c) × (1 < counts_seen n log c)
+
 -- The number kept for a mortal cell is the thread's local count of it, as its log tells it: 0 where it doesn't count
 -- there on the local word. The number kept for an immortal is above each limit, as its local word is.
 pub record CountsFit (n : ℕ) (log : List LogItem) (counts : List ℕ) : Type 0 where

@@ -1,7 +1,8 @@
 -- The lists of events by which a reference goes. Loads stand between events, as notes, and change nothing.
-use Rattle.std.specs.Prelude.{◌≡◌, ◌≢◌, ◌+◌, ◌-◌, ◌/◌, ◌%◌, ◌^◌, ◌<◌, ◌≤◌, ℕ, Bool, true, false, List, ◌∷◌, Option}
+use Rattle.std.specs.Prelude.{◌≡◌, ◌≢◌, ◌+◌, ◌-◌, ◌/◌, ◌%◌, ◌<◌, ◌≤◌, ℕ, Bool, true, false, List, ◌∷◌, Option}
 use Rattle.std.specs.Prelude.{None, IfSome}
 use Rattle.brc_words.specs.declared.limits.TheConstants.{FIRST_MORTAL}
+use Rattle.brc_words.specs.declared.look.TheConstants.{MERGED_BITS, NO_COUNT, ONE_COUNT}
 use Rattle.brc_table.specs.block.declared.payload.Payload.{Payload}
 use Rattle.brc_table.specs.law.world.declared.event.Dropped.{Dropped}
 use Rattle.brc_table.specs.law.world.declared.event.LastDropped.TheVariants as lasts
@@ -21,10 +22,6 @@ use Rattle.brc_table.specs.law.steps.Taking.{AreCells}
 use Rattle.brc_table.specs.Knowing.{entries_of}
 use Rattle.brc_table.specs.Moving.{is_there, found_in, out_with}
 use Rattle.brc_table.specs.Seated.{SeatSeen}
-
--- a shared word in default, of the count 0
-abbrev pub NO_COUNT : ℕ
-NO_COUNT = 2 ^ 42
 
 module _ {A : Type 0} where
   -- the step is the newest, and took the object's block exactly where the number that it found says that the object is
@@ -64,10 +61,10 @@ module _ {A : Type 0} where
 
   -- a reference that is asked for, or turns out to be late
   pub data Asks (drop : Dropped) (c : ℕ) (block : Option (ℕ × Payload A)) (before log : List LogItem) : Type 0 where
-    AskedLate : (found : ℕ) → found % 4 ≢ 0 → EndsByStep (LastDown (lasts.Dropped drop)) c block
+    AskedLate : (found : ℕ) → found % ONE_COUNT ≢ 0 → EndsByStep (LastDown (lasts.Dropped drop)) c block
         (Stepped (Ask drop) found Nothing ∷ before) log
         → Asks drop c block before log
-    AskTurned : (found : ℕ) → found % 4 ≡ 0 → Asked c block (Stepped (Ask drop) found Nothing ∷ before) log
+    AskTurned : (found : ℕ) → found % ONE_COUNT ≡ 0 → Asked c block (Stepped (Ask drop) found Nothing ∷ before) log
         → Asks drop c block before log
 
   -- A reference to an object on whose local word the thread doesn't count. Its shared word was found queued or merged;
@@ -75,16 +72,16 @@ module _ {A : Type 0} where
   -- or below, or the word moved between the look and the exchange.
   pub data GoesShared (drop : Dropped) (c : ℕ) (block : Option (ℕ × Payload A))
       (before log : List LogItem) : Type 0 where
-    SharedRisen : (word : ℕ) → word % 4 ≢ 0 → EndsByStep (LastDown (lasts.Dropped drop)) c block
+    SharedRisen : (word : ℕ) → word % ONE_COUNT ≢ 0 → EndsByStep (LastDown (lasts.Dropped drop)) c block
         (Loaded (Of Shared c) word ∷ before) log
         → GoesShared drop c block before log
-    SharedCounted : (word : ℕ) → word % 4 ≡ 0 → block ≡ None
+    SharedCounted : (word : ℕ) → word % ONE_COUNT ≡ 0 → block ≡ None
         → log ≡ Stepped (SharedDown drop) word Nothing ∷ Loaded (Of Shared c) word ∷ before
         → GoesShared drop c block before log
-    SharedNoCount : (word : ℕ) → word % 4 ≡ 0 → word < NO_COUNT + 4
+    SharedNoCount : (word : ℕ) → word % ONE_COUNT ≡ 0 → word < NO_COUNT + ONE_COUNT
         → Asks drop c block (Loaded (Of Shared c) word ∷ before) log
         → GoesShared drop c block before log
-    SharedMoved : (word found : ℕ) → word % 4 ≡ 0 → NO_COUNT + 4 ≤ word → found ≢ word
+    SharedMoved : (word found : ℕ) → word % ONE_COUNT ≡ 0 → NO_COUNT + ONE_COUNT ≤ word → found ≢ word
         → Asks drop c block (Lost (Of Shared c) found ∷ Loaded (Of Shared c) word ∷ before) log
         → GoesShared drop c block before log
 
@@ -131,8 +128,9 @@ module _ {A : Type 0} where
 
   -- a popped entry is counted down, after its object was found merged or is merged by the thread
   pub data Settled (c : ℕ) (block : Option (ℕ × Payload A)) (before log : List LogItem) : Type 0 where
-    SettledMerged : (word : ℕ) → word % 4 ≡ 3
+    SettledMerged : (word : ℕ) → word % ONE_COUNT ≡ MERGED_BITS
         → EndsByStep (LastDown (lasts.Popped c)) c block (Loaded (Of Shared c) word ∷ before) log
         → Settled c block before log
-    SettledMerging : (word : ℕ) → word % 4 ≢ 3 → MergesPopped c block (Loaded (Of Shared c) word ∷ before) log
+    SettledMerging : (word : ℕ) → word % ONE_COUNT ≢ MERGED_BITS
+        → MergesPopped c block (Loaded (Of Shared c) word ∷ before) log
         → Settled c block before log

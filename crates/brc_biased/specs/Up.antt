@@ -1,5 +1,6 @@
 -- Counting up: what a caller owes, and which event it is.
 use Rattle.std.specs.Prelude.{◌≡◌, ◌%◌, ◌==◌, not, ◌<◌, ℕ, Bool, true, List, ◌∷◌, Some}
+use Rattle.brc_words.specs.declared.look.TheConstants.{ONE_COUNT}
 use Rattle.brc_table.specs.law.world.declared.event.Source.{Source}
 use Rattle.brc_table.specs.law.world.declared.event.Step.TheVariants.{LocalUp, SharedUp}
 use Rattle.brc_table.specs.law.known.Items.{meant}
@@ -30,7 +31,7 @@ pub record RaisedImmortal (source : Source) (k : ℕ) (before log : List LogItem
 pub record RaisedShared (source : Source) (k : ℕ) (before log : List LogItem) (risen : Bool) : Type 0 where
   pub found : ℕ
   pub told : log ≡ Stepped (SharedUp source k) found Nothing ∷ before
-  pub says : risen ≡ not (found % 4 == 0)
+  pub says : risen ≡ not (found % ONE_COUNT == 0)
 
 -- what a log tells its thread besides the counts, which are the counter's own matter: its part of the world, the dead
 -- blocks that it has, and what it has locked

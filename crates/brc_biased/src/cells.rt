@@ -1,8 +1,9 @@
 //! Cells: an object is born in one that the thread has claimed, and one that is dead and empty is given back.
 
-ghost use Rattle.std.specs.Prelude.{◌≡◌, ◌<◌, ◌≤◌, ◌^◌, ◌∷◌, [], ℕ, true, None, Some};
+ghost use Rattle.std.specs.Prelude.{◌≡◌, ◌<◌, ◌≤◌, ◌∷◌, [], ℕ, true, None, Some};
 ghost use Rattle.atomic_table.specs.Table.{rest};
 ghost use Rattle.brc_words.specs.declared.limits.TheConstants.{FIRST_MORTAL};
+ghost use Rattle.brc_words.specs.declared.look.TheConstants.{NO_COUNT};
 ghost use Rattle.brc_words.specs.Kinds.{is_mortal};
 ghost use Rattle.brc_table.specs.law.world.declared.event.Step.TheVariants as steps;
 ghost use Rattle.brc_table.specs.law.world.declared.row.Hand.TheVariants as hands;
@@ -14,7 +15,7 @@ ghost use Rattle.brc_table.specs.law.rule.declared.told.LogItem.TheVariants as t
 ghost use Rattle.brc_table.specs.law.rule.Logs.{kind_in, entries_in};
 ghost use Rattle.brc_table.specs.law.rule.Seen.{part_seen, risen_seen};
 ghost use Rattle.brc_table.specs.law.world.declared.event.Dropped.TheVariants as drops;
-ghost use Rattle.brc_table.specs.law.world.Lists.{place_at};
+ghost use Rattle.brc_table.specs.law.world.Lists.{WORD_LIMIT, place_at};
 ghost use Rattle.brc_table.specs.law.steps.Owing.{MayCarry};
 ghost use Rattle.brc_table.specs.Knowing.{known_seen, KeepsNotes};
 ghost use Rattle.brc_table.specs.Seated.{Continues};
@@ -49,7 +50,7 @@ impl<H: HasTable<A>, A: Allocator> Counter<H, A> {
         ensures seat { Continues self.old.seat self.new.seat }
         ensures told { self.new.seat.log ≡
             told.Stepped (steps.Birth block.0 kind place) self.old.seat.thread (moves.Put block.0 (contents_of block.1))
-            ∷ told.Stepped (steps.InitShared block.0) (2 ^ 42) moves.Nothing
+            ∷ told.Stepped (steps.InitShared block.0) NO_COUNT moves.Nothing
             ∷ told.Stepped (steps.InitLocal block.0) 1 moves.Nothing ∷ self.old.seat.log }
         ensures home { self.new.seat.slots ≡ rest self.old.seat.slots }
         ensures knows { KnowsPart self.old.heap.cells self.new.seat.log
@@ -83,7 +84,7 @@ impl<H: HasTable<A>, A: Allocator> Counter<H, A> {
         ensures knows { KnowsPart self.old.heap.cells self.new.seat.log
             (giving_back cell (known_seen self.old.heap.cells self.old.seat.log)) }
         ensures keeps { KeepsNotes self.old.heap.cells self.old.seat.log self.new.seat.log }
-        ensures few { (part_seen self.old.heap.cells self.new.seat.log).row.frees < 2 ^ 64 }
+        ensures few { (part_seen self.old.heap.cells self.new.seat.log).row.frees < WORD_LIMIT }
     {
         if self.counts[cell as usize] == 0 {
             clear_owned(&mut self.owned, cell);

@@ -1,14 +1,18 @@
 //! Counting down: a reference in a place of the frame goes, or the last entry of a dead block.
 
-ghost use Rattle.std.specs.Prelude.{◌≡◌, ◌≢◌, ◌<◌, ℕ, List, IfSome, IsTrue, true};
+ghost use Rattle.std.specs.Prelude.{◌≡◌, ◌≢◌, ◌<◌, ◌-◌, ◌∷◌, ℕ, List, IfSome, IsTrue, IsFalse, true, false, None, []};
 ghost use Rattle.brc_table.specs.law.world.declared.row.Hand.TheVariants as hands;
 ghost use Rattle.brc_table.specs.law.rule.Logs.{entries_in};
-ghost use Rattle.brc_table.specs.law.rule.Seen.{risen_seen};
+ghost use Rattle.brc_table.specs.law.world.declared.event.Step.TheVariants as steps;
+ghost use Rattle.brc_table.specs.law.rule.declared.told.Moved.TheVariants as moves;
+ghost use Rattle.brc_table.specs.law.rule.declared.told.LogItem.TheVariants as told;
+ghost use Rattle.brc_table.specs.law.rule.Seen.{counts_seen, risen_seen};
 ghost use Rattle.brc_table.specs.Knowing.{known_seen, entries_of};
 ghost use Rattle.brc_table.specs.Moving.{is_there};
 ghost use Rattle.brc_table.specs.Seated.{Continues};
 ghost use Rattle.brc_table.specs.Shown.{contents_of};
 ghost use Rattle.brc_biased.specs.Bounded.{IsBounded};
+ghost use Rattle.brc_biased.specs.Counter.{CountsMore};
 ghost use Rattle.brc_biased.specs.Released.{IsTakenBlock, Released};
 ghost use Rattle.brc_biased.specs.Standing.{HasDead, MayDrop, FillsNoPlace, MayCountDown, entries_left, released};
 ghost use Rattle.brc_biased.specs.Up.{KnowsPart};
@@ -23,6 +27,50 @@ use brc_words::FIRST_MORTAL;
 use std::alloc::Allocator;
 
 impl<H: HasTable<A>, A: Allocator> Counter<H, A> {
+    #[tactic(auto, using(crate::proofs::Owning::owns_less))]
+    /// Gives a reference up that is one of several which the thread counts, in one event; so the object lives on. Else
+    /// it does nothing, and returns false: the object is immortal, or this is the thread's only count of it, or the
+    /// thread doesn't count it on the local word.
+    #[inline(always)]
+    pub fn give_up_counted(&mut self, drop: Dropped, cell: u32) -> bool
+        requires inside { cell < self.old.heap.cells }
+        requires holds { MayDrop self.old.heap.cells self.old.seat.log drop cell }
+
+        ensures heap { self.new.heap ≡ self.old.heap }
+        ensures seat { Continues self.old.seat self.new.seat }
+        ensures counts { IsTrue result → CountsMore self.old.heap.cells self.old.seat.log cell }
+        ensures other { IsFalse result → ¬ CountsMore self.old.heap.cells self.old.seat.log cell }
+        ensures unchanged { IsFalse result → self.new ≡ self.old }
+
+        // Of a reference that went, what `give_up` says of one that ended no object.
+        ensures told { IsTrue result → self.new.seat.log ≡ told.Stepped (steps.LocalDown drop)
+            (counts_seen self.old.heap.cells self.old.seat.log cell - 1) moves.Nothing ∷ self.old.seat.log }
+        ensures bounded { IsBounded self.old.seat.log self.new.seat.log }
+        ensures block { IsTrue result → IsTakenBlock self.old.heap.cells cell None self.old.seat self.new.seat }
+        ensures knows { IsTrue result → KnowsPart self.old.heap.cells self.new.seat.log
+            (released false drop cell [] (known_seen self.old.heap.cells self.old.seat.log)) }
+        ensures stands { IsTrue result → MayCountDown self.old.heap.cells self.new.seat.log hands.Free }
+        ensures keeps { FillsNoPlace self.old.heap.cells self.old.seat.log self.new.seat.log }
+    {
+        let count = self.counts[cell as usize];
+        if cell < FIRST_MORTAL || count < 2 {
+            return false;
+        }
+        // The thread's own memory comes first, as in `give_up`.
+        self.counts[cell as usize] = count - 1;
+        match release_own(
+            self.heap.table(),
+            &mut self.seat,
+            &mut self.owned,
+            drop,
+            cell,
+            count,
+        ) {
+            None => true,
+            Some(_ended) => unreachable!(),
+        }
+    }
+
     #[tactic(auto, using(crate::proofs::Owning::owns_less))]
     /// Gives a reference up, in at most `MOST_EVENTS` events whatever others do, with one lost exchange in the log, and
     /// answers the block of the object that this ended, if it did (PEP 703, "Biased Reference Counting"). `has_risen`

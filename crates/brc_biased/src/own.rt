@@ -1,6 +1,6 @@
 //! The end of an own object's local count.
 
-ghost use Rattle.std.specs.Prelude.{◌≡◌, ◌-◌, ◌==◌, ◌<◌, ◌≤◌, ◌≢◌, ℕ, if◌then◌else◌, true, length};
+ghost use Rattle.std.specs.Prelude.{◌≡◌, ◌-◌, ◌==◌, ◌<◌, ◌≤◌, ◌≢◌, ℕ, if◌then◌else◌, true, length, None};
 ghost use Rattle.brc_words.specs.declared.limits.TheConstants.{FIRST_MORTAL};
 ghost use Rattle.brc_table.specs.law.world.Heap.{words_for};
 ghost use Rattle.brc_table.specs.law.world.Lists.{bit_of};
@@ -96,6 +96,7 @@ pub(crate) fn release_own<A: Allocator>(
     ensures words { length owned.new.items ≡ length owned.old.items }
     ensures others { (c : ℕ) → c ≢ cell → bit_of owned.new.items c ≡ bit_of owned.old.items c }
     ensures kept { 1 < count → owned.new ≡ owned.old }
+    ensures lives { 1 < count → result ≡ None }
 {
     table.local_down(seat, drop, cell, count);
     if count == 1 {

@@ -1,6 +1,7 @@
 //! A popped entry: a reference that went through the thread's merge queue, and is the thread's to deal with.
 
 ghost use Rattle.std.specs.Prelude.{◌≡◌, ◌<◌, ◌%◌, ◌≢◌, ◌==◌, ℕ, if◌then◌else◌, IfSome, Some, true, false};
+ghost use Rattle.brc_words.specs.declared.look.TheConstants.{MERGED_BITS, ONE_COUNT};
 ghost use Rattle.brc_table.specs.law.world.Lists.{bit_of};
 ghost use Rattle.brc_table.specs.law.world.Steps.{is_active};
 ghost use Rattle.brc_table.specs.law.world.declared.event.LastDropped.TheVariants as lasts;
@@ -41,7 +42,7 @@ pub(crate) fn merge_popped<A: Allocator>(
     requires active { is_active (part_seen table.now.cells seat.old.log).row.stage ≡ true }
     requires popped { bit_of (part_seen table.now.cells seat.old.log).popped cell ≡ 1 }
     requires found { noted fields.Shared cell seat.old.log ≡ Some shared }
-    requires unmerged { shared % 4 ≢ 3 }
+    requires unmerged { shared % ONE_COUNT ≢ MERGED_BITS }
     ensures told { MergesPopped cell result seat.old.log seat.new.log }
     ensures block { IsTakenBlock table.now.cells cell result seat.old seat.new }
     ensures seat { Continues seat.old seat.new }

@@ -1,14 +1,16 @@
 -- The clauses of each call by numbers as one fact, of the client before it and behind it and of its answer. Who makes
 -- such a call for somebody else, as an export for C does, cites it.
-use Rattle.std.specs.Prelude.{◌≡◌, ◌≢◌, ◌<◌, ◌≤◌, ◌⊎◌, ℕ, Bool, List, [], Option, Some, Result, Ok, Err, IfOk, IfErr, OnOk}
+use Rattle.std.specs.Prelude.{◌≡◌, ◌≢◌, ◌<◌, ◌≤◌, ◌-◌, ◌⊎◌, ℕ, Bool, List, [], Option, Some, Result, Ok, Err, IfOk, IfErr, OnOk}
 use Rattle.std.specs.Prelude.{OnErr, IfSome, IsTrue, IsFalse}
 use Rattle.std.specs.declared.alloc.Global.{Global}
 use Rattle.brc_words.specs.declared.fault.Fault.{Fault}
 use Rattle.brc_words.specs.declared.fault.Fault.TheVariants as faults
 use Rattle.brc_words.specs.declared.key.Key.{Key}
 use Rattle.brc_count.specs.declared.handed.HandedBack.{HandedBack}
-use Rattle.brc_count.specs.Frames.{FrameSeen, HandleSeen, KeepsHandles, word_asked}
+use Rattle.brc_count.specs.Frames.{FrameSeen, HandleSeen, KeepsHandles, Turns, word_asked}
+use Rattle.brc_count.specs.biased.Bounded.{IsBounded}
 use Rattle.brc_count.specs.Locking.{cell_in}
+use Rattle.brc_count.specs.Polling.{Polled}
 use Rattle.brc_things.specs.Makers.{truth_cell}
 use Rattle.brc_dicts.specs.Calls.{DictPair}
 use Rattle.brc_handles.specs.Handles.{filled, IsBare}
@@ -54,10 +56,11 @@ pub record GivesPair (dict index : ℕ) (old new : ClientSeen) (answer : Result 
 
 -- ---- a call that spends a number
 
--- the reference of the number went, and it names nothing; or it named none, and nothing was done
+-- The reference of the number went, by few events, and it names nothing; or it named none, and nothing was done.
 pub record LetsGo (number : ℕ) (old new : ClientSeen) (answer : Result (Unit {0}) Status) : Type 0 where
   pub released : OnOk answer (Releases old new number)
   pub spent : OnOk answer (SpendsName old new number)
+  pub bounded : IsBounded old.frame.seat.log new.frame.seat.log
   pub refused : IfErr answer (NamesNone old number)
   pub unchanged : OnErr answer (new ≡ old)
 
@@ -118,6 +121,7 @@ pub record CountsReferences (old new : ClientSeen) (answer : ℕ) : Type 0 where
 -- what others asked for was dealt with
 pub record Polls (old new : ClientSeen) (told : ℕ) : Type 0 where
   pub handles : KeepsHandles old.frame new.frame
+  pub polled : Polled old.frame new.frame told
   pub quiet : told ≡ 0 → new.frame.works ≡ old.frame.works
   pub keeps : KeepsNumbers old new
 
@@ -125,6 +129,7 @@ pub record Polls (old new : ClientSeen) (told : ℕ) : Type 0 where
 pub record TakesApart (turns : ℕ) (old new : ClientSeen) (spare : ℕ) : Type 0 where
   pub handles : KeepsHandles old.frame new.frame
   pub few : spare ≤ turns
+  pub turned : Turns old.frame (turns - spare) new.frame
   pub done : 0 < spare → new.frame.works ≡ []
   pub keeps : KeepsNumbers old new
 

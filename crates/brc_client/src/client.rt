@@ -1,8 +1,11 @@
 //! A thread's references by numbers: how they are found, made more and let go.
 
-ghost use Rattle.std.specs.Prelude.{◌≡◌, ◌<◌, ◌≤◌, ◌⊎◌, ℕ, Some, None, [], length, slice_set, IfOk, IfErr};
+ghost use Rattle.std.specs.Prelude.{◌≡◌, ◌-◌, ◌<◌, ◌≤◌, ◌⊎◌, ℕ, Some, None, [], length, slice_set, IfOk, IfErr};
 ghost use Rattle.std.specs.Prelude.{OnOk, OnErr};
-ghost use Rattle.brc_count.specs.Frames.{IsUnlocked, KeepsHandles, ledger_seen, word_asked};
+ghost use Rattle.brc_count.specs.biased.Bounded.{IsBounded};
+ghost use Rattle.brc_count.specs.Owned.{Loses};
+ghost use Rattle.brc_count.specs.Polling.{Polled};
+ghost use Rattle.brc_count.specs.Frames.{Owns, Turns, IsUnlocked, KeepsHandles, ledger_seen, word_asked};
 ghost use Rattle.brc_handles.specs.Handles.{slot, filled, IsApart, IsBare, ComesIn};
 ghost use Rattle.brc_client.specs.Numbers.{number_at, place_in};
 ghost use Rattle.brc_client.specs.Clients.{IsClient, Names, NamesIn, NamesNone, NamesNoneIn};
@@ -78,6 +81,20 @@ pub(crate) fn find<'h>(
         Some(handle) => Ok(handle),
         None => Err(Status::Stale),
     }
+}
+
+/// The reference goes, by a call.
+#[cold]
+#[inline(never)]
+fn release_late(frame: &mut Frame<Shared, Global>, handle: Handle<Global>)
+    requires owned { Owns frame.old handle }
+    requires unlocked { IsUnlocked frame.old }
+    ensures heap { frame.new.heap ≡ frame.old.heap }
+    ensures bounded { IsBounded frame.old.seat.log frame.new.seat.log }
+    ensures loses { Loses frame.old frame.new handle }
+    ensures unlocked { IsUnlocked frame.new }
+{
+    frame.release(handle);
 }
 
 /// All handles go, by rising place, and their numbers with them.
@@ -157,9 +174,28 @@ impl Client {
 
     /// One reference more to the object, under a number of its own. Foreign, Stale; then FrameFull, if the thread has
     /// 65,536 references, and OutOfMemory.
-    #[tactic(auto, using(crate::proofs::Placed::owned, crate::proofs::Placed::vacant, crate::proofs::Placed::apart, crate::proofs::Placed::gained, crate::proofs::Placed::keeps, crate::proofs::Named::names_kept, crate::proofs::Named::names_given))]
     #[inline]
     pub fn retain(&mut self, number: u64) -> Result<u64, Status>
+        ensures more { IfOk result (λ more. OfNamed self.old number
+            (λ object. Adds (Retained self.old.frame object.place) self.old self.new more)) }
+        ensures refused { IfErr result (RefusedOf (λ k fault. Retained self.old.frame k self.new.frame (Err fault))
+            self.old self.new number) }
+        ensures names { IfOk result (Names self.new) }
+        ensures keeps { KeepsNames self.old self.new }
+        ensures unchanged { OnErr result (KeepsNumbers self.old self.new) }
+    {
+        // With a place ready nothing is called here, so no register is saved.
+        if self.mutator.has_spare() {
+            self.retain_one(number)
+        } else {
+            self.retain_late(number)
+        }
+    }
+
+    /// As `retain`.
+    #[tactic(auto, using(crate::proofs::Placed::owned, crate::proofs::Placed::vacant, crate::proofs::Placed::apart, crate::proofs::Placed::gained, crate::proofs::Placed::keeps, crate::proofs::Named::names_kept, crate::proofs::Named::names_given))]
+    #[inline(always)]
+    fn retain_one(&mut self, number: u64) -> Result<u64, Status>
         ensures more { IfOk result (λ more. OfNamed self.old number
             (λ object. Adds (Retained self.old.frame object.place) self.old self.new more)) }
         ensures refused { IfErr result (RefusedOf (λ k fault. Retained self.old.frame k self.new.frame (Err fault))
@@ -175,13 +211,46 @@ impl Client {
         }
     }
 
-    /// The reference goes, and its number names nothing any more. Foreign, Stale. It takes no memory, and waits for
-    /// nobody.
+    /// As `retain`, by a call.
+    #[cold]
+    #[inline(never)]
+    fn retain_growing(&mut self, number: u64) -> Result<u64, Status>
+        ensures more { IfOk result (λ more. OfNamed self.old number
+            (λ object. Adds (Retained self.old.frame object.place) self.old self.new more)) }
+        ensures refused { IfErr result (RefusedOf (λ k fault. Retained self.old.frame k self.new.frame (Err fault))
+            self.old self.new number) }
+        ensures names { IfOk result (Names self.new) }
+        ensures keeps { KeepsNames self.old self.new }
+        ensures unchanged { OnErr result (KeepsNumbers self.old self.new) }
+    {
+        self.retain_one(number)
+    }
+
+    /// As `retain`, by a call. What this returns into is set to zero here, and not where no call is made.
+    #[inline(always)]
+    fn retain_late(&mut self, number: u64) -> Result<u64, Status>
+        ensures more { IfOk result (λ more. OfNamed self.old number
+            (λ object. Adds (Retained self.old.frame object.place) self.old self.new more)) }
+        ensures refused { IfErr result (RefusedOf (λ k fault. Retained self.old.frame k self.new.frame (Err fault))
+            self.old self.new number) }
+        ensures names { IfOk result (Names self.new) }
+        ensures keeps { KeepsNames self.old self.new }
+        ensures unchanged { OnErr result (KeepsNumbers self.old self.new) }
+    {
+        match self.retain_growing(number) {
+            Ok(more) => Ok(more),
+            Err(status) => Err(status),
+        }
+    }
+
+    /// The reference goes, in at most `MOST_EVENTS` events whatever others do, and its number names nothing any more.
+    /// Foreign, Stale. It takes no memory, and waits for nobody.
     #[tactic(auto, using(crate::proofs::Placed::lost, crate::proofs::Named::name_spent))]
     #[inline]
     pub fn release(&mut self, number: u64) -> Result<(), Status>
         ensures released { OnOk result (Releases self.old self.new number) }
         ensures spent { OnOk result (SpendsName self.old self.new number) }
+        ensures bounded { IsBounded self.old.frame.seat.log self.new.frame.seat.log }
         ensures refused { IfErr result (NamesNone self.old number) }
         ensures unchanged { OnErr result (self.new ≡ self.old) }
     {
@@ -190,8 +259,15 @@ impl Client {
             unreachable!()
         };
         self.numbers.spend(place);
-        self.mutator.frame().release(handle);
-        Ok(())
+
+        // A release of one of several counts needs no call.
+        match self.mutator.frame().release_counted(handle) {
+            Ok(()) => Ok(()),
+            Err(handle) => {
+                release_late(self.mutator.frame(), handle);
+                Ok(())
+            }
+        }
     }
 
     /// All references of the thread go, and no number names anything any more. It takes no memory, and waits for nobody.
@@ -210,6 +286,7 @@ impl Client {
     #[inline]
     pub fn poll(&mut self) -> u64
         ensures handles { KeepsHandles self.old.frame self.new.frame }
+        ensures polled { Polled self.old.frame self.new.frame result }
         ensures quiet { result ≡ 0 → self.new.frame.works ≡ self.old.frame.works }
         ensures keeps { KeepsNumbers self.old self.new }
     {
@@ -223,6 +300,7 @@ impl Client {
     pub fn work(&mut self, turns: usize) -> usize
         ensures handles { KeepsHandles self.old.frame self.new.frame }
         ensures few { result ≤ turns }
+        ensures turns { Turns self.old.frame (turns - result) self.new.frame }
         ensures done { 0 < result → self.new.frame.works ≡ [] }
         ensures keeps { KeepsNumbers self.old self.new }
     {

@@ -10,7 +10,7 @@ use Rattle.brc_table.specs.block.Payload.{entries_of}
 use Rattle.brc_table.specs.block.Blocks.{PopsEntry}
 use Rattle.brc_table.specs.law.world.declared.event.Dropped.TheVariants as drops
 use Rattle.brc_table.specs.law.world.declared.event.Source.{Source}
-use Rattle.brc_table.specs.law.world.declared.event.Step.TheVariants.{LocalUp, Free}
+use Rattle.brc_table.specs.law.world.declared.event.Step.TheVariants.{LocalUp, LocalDown, Free}
 use Rattle.brc_table.specs.law.world.declared.row.Hand.TheVariants as hands
 use Rattle.std.specs.Int.{bit_at}
 use Rattle.brc_table.specs.law.world.Heap.{words_for}
@@ -264,6 +264,10 @@ pub record GivenHandle {A : Type 0} (old new : FrameSeen A) (source : Source) (c
   pub works : new.works ≡ old.works
   pub rest : KeepsRest old new
 
+-- the next place is one below 65,536, and its memory is there
+abbrev pub HasSpare : {A : Type 0} → FrameSeen A → Type 0
+HasSpare frame = (0 < frame.spare) × (frame.next < MOST_PLACES)
+
 -- there are 65,536 handles
 abbrev pub IsFull : {A : Type 0} → FrameSeen A → Type 0
 IsFull frame = MOST_PLACES ≤ frame.len
@@ -284,6 +288,12 @@ pub record ReleasedOf {A : Type 0} (old new : FrameSeen A) (k c : ℕ) : Type 0 
   pub vacant : place_seen new.heap.cells new.seat.log k ≡ None
   pub others : (j : ℕ) → j ≢ k → place_seen new.heap.cells new.seat.log j ≡ place_seen old.heap.cells old.seat.log j
   pub rest : KeepsRest old new
+
+-- the reference of a place went by one step, which stored what is left of the thread's own count
+abbrev pub CountedDown : {A : Type 0} → FrameSeen A → FrameSeen A → ℕ → ℕ → Type 0
+CountedDown old new k c =
+    new.seat.log ≡ Stepped (LocalDown (drops.Frame k)) (counts_seen old.heap.cells old.seat.log c - 1) Nothing
+    ∷ old.seat.log
 
 -- A turn of the work on dead blocks. The front block's last entry is released, by one of the lists, and where that
 -- object ended its block is the new front; or the front block has no entries and its cell is given back; or no block is

@@ -1,9 +1,10 @@
 -- How an object is made: a cell is claimed, its words are set, and its block is put home; the first reference is the
 -- frame's.
-use Rattle.std.specs.Prelude.{◌≡◌, ◌≢◌, ◌<◌, ◌≤◌, ◌+◌, ◌^◌, ℕ, false, List, ◌∷◌, Some, None}
+use Rattle.std.specs.Prelude.{◌≡◌, ◌≢◌, ◌<◌, ◌≤◌, ◌+◌, ℕ, false, List, ◌∷◌, Some, None}
 use Rattle.brc_words.specs.declared.fault.Fault.{Fault}
 use Rattle.brc_words.specs.declared.fault.Fault.TheVariants.{OutOfMemory, HeapFull, FrameFull, LedgerFull}
 use Rattle.brc_words.specs.declared.limits.TheConstants.{FIRST_MORTAL, MOST_PLACES, MOST_BIRTHS}
+use Rattle.brc_words.specs.declared.look.TheConstants.{NO_COUNT}
 use Rattle.brc_table.specs.law.world.declared.event.Step.TheVariants.{InitLocal, InitShared, Birth}
 use Rattle.brc_table.specs.law.rule.declared.contents.Contents.{Contents}
 use Rattle.brc_table.specs.law.rule.Logs.{kind_in}
@@ -29,7 +30,7 @@ module _ {A : Type 0} where
     pub claimed : ClaimsAround old.heap.cells start cell old.seat.log mid
     pub as_asked : old.near ≡ false → start ≡ old.from
     pub told : new.seat.log ≡ Stepped (Birth cell (kind_in contents) given.place) old.seat.thread (Put cell contents)
-        ∷ Stepped (InitShared cell) (2 ^ 42) Nothing ∷ Stepped (InitLocal cell) 1 Nothing ∷ mid
+        ∷ Stepped (InitShared cell) NO_COUNT Nothing ∷ Stepped (InitLocal cell) 1 Nothing ∷ mid
     pub heap : given.heap ≡ old.heap
     pub thread : given.thread ≡ old.seat.thread
     pub place : given.place ≡ old.next
@@ -49,8 +50,8 @@ module _ {A : Type 0} where
     pub keeps : KeepsHandles old new
     pub works : new.works ≡ old.works
 
-  -- Making is refused where there are 65,536 handles; where the thread has made 2^47 objects; where a place, or memory
-  -- for it or the block, wasn't to be had; or where no cell was.
+  -- Making is refused where there are 65,536 handles; where the thread has made 2^47 objects since it was registered;
+  -- where a place, or memory for it or the block, wasn't to be had; or where no cell was.
   abbrev pub RefusedMaking : FrameSeen A → FrameSeen A → Fault → Type 0
   RefusedMaking old new FrameFull = IsFull old × IsAsBefore old new
   RefusedMaking old new LedgerFull = ¬ IsFull old × (MOST_BIRTHS ≤ (ledger_seen old).allocs)

@@ -8,12 +8,13 @@ ghost use Rattle.brc_words.specs.declared.fault.Fault.TheVariants.{OutOfMemory};
 ghost use Rattle.brc_table.specs.law.world.declared.event.Source.TheVariants as sources;
 ghost use Rattle.brc_table.specs.law.world.Heap.{words_for};
 ghost use Rattle.brc_biased.specs.Bounded.{IsBounded};
+ghost use Rattle.brc_biased.specs.Counter.{CountsMore};
 ghost use Rattle.brc_table.specs.law.steps.Joining.{next_thread, registrations, registering};
 ghost use Rattle.brc_table.specs.Seated.{Continues};
 ghost use Rattle.brc_table.specs.law.living.Living.{OwnLog};
 ghost use Rattle.brc_count.specs.Frames.{place_seen, handle_at, Owns, GivenHandle, Refused, ReleasedOf, IsAsBefore};
 ghost use Rattle.brc_count.specs.Frames.{IsUnlocked, Turns, KeepsHandles, KeepsButStart, first_word, word_asked};
-ghost use Rattle.brc_count.specs.Frames.{ledger_seen};
+ghost use Rattle.brc_count.specs.Frames.{CountedDown, HasSpare, ledger_seen};
 ghost use Rattle.brc_count.specs.Polling.{Polled};
 ghost use Rattle.brc_count.specs.Closing.{BeginsBy, GoesOut};
 ghost use Rattle.brc_count.specs.Making.{Made, RefusedMaking};
@@ -168,6 +169,15 @@ impl<H: HasTable<A>, A: Allocator> Frame<H, A> {
         self.holdings.places.len()
     }
 
+    /// Whether the next place is ready: it is below 65,536, and its memory is there.
+    #[inline(always)]
+    pub fn has_spare(&self) -> bool
+        ensures spare { IsTrue result → HasSpare self.now }
+        ensures none { IsFalse result → ¬ HasSpare self.now }
+    {
+        self.holdings.has_spare()
+    }
+
     /// One handle more to the same object, in one event (PEP 703, "Biased Reference Counting"). FrameFull where there
     /// are 65,536 handles and so no place is left, looked at first; OutOfMemory where a place more can't be had. A
     /// refusal changes nothing.
@@ -304,6 +314,36 @@ impl<H: HasTable<A>, A: Allocator> Frame<H, A> {
         ensures unlocked { IsUnlocked self.new }
     {
         self.holdings.release(handle.into_place());
+    }
+
+    /// The reference goes, as by `release`, if it is one of several that the thread counts: that is one event, and the
+    /// object lives on. Else the handle is handed back, and nothing is done.
+    #[inline(always)]
+    pub fn release_counted(&mut self, handle: Handle<A>) -> Result<(), Handle<A>>
+        requires owned { Owns self.old handle }
+        requires unlocked { IsUnlocked self.old }
+        ensures heap { self.new.heap ≡ self.old.heap }
+        ensures counts { OnOk result ((c : ℕ) → place_seen self.old.heap.cells self.old.seat.log handle.place ≡ Some c →
+            CountsMore self.old.heap.cells self.old.seat.log c) }
+        ensures other { OnErr result ((c : ℕ) → place_seen self.old.heap.cells self.old.seat.log handle.place ≡ Some c →
+            ¬ CountsMore self.old.heap.cells self.old.seat.log c) }
+        ensures told { OnOk result ((c : ℕ) → place_seen self.old.heap.cells self.old.seat.log handle.place ≡ Some c →
+            CountedDown self.old self.new handle.place c) }
+        ensures released { OnOk result ((c : ℕ) → place_seen self.old.heap.cells self.old.seat.log handle.place ≡ Some c →
+            ReleasedOf self.old self.new handle.place c) }
+        ensures bounded { IsBounded self.old.seat.log self.new.seat.log }
+        ensures seat { Continues self.old.seat self.new.seat }
+        ensures loses { OnOk result (Loses self.old self.new handle) }
+        ensures back { IfErr result (λ same. same ≡ handle) }
+        ensures unchanged { OnErr result (self.new ≡ self.old) }
+        ensures unlocked { IsUnlocked self.new }
+    {
+        if self.holdings.release_counted(handle.place) {
+            let _place = handle.into_place();
+            Ok(())
+        } else {
+            Err(handle)
+        }
     }
 
     /// Takes dead blocks apart, at most so many turns: in one, the front block's last entry is released, or, if it has

@@ -15,7 +15,8 @@ ghost use Rattle.brc_count.specs.Closing.{IsFirst};
 ghost use Rattle.brc_count.specs.Frames.{IsActive, MayGiveUp, SourceFits, SourceNames, place_seen, locked_place};
 ghost use Rattle.brc_count.specs.Frames.{GivenHandle};
 ghost use Rattle.brc_count.specs.Frames.{IsFull, Refused, ReleasedOf, handle_at, IsAsBefore, KeepsRest, ledger_seen};
-ghost use Rattle.brc_count.specs.Frames.{popped_seen, IsUnlocked, KeepsButStart, first_word, word_asked};
+ghost use Rattle.brc_biased.specs.Counter.{CountsMore};
+ghost use Rattle.brc_count.specs.Frames.{CountedDown, HasSpare, popped_seen, IsUnlocked, KeepsButStart, first_word, word_asked};
 
 use crate::held::PlaceEntry;
 use crate::ledger::Ledger;
@@ -131,6 +132,16 @@ impl<H: HasTable<A>, A: Allocator> Holdings<H, A> {
         self.places.len() >= MOST_PLACES as usize
     }
 
+    /// Whether the next place can be filled as it is: it is below 65,536, and its memory is there.
+    #[inline(always)]
+    pub(crate) fn has_spare(&self) -> bool
+        ensures spare { IsTrue result → HasSpare self.now }
+        ensures none { IsFalse result → ¬ HasSpare self.now }
+    {
+        self.places.vacant_key() < MOST_PLACES as usize
+            && self.places.capacity() > self.places.len()
+    }
+
     /// Has memory ready for the next place; false where it, or a place below 65,536, can't be had. With fewer handles
     /// there is one, since a slab fills what is vacant before it grows; but its contract leaves that open.
     #[inline(always)]
@@ -204,6 +215,41 @@ impl<H: HasTable<A>, A: Allocator> Holdings<H, A> {
         if let Some(block) = self.counter.give_up(drop, held.cell, held.risen) {
             self.works.push(block);
         }
+    }
+}
+
+impl<H: HasTable<A>, A: Allocator> Holdings<H, A> {
+    /// A place's reference goes, if it is one of several that the thread counts; else nothing is done.
+    #[inline(always)]
+    pub(crate) fn release_counted(&mut self, place: u32) -> bool
+        requires filled { place_seen self.old.heap.cells self.old.seat.log place ≢ None }
+        requires stage { MayGiveUp self.old }
+        requires unlocked { IsUnlocked self.old }
+        ensures heap { self.new.heap ≡ self.old.heap }
+        ensures counts { IsTrue result → (c : ℕ) → place_seen self.old.heap.cells self.old.seat.log place ≡ Some c →
+            CountsMore self.old.heap.cells self.old.seat.log c }
+        ensures other { IsFalse result → (c : ℕ) → place_seen self.old.heap.cells self.old.seat.log place ≡ Some c →
+            ¬ CountsMore self.old.heap.cells self.old.seat.log c }
+        ensures told { IsTrue result → (c : ℕ) → place_seen self.old.heap.cells self.old.seat.log place ≡ Some c →
+            CountedDown self.old self.new place c }
+        ensures released { IsTrue result → (c : ℕ) → place_seen self.old.heap.cells self.old.seat.log place ≡ Some c →
+            ReleasedOf self.old self.new place c }
+        ensures bounded { IsBounded self.old.seat.log self.new.seat.log }
+        ensures seat { Continues self.old.seat self.new.seat }
+        ensures len { IsTrue result → self.new.len + 1 ≡ self.old.len }
+        ensures rest { KeepsRest self.old self.new }
+        ensures popped { popped_seen self.new ≡ popped_seen self.old }
+        ensures unchanged { IsFalse result → self.new ≡ self.old }
+    {
+        let Some(held) = self.places.get(place as usize) else {
+            unreachable!()
+        };
+        let cell = held.cell;
+        if !self.counter.give_up_counted(Dropped::Frame(place), cell) {
+            return false;
+        }
+        let _gone = self.places.try_remove(place as usize);
+        true
     }
 }
 

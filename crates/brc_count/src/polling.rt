@@ -59,7 +59,7 @@ impl<H: HasTable<A>, A: Allocator> Holdings<H, A> {
     pub(crate) fn words(&self) -> u32
         ensures words { result ≡ words_for self.now.heap.cells }
         ensures some { 0 < result }
-        ensures few { result ≤ 2048 }
+        ensures few { result ≤ words_for MOST_CELLS }
     {
         self.counter.home().table().cells().div_ceil(32)
     }

@@ -1,11 +1,12 @@
 -- What the frame owns after a call that may have given it one handle more, which is in no place of the many.
 use Rattle.std.proofs.Common.{◌≡◌, List, [], ◌∷◌, ◌++◌, Option, Some, None, Result, Ok, Err, IfOk, arith, ℕ, length, ◌∙◌}
+use Rattle.std.proofs.Common.{sym, subst, inl, inr}
 use Rattle.std.specs.Prelude.{OnErr, MatchOption}
 use Rattle.std.specs.Option.{IfSome}
 use Rattle.brc_words.specs.declared.fault.Fault.{Fault}
 use Rattle.brc_count.specs.Frames.{FrameSeen, HandleSeen, IsUnlocked, Owns}
 use Rattle.brc_count.specs.Owned.{Gains, Keeps}
-use Rattle.brc_handles.specs.Handles.{slot, ComesOut, Swapped}
+use Rattle.brc_handles.specs.Handles.{slot, OwnsEach, ComesIn, ComesOut, Swapped}
 use Rattle.brc_handles.specs.Standing.{Stands, Besides, KeepsStanding}
 use Rattle.brc_handles.proofs.Places.{counted_less, each_at, each_less, each_swapped}
 
@@ -33,6 +34,27 @@ module _ {A : Type 0} where
       → IfOk result (Gains old new) → OnErr result (Keeps old new) → Owns old h → Owns new h
   owns_after old new h (Ok given) gains keeps owns = gains.owns h owns
   owns_after old new h (Err fault) gains keeps owns = keeps.owns h owns
+
+  -- each place has what it had, or what the frame was given
+  pub given_each : (old new : FrameSeen A) (before after : List (Option HandleSeen)) (given : HandleSeen)
+      → Gains old new given → OwnsEach old before → ComesIn before after given → OwnsEach new after
+  given_each old new before after given gains owned comes k = elim (comes.places k) [
+    | inl is ↦ subst (λ (o : Option HandleSeen). IfSome o (Owns new)) (sym is)
+        (each gains.owns (slot before k) (owned k))
+    | inr is ↦ subst (λ (o : Option HandleSeen). IfSome o (Owns new)) (sym is) gains.owned
+  ]
+
+  -- as many others stand beside the handles, of which one was given
+  pub given_stands : (others : ℕ) (old new : FrameSeen A) (before after : List (Option HandleSeen)) (given : HandleSeen)
+      → Gains old new given → IsUnlocked new → ComesIn before after given → Stands others old before
+      → Stands others new after
+  given_stands others old new before after given gains unlocked comes stands = record {
+    holds = record {
+      owned = given_each old new before after given gains stands.holds.owned comes;
+      count = omega (arith, gains.len, comes.count, stands.holds.count);
+    };
+    unlocked = unlocked;
+  }
 
   -- from one call to the next
   pub stands_on : (old mid new : FrameSeen A) (before between after : List (Option HandleSeen))

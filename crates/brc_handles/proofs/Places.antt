@@ -66,6 +66,10 @@ pub apart_pushed : (hs : List (Option HandleSeen)) (h : HandleSeen) → AreApart
     → AreApart (hs ++ Some h ∷ [])
 apart_pushed hs h are apart = grind (arith, common_steps)
 
+filled_with_empty : (hs : List (Option HandleSeen)) → filled (hs ++ None ∷ []) ≡ filled hs
+unfolding one
+filled_with_empty hs = omega (arith, filled-append hs None)
+
 slot_before : (hs : List (Option HandleSeen)) (x : Option HandleSeen) (k : ℕ) (h : HandleSeen) → slot hs k ≡ Some h
     → slot (hs ++ x ∷ []) k ≡ Some h
 slot_before hs x k h is = grind (arith, common_steps)
@@ -107,6 +111,11 @@ pub pushed_to : (now hs mid new : List (Option HandleSeen)) (h : HandleSeen) →
     → new ≡ mid ++ Some h ∷ []
     → ComesIn now new h
 pushed_to now hs mid new h view same more = rw (more, same, view) (pushed now h)
+
+-- an empty place is no handle more
+pub empty_more : (now hs mid new : List (Option HandleSeen)) → hs ≡ now → mid ≡ hs → new ≡ mid ++ None ∷ []
+    → filled new ≡ filled now
+empty_more now hs mid new view same more = rw (more, same, view) (filled_with_empty now)
 
 -- the last place went, with what was in it
 pub apart_less : (hs new : List (Option HandleSeen)) (last : Option HandleSeen) → hs ≡ new ++ last ∷ [] → AreApart hs

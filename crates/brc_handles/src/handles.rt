@@ -4,7 +4,7 @@ ghost use Rattle.std.specs.Prelude.{◌≡◌, ◌<◌, ℕ, Some, None, [], ◌
 ghost use Rattle.std.specs.Prelude.{OnErr, IfSome, IfNone, slice_set};
 ghost use Rattle.std.specs.Option.{option_copied};
 ghost use Rattle.brc_words.specs.declared.fault.Fault.TheVariants.{OutOfMemory};
-ghost use Rattle.brc_handles.specs.Handles.{slot, IsApart, IsBare, ComesIn, ComesOut, Exchanges};
+ghost use Rattle.brc_handles.specs.Handles.{slot, filled, IsApart, IsBare, ComesIn, ComesOut, Exchanges};
 
 use brc_count::{HandedBack, Handle};
 use brc_words::Fault;
@@ -88,6 +88,23 @@ impl<A: Allocator> Handles<A> {
             });
         }
         self.slots.push_reserved(Some(handle));
+        Ok(())
+    }
+
+    /// An empty place more, after all others: room for a handle, which `put` fills without memory. OutOfMemory where it
+    /// can't be had.
+    #[inline(always)]
+    pub fn push_empty(&mut self) -> Result<(), Fault>
+        ensures pushed { OnOk result (self.new ≡ self.old ++ None ∷ []) }
+        ensures same { OnOk result ((k : ℕ) → slot self.new k ≡ slot self.old k) }
+        ensures count { filled self.new ≡ filled self.old }
+        ensures refused { IfErr result (λ fault. fault ≡ OutOfMemory) }
+        ensures unchanged { OnErr result (self.new ≡ self.old) }
+    {
+        if self.slots.reserve(1).is_err() {
+            return Err(Fault::OutOfMemory);
+        }
+        self.slots.push_reserved(None);
         Ok(())
     }
 

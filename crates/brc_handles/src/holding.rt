@@ -4,8 +4,8 @@ ghost use Rattle.std.specs.Prelude.{◌≡◌, ◌≢◌, ◌+◌, ◌<◌, ◌�
 ghost use Rattle.std.specs.Prelude.{ℕ, length, slice_set};
 ghost use Rattle.brc_words.specs.declared.fault.Fault.TheVariants.{OutOfMemory};
 ghost use Rattle.brc_count.specs.law.living.Quiet.{Quietly};
-ghost use Rattle.brc_count.specs.Frames.{HandleSeen, IsUnlocked, Owns, Refused};
-ghost use Rattle.brc_count.specs.Owned.{Keeps, Loses};
+ghost use Rattle.brc_count.specs.Frames.{HandleSeen, IsAsBefore, IsUnlocked, Owns, Refused};
+ghost use Rattle.brc_count.specs.Owned.{Loses};
 ghost use Rattle.brc_handles.specs.Handles.{slot, filled, IsApart, OwnsEach, ComesIn, Retains};
 ghost use Rattle.brc_handles.specs.Standing.{Stands, Besides};
 
@@ -51,9 +51,9 @@ impl<A: Allocator> Handles<A> {
         }
     }
 
-    /// One more reference to the object of the handle in this place, in a new place after all others. FrameFull and
-    /// OutOfMemory as `Frame::retain` answers them; OutOfMemory too where the place here can't be had: then the
-    /// reference goes again.
+    /// One more reference to the object of the handle in this place, in a new place after all others. OutOfMemory where
+    /// the place can't be had comes first; then FrameFull and OutOfMemory as `Frame::retain` answers them. A refusal
+    /// changes nothing.
     pub fn retain<H: HasTable<A>>(
         &mut self,
         frame: &mut Frame<H, A>,
@@ -73,16 +73,18 @@ impl<A: Allocator> Handles<A> {
 
         ensures more { OnOk result (Retains frame.old frame.new self.old self.new index) }
         ensures refused { IfErr result (λ fault. (fault ≡ OutOfMemory) ⊎ Refused frame.old fault) }
-        ensures unchanged { OnErr result (Keeps frame.old frame.new × (self.new ≡ self.old)) }
+        ensures unchanged { OnErr result (IsAsBefore frame.old frame.new × (self.new ≡ self.old)) }
     {
+        // The place is had before the reference, so a reference that was given always has one.
+        if self.slots.reserve(1).is_err() {
+            return Err(Fault::OutOfMemory);
+        }
         let Some(handle) = self.get(index) else {
             unreachable!()
         };
         let given = frame.retain(handle)?;
-        match self.keep(frame, given) {
-            Ok(()) => Ok(()),
-            Err(fault) => Err(fault),
-        }
+        self.slots.push_reserved(Some(given));
+        Ok(())
     }
 
     /// The reference of this place goes, if one is there; the place is empty then. It takes no memory, as

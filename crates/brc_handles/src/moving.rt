@@ -120,6 +120,7 @@ impl<A: Allocator> Handles<A> {
         ensures apart { (h : HandleSeen) → IsApart h self.old → IsApart h self.new }
 
         ensures swapped { OnOk result (Swapped self.old self.new one other) }
+        ensures len { length self.new ≡ length self.old }
         ensures refused { IfErr result (λ fault. fault ≡ NoSuchPlace) }
         ensures past { OnErr result ((length self.old ≤ one) ⊎ (length self.old ≤ other)) }
         ensures unchanged { OnErr result (self.new ≡ self.old) }

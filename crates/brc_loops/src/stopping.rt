@@ -6,6 +6,7 @@
 
 ghost use Rattle.std.specs.Prelude.{◌≢◌, IsTrue};
 ghost use Rattle.brc_words.specs.declared.fault.Fault.TheVariants as faults;
+ghost use Rattle.brc_count.specs.block.Lent_Keys.{key_lent};
 ghost use Rattle.brc_count.specs.Frames.{FrameSeen, HandleSeen, IsUnlocked, Owns};
 ghost use Rattle.brc_count.specs.Owned.{Keeps, Gains};
 ghost use Rattle.brc_lists.specs.Calls.{MailboxReceive};
@@ -13,10 +14,11 @@ ghost use Rattle.brc_dicts.specs.Calls.{DictFind};
 ghost use Rattle.brc_loops.specs.Stopping.{IfGot, UnlessGot, IfStopped, IfRefused, LastTry};
 
 use brc_count::biased::HasTable;
+use brc_count::block::KeyRef;
 use brc_count::{Frame, Handle};
-use brc_dicts::try_dict_find;
+use brc_dicts::try_dict_find_by;
 use brc_lists::try_recv;
-use brc_words::{Fault, Key};
+use brc_words::Fault;
 use std::alloc::Allocator;
 use std::sync::Wait;
 use std::thread;
@@ -106,23 +108,23 @@ pub fn recv_until<S: Stop, R: Wait, H: HasTable<A>, A: Allocator>(
     unreachable!()
 }
 
-/// The value beside the key in a dictionary, in the globals for one, once the key is there; the pair stays. Stopped if
-/// the stop had said so and the try after that found no such key. Refused by WrongKind, FrameFull or OutOfMemory, in
-/// this order. While another thread has the dictionary locked it tries again. Between two tries it makes at most so many
-/// turns of work.
+/// The value beside the key, which is lent, in a dictionary, in the globals for one, once the key is there; the pair
+/// stays. Stopped if the stop had said so and the try after that found no such key. Refused by WrongKind, FrameFull or
+/// OutOfMemory, in this order. While another thread has the dictionary locked it tries again. Between two tries it makes
+/// at most so many turns of work.
 pub fn fetch_until<S: Stop, R: Wait, H: HasTable<A>, A: Allocator>(
     rt: &R,
     frame: &mut Frame<H, A>,
     dict: &Handle<A>,
-    key: &Key<A>,
+    key: KeyRef<'_>,
     stop: &S,
     budget: usize,
 ) -> Waited<A>
     requires owned { Owns frame.old dict.now }
     requires unlocked { IsUnlocked frame.old }
 
-    ensures found { LastTry (λ from to. DictFind from to dict.now.place key.now) faults.NoSuchKey frame.old
-        frame.new result }
+    ensures found { LastTry (λ from to. DictFind from to dict.now.place (key_lent key.entry)) faults.NoSuchKey
+        frame.old frame.new result }
     ensures gains { IfGot result (Gains frame.old frame.new) }
     ensures stopped { IfStopped result (S.may_stop stop.now) }
     ensures keeps { UnlessGot result (Keeps frame.old frame.new) }
@@ -134,7 +136,7 @@ pub fn fetch_until<S: Stop, R: Wait, H: HasTable<A>, A: Allocator>(
 {
     for _ in rt.forever() {
         let asked = stop.asked();
-        match try_dict_find(frame, dict, key) {
+        match try_dict_find_by(frame, dict, key) {
             Ok(value) => return Waited::Got(value),
             Err(Fault::Busy) => pauses(frame, budget),
             Err(Fault::NoSuchKey) => {

@@ -4,7 +4,7 @@
 use Rattle.std.specs.Prelude.{◌≡◌, ◌≢◌, ℕ, ◌+◌, ◌<◌, ◌≤◌, ◌==◌, nat_lt, ◌&&◌, ◌||◌, not, Bool, true, false}
 use Rattle.std.specs.Prelude.{if◌then◌else◌, List, [], ◌∷◌, ◌++◌, length, take, Option, Some, None, slice_get}
 use Rattle.std.specs.Prelude.{slice_set, remove, ◌⊎◌}
-use Rattle.brc_words.specs.declared.limits.TheConstants.{FIRST_MORTAL, GLOBALS}
+use Rattle.brc_words.specs.declared.limits.TheConstants.{FIRST_MORTAL, GLOBALS, MOST_ENTRIES}
 use Rattle.brc_words.specs.declared.kind.Kind.{Kind}
 use Rattle.brc_words.specs.Kinds.{is_mortal, is_container}
 use Rattle.brc_model.specs.declared.holder.Holder.{Holder}
@@ -206,7 +206,7 @@ place_used (Swap index place cell old) = place
 
 -- the entry that the change names is the one that stands there, and a further one has room
 abbrev pub EntryFits : List ℕ → Exchange → Type 0
-EntryFits xs (Put place cell) = length xs < 1048576
+EntryFits xs (Put place cell) = length xs < MOST_ENTRIES
 EntryFits xs (Take index place cell) = slice_get xs index ≡ Some cell
 EntryFits xs (Swap index place cell old) = slice_get xs index ≡ Some old
 

@@ -1,6 +1,6 @@
 -- The tests of the program, which decide from a list of facts what the map allows.
 -- That they decide just that is proved in `proofs/Deciding.antt`.
-use Rattle.std.specs.Prelude.{◌≡◌, ℕ, ◌+◌, ◌==◌, nat_le, nat_lt, ◌&&◌, ◌||◌, not, Bool, true, false, List, length, take}
+use Rattle.std.specs.Prelude.{◌≡◌, ℕ, ◌+◌, ◌-◌, ◌==◌, nat_le, nat_lt, ◌&&◌, ◌||◌, not, Bool, true, false, List, length, take}
 use Rattle.std.specs.Prelude.{Some, slice_get, is_none}
 use Rattle.std.specs.List.{list_any}
 use Rattle.brc_words.specs.declared.kind.Kind.{Kind}
@@ -13,7 +13,7 @@ use Rattle.brc_model.specs.declared.moves.Exchange.TheVariants.{Put, Take, Swap}
 use Rattle.brc_model.specs.declared.fact.Fact.{Fact}
 use Rattle.brc_model.specs.declared.fact.Fact.TheVariants.{Lives, Holds, Contains}
 use Rattle.brc_model.specs.Holders.{same_holder, has, is_number, place_used}
-use Rattle.brc_words.specs.declared.limits.TheConstants.{FIRST_MORTAL, GLOBALS}
+use Rattle.brc_words.specs.declared.limits.TheConstants.{FIRST_MORTAL, GLOBALS, MOST_ENTRIES}
 use Rattle.brc_model.specs.Facts.{says_lives, entries_in, map_of}
 
 abbrev pub is_no_entry : Holder → Bool
@@ -92,7 +92,7 @@ abbrev pub test_container : List Fact → ℕ → Bool
 test_container facts c = (c == GLOBALS) || ((map_of facts).live c && is_container ((map_of facts).kind c))
 
 abbrev pub test_entry : List Fact → ℕ → Exchange → Bool
-test_entry facts c (Put place cell) = is_none (slice_get (entries_in facts c) 1048575)
+test_entry facts c (Put place cell) = is_none (slice_get (entries_in facts c) (MOST_ENTRIES - 1))
 test_entry facts c (Take index place cell) = is_number (slice_get (entries_in facts c) index) cell
 test_entry facts c (Swap index place cell old) = is_number (slice_get (entries_in facts c) index) old
 

@@ -1,2 +1,4 @@
 mod Found
+mod Full
+mod Opening
 mod Turning

@@ -1,5 +1,5 @@
 -- Where a handle goes that a call gives, and what a call by place comes to.
-use Rattle.std.specs.Prelude.{◌≡◌, ◌≢◌, ◌<◌, ◌⊎◌, ⊤, ℕ, List, [], ◌∷◌, ◌++◌, Option, Some, None, Result, Ok, Err, length}
+use Rattle.std.specs.Prelude.{◌≡◌, ◌≢◌, ◌<◌, ◌≤◌, ◌⊎◌, ⊤, ℕ, List, [], ◌∷◌, ◌++◌, Option, Some, None, Result, Ok, Err, length}
 use Rattle.std.specs.Prelude.{MatchOption, IsSomeAnd, slice_set}
 use Rattle.brc_words.specs.declared.fault.Fault.{Fault}
 use Rattle.brc_words.specs.declared.fault.Fault.TheVariants as faults
@@ -14,6 +14,34 @@ use Rattle.brc_places.specs.declared.placing.To.TheVariants as tos
 abbrev pub IsThere : To → List (Option HandleSeen) → Type 0
 IsThere tos.Last handles = ⊤
 IsThere (tos.Place i) handles = i < length handles
+
+-- ---- a place, before the call that fills it
+
+-- a new place after all others, which is empty; or the one that was there, and no place more
+abbrev pub OpenedAt : To → List (Option HandleSeen) → List (Option HandleSeen) → ℕ → Type 0
+OpenedAt tos.Last before after index = (after ≡ before ++ None ∷ []) × (index ≡ length before)
+OpenedAt (tos.Place i) before after index = (after ≡ before) × (index ≡ i)
+
+-- The place that is to be filled is there, and this is its number. Each place has what it had.
+pub record Opened (to : To) (before after : List (Option HandleSeen)) (index : ℕ) : Type 0 where
+  pub at : OpenedAt to before after index
+  pub inside : index < length after
+  pub same : (k : ℕ) → slot after k ≡ slot before k
+
+-- why it isn't: there is no memory for a new one, or no such place
+abbrev pub NotOpened : To → List (Option HandleSeen) → Fault → Type 0
+NotOpened tos.Last before fault = fault ≡ faults.OutOfMemory
+NotOpened (tos.Place i) before fault = (fault ≡ faults.NoSuchPlace) × (length before ≤ i)
+
+-- where a new place was opened, the last one is empty
+abbrev pub IsOpen : To → List (Option HandleSeen) → Type 0
+IsOpen tos.Last handles = (before : List (Option HandleSeen)) × (handles ≡ before ++ None ∷ [])
+IsOpen (tos.Place i) handles = ⊤
+
+-- that one went, and no other
+abbrev pub TakenOff : To → List (Option HandleSeen) → List (Option HandleSeen) → Type 0
+TakenOff tos.Last before after = before ≡ after ++ None ∷ []
+TakenOff (tos.Place i) before after = after ≡ before
 
 module _ {A : Type 0} where
   -- The handle is where it was to go: in a new place after all others, or in one that was there. What was in that one is
@@ -34,14 +62,12 @@ module _ {A : Type 0} where
     pub did : call between (Ok given)
     pub placed : Placed to between new before after given
 
-  -- Why no handle came. The place that it was to fill isn't there: nothing was done. The call was refused so. Or it gave
-  -- a handle, for which no new place was to be had: that one is released.
+  -- Why no handle came. The place that it was to fill isn't there, or a new one wasn't to be had: nothing was done. Or
+  -- the call was refused so, and nothing else was done.
   pub data Lacks (to : To) (call : FrameSeen A → Result HandleSeen Fault → Type 0) (old new : FrameSeen A)
       (before : List (Option HandleSeen)) (fault : Fault) : Type 0 where
-    NoPlace : fault ≡ faults.NoSuchPlace → (IsThere to before → ⊥) → new ≡ old → Lacks to call old new before fault
+    NoPlace : NotOpened to before fault → new ≡ old → Lacks to call old new before fault
     CallRefused : IsThere to before → call new (Err fault) → Lacks to call old new before fault
-    NoRoom : fault ≡ faults.OutOfMemory → to ≡ tos.Last → (given : HandleSeen) (between : FrameSeen A)
-        → call between (Ok given) → Loses between new given → Lacks to call old new before fault
 
   -- the same of a call on the object of the handle in place i, which is there
   abbrev pub GivesTo : To → (FrameSeen A → ℕ → Result HandleSeen Fault → Type 0) → FrameSeen A

@@ -1,10 +1,14 @@
 -- What the calls on a stack do to its top.
-use Rattle.std.specs.Prelude.{◌≡◌, ◌-◌, ℕ, List, [], ◌∷◌, ◌++◌, Option, Some, Result, MatchOption, length, slice_set}
+use Rattle.std.specs.Prelude.{◌≡◌, ◌≢◌, ◌-◌, ◌<◌, ℕ, List, [], ◌∷◌, ◌++◌, Option, Some, None, Result, MatchOption, length, slice_set}
 use Rattle.brc_count.specs.declared.handed.HandedBack.{HandedBack}
 use Rattle.brc_count.specs.Frames.{FrameSeen, HandleSeen}
 use Rattle.brc_count.specs.Owned.{Loses}
 use Rattle.brc_handles.specs.Handles.{slot}
 use Rattle.brc_places.specs.Placing.{TakesFrom}
+
+-- each place has a handle
+abbrev pub AreFilled : List (Option HandleSeen) → Type 0
+AreFilled handles = (k : ℕ) → k < length handles → slot handles k ≢ None
 
 module _ {A : Type 0} where
   -- The handle on top is in place i, and its own place is gone. What was in place i is released.

@@ -9,7 +9,7 @@ ghost use Rattle.brc_handles.specs.Standing.{KeepsStanding};
 ghost use Rattle.brc_places.specs.Calls.{GaveBy, GaveLate};
 ghost use Rattle.brc_places.specs.Placing.{GivesTo, GivesNot};
 
-use crate::placing::{To, is_there, place};
+use crate::placing::{To, close, fill, open};
 use brc_count::biased::HasTable;
 use brc_count::block::KeyRef;
 use brc_count::{Frame, Handle};
@@ -90,8 +90,8 @@ pub fn try_give_by<H: HasTable<A>, A: Allocator>(
 }
 
 /// What the container in a place gives goes where it is to go, once no other thread has the container locked.
-/// NoSuchPlace where no handle is in that place, or the one to be filled isn't there; then what the call answers
-/// (`brc_lists`, `brc_dicts`); then OutOfMemory for a new place, and what was given is released.
+/// NoSuchPlace where no handle is in that place, or the one to be filled isn't there; then OutOfMemory for a new place;
+/// then what the call answers (`brc_lists`, `brc_dicts`). A refusal changes nothing: an entry that has no place stays.
 pub fn give_at<H: HasTable<A>, A: Allocator>(
     rt: &impl Wait,
     frame: &mut Frame<H, A>,
@@ -107,26 +107,31 @@ pub fn give_at<H: HasTable<A>, A: Allocator>(
     ensures gave { OnOk result (GivesTo to (GaveLate by.entry frame.old) frame.new handles.old handles.new container) }
     ensures refused { IfErr result
         (GivesNot to (GaveLate by.entry frame.old) frame.old frame.new handles.old container) }
+    ensures keeps { OnErr result (Keeps frame.old frame.new) }
     ensures unchanged { OnErr result (handles.new ≡ handles.old) }
     ensures waited { IfErr result (λ fault. fault ≢ faults.Busy) }
 {
-    let Some(object) = handles.get(container) else {
-        return Err(Fault::NoSuchPlace);
-    };
-    if !is_there(handles, to) {
+    if handles.get(container).is_none() {
         return Err(Fault::NoSuchPlace);
     }
+    let room = open(frame, handles, to)?;
+    let Some(object) = handles.get(container) else {
+        unreachable!()
+    };
     match give_by(rt, frame, object, by) {
-        Err(fault) => Err(fault),
-        Ok(given) => match place(frame, handles, to, given) {
-            Ok(()) => Ok(()),
-            Err(fault) => Err(fault),
-        },
+        Ok(given) => {
+            fill(frame, handles, room, given);
+            Ok(())
+        }
+        Err(fault) => {
+            close(handles, to);
+            Err(fault)
+        }
     }
 }
 
-/// The same without waiting: Busy, where another thread has the container locked, comes after NoSuchPlace and before
-/// what else the call answers.
+/// The same without waiting: Busy, where another thread has the container locked, comes after OutOfMemory for a new
+/// place, and before what else the call answers.
 pub fn try_give_at<H: HasTable<A>, A: Allocator>(
     frame: &mut Frame<H, A>,
     handles: &mut Handles<A>,
@@ -141,19 +146,24 @@ pub fn try_give_at<H: HasTable<A>, A: Allocator>(
     ensures gave { OnOk result (GivesTo to (GaveBy by.entry frame.old) frame.new handles.old handles.new container) }
     ensures refused { IfErr result
         (GivesNot to (GaveBy by.entry frame.old) frame.old frame.new handles.old container) }
+    ensures keeps { OnErr result (Keeps frame.old frame.new) }
     ensures unchanged { OnErr result (handles.new ≡ handles.old) }
 {
-    let Some(object) = handles.get(container) else {
-        return Err(Fault::NoSuchPlace);
-    };
-    if !is_there(handles, to) {
+    if handles.get(container).is_none() {
         return Err(Fault::NoSuchPlace);
     }
+    let room = open(frame, handles, to)?;
+    let Some(object) = handles.get(container) else {
+        unreachable!()
+    };
     match try_give_by(frame, object, by) {
-        Err(fault) => Err(fault),
-        Ok(given) => match place(frame, handles, to, given) {
-            Ok(()) => Ok(()),
-            Err(fault) => Err(fault),
-        },
+        Ok(given) => {
+            fill(frame, handles, room, given);
+            Ok(())
+        }
+        Err(fault) => {
+            close(handles, to);
+            Err(fault)
+        }
     }
 }

@@ -10,7 +10,7 @@ ghost use Rattle.brc_handles.specs.Standing.{KeepsStanding};
 ghost use Rattle.brc_places.specs.Calls.{MadeBy, RefusedText};
 ghost use Rattle.brc_places.specs.Placing.{Comes, Lacks};
 
-use crate::placing::{To, is_there, place};
+use crate::placing::{To, close, fill, open};
 use brc_count::biased::HasTable;
 use brc_count::{Frame, Handle};
 use brc_handles::Handles;
@@ -86,8 +86,8 @@ pub fn make_by<H: HasTable<A>, A: Allocator + Copy>(
     }
 }
 
-/// What is made goes where it is to go. NoSuchPlace where that place isn't there; then OutOfMemory for the copy of a
-/// text, and what its maker answers (`brc_things`); then OutOfMemory for a new place, and what was made is released.
+/// What is made goes where it is to go. NoSuchPlace where that place isn't there; then OutOfMemory for a new place; then
+/// OutOfMemory for the copy of a text, and what its maker answers (`brc_things`). A refusal changes nothing.
 pub fn make_at<H: HasTable<A>, A: Allocator + Copy>(
     alloc: A,
     frame: &mut Frame<H, A>,
@@ -101,16 +101,19 @@ pub fn make_at<H: HasTable<A>, A: Allocator + Copy>(
     ensures stands { KeepsStanding frame.old frame.new handles.old handles.new }
     ensures made { OnOk result (Comes to (MadeBy make.entry frame.old) frame.new handles.old handles.new) }
     ensures refused { IfErr result (Lacks to (MadeBy make.entry frame.old) frame.old frame.new handles.old) }
+    ensures keeps { OnErr result (Keeps frame.old frame.new) }
     ensures unchanged { OnErr result (handles.new ≡ handles.old) }
 {
-    if !is_there(handles, to) {
-        return Err(Fault::NoSuchPlace);
-    }
+    // The place is had first: an object that was made would have to die again for want of one.
+    let room = open(frame, handles, to)?;
     match make_by(alloc, frame, make) {
-        Err(fault) => Err(fault),
-        Ok(given) => match place(frame, handles, to, given) {
-            Ok(()) => Ok(()),
-            Err(fault) => Err(fault),
-        },
+        Ok(given) => {
+            fill(frame, handles, room, given);
+            Ok(())
+        }
+        Err(fault) => {
+            close(handles, to);
+            Err(fault)
+        }
     }
 }

@@ -1,12 +1,11 @@
-//! Where a result goes.
+//! Where a result goes: its place is there before the call that gives it is made, so nothing that was given is without
+//! one. `open` has the place, then the call is made; `fill` puts in what it gave, and `close` takes a new place off again.
 
-ghost use Rattle.std.specs.Prelude.{◌≡◌, ◌≢◌, ◌+◌, OnOk, OnErr, IfErr, IsTrue, IsFalse};
-ghost use Rattle.brc_words.specs.declared.fault.Fault.TheVariants as faults;
+ghost use Rattle.std.specs.Prelude.{◌≡◌, ◌≢◌, ◌+◌, ◌<◌, Some, OnErr, IfOk, IfErr, MatchOption, length, slice_set};
 ghost use Rattle.brc_count.specs.Frames.{HandleSeen, IsUnlocked, Owns};
 ghost use Rattle.brc_count.specs.Owned.{Loses};
-ghost use Rattle.brc_handles.specs.Handles.{filled, IsApart, OwnsEach};
-ghost use Rattle.brc_places.specs.declared.placing.To.TheVariants as tos;
-ghost use Rattle.brc_places.specs.Placing.{IsThere, Placed};
+ghost use Rattle.brc_handles.specs.Handles.{slot, filled, IsApart, OwnsEach};
+ghost use Rattle.brc_places.specs.Placing.{TakenOff, IsOpen, NotOpened, Opened};
 
 use brc_count::biased::HasTable;
 use brc_count::{Frame, Handle};
@@ -23,32 +22,70 @@ pub enum To {
     Place(usize),
 }
 
-/// Whether the place that is to be filled is there. A new one always can be asked for.
+/// The place that a result will fill, by its number; a new one is empty until then. NoSuchPlace where it isn't there;
+/// OutOfMemory where a new one can't be had. It does nothing to the frame, and borrows it to name it.
 #[inline(always)]
-pub(crate) fn is_there<A: Allocator>(handles: &Handles<A>, to: To) -> bool
-    ensures there { IsTrue result → IsThere to handles.now }
-    ensures past { IsFalse result → IsThere to handles.now → ⊥ }
+pub(crate) fn open<H: HasTable<A>, A: Allocator>(
+    frame: &Frame<H, A>,
+    handles: &mut Handles<A>,
+    to: To,
+) -> Result<usize, Fault>
+    requires each { OwnsEach frame.now handles.old }
+
+    ensures each { OwnsEach frame.now handles.new }
+    ensures count { filled handles.new ≡ filled handles.old }
+    ensures apart { (h : HandleSeen) → IsApart h handles.old → IsApart h handles.new }
+
+    ensures opened { IfOk result (Opened to handles.old handles.new) }
+    ensures refused { IfErr result (NotOpened to handles.old) }
+    ensures unchanged { OnErr result (handles.new ≡ handles.old) }
 {
     match to {
-        To::Last => true,
-        To::Place(index) => index < handles.len(),
+        To::Place(index) => {
+            if index >= handles.len() {
+                return Err(Fault::NoSuchPlace);
+            }
+            Ok(index)
+        }
+        To::Last => {
+            let index = handles.len();
+            match handles.push_empty() {
+                Ok(()) => Ok(index),
+                Err(fault) => Err(fault),
+            }
+        }
     }
 }
 
-/// The handle goes where it is to go, and what is in that place is released. OutOfMemory where a new place can't be had:
-/// the handle is released.
+/// A place that was opened and not filled is as before: a new one goes.
 #[inline(always)]
-pub(crate) fn place<H: HasTable<A>, A: Allocator>(
+pub(crate) fn close<A: Allocator>(handles: &mut Handles<A>, to: To)
+    requires opened { IsOpen to handles.old }
+    ensures closed { TakenOff to handles.old handles.new }
+{
+    match to {
+        To::Place(_) => {}
+        To::Last => match handles.pop() {
+            Some(None) => {}
+            Some(Some(_handle)) => unreachable!(),
+            None => unreachable!(),
+        },
+    }
+}
+
+/// The handle into this place, and what was there is released. It takes no memory.
+#[inline(always)]
+pub(crate) fn fill<H: HasTable<A>, A: Allocator>(
     frame: &mut Frame<H, A>,
     handles: &mut Handles<A>,
-    to: To,
+    index: usize,
     handle: Handle<A>,
-) -> Result<(), Fault>
+)
     requires each { OwnsEach frame.old handles.old }
     requires owned { Owns frame.old handle }
     requires apart { IsApart handle handles.old }
     requires unlocked { IsUnlocked frame.old }
-    requires there { IsThere to handles.old }
+    requires inside { index < length handles.old }
 
     ensures each { OwnsEach frame.new handles.new }
     ensures count { frame.new.len + filled handles.old + 1 ≡ frame.old.len + filled handles.new }
@@ -58,19 +95,10 @@ pub(crate) fn place<H: HasTable<A>, A: Allocator>(
         → Owns frame.new h }
     ensures apart { (h : HandleSeen) → h.place ≢ handle.place → IsApart h handles.old → IsApart h handles.new }
 
-    ensures placed { OnOk result (Placed to frame.old frame.new handles.old handles.new handle) }
-    ensures refused { IfErr result (λ fault. fault ≡ faults.OutOfMemory) }
-    ensures last { OnErr result (to ≡ tos.Last) }
-    ensures released { OnErr result (Loses frame.old frame.new handle) }
-    ensures unchanged { OnErr result (handles.new ≡ handles.old) }
+    ensures set { handles.new ≡ slice_set handles.old index (Some handle) }
+    ensures gone { MatchOption (slot handles.old index) (frame.new ≡ frame.old) (Loses frame.old frame.new) }
 {
-    match to {
-        To::Last => handles.keep(frame, handle),
-        To::Place(index) => {
-            if let Some(gone) = handles.put(index, handle) {
-                frame.release(gone);
-            }
-            Ok(())
-        }
+    if let Some(gone) = handles.put(index, handle) {
+        frame.release(gone);
     }
 }

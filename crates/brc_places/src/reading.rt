@@ -1,6 +1,6 @@
 //! What the object in a place is and holds.
 
-ghost use Rattle.std.specs.Prelude.{Err, Ok, Some};
+ghost use Rattle.std.specs.Prelude.{◌≢◌, Err, Ok, Some, IfErr};
 ghost use Rattle.brc_words.specs.declared.fault.Fault.TheVariants as faults;
 ghost use Rattle.brc_count.specs.Frames.{IsUnlocked};
 ghost use Rattle.brc_handles.specs.Handles.{OwnsEach};
@@ -32,6 +32,7 @@ pub fn kind_at<H: HasTable<A>, A: Allocator>(
     ensures stands { KeepsStanding frame.old frame.new handles.now handles.now }
     ensures read { ReadsPlace frame.old frame.new handles.now index
         (λ k answer. Late frame.old k (λ mid. KindOf mid frame.new k answer)) result }
+    ensures waited { IfErr result (λ fault. fault ≢ faults.Busy) }
 {
     let Some(handle) = handles.get(index) else {
         return Err(Fault::NoSuchPlace);
@@ -69,6 +70,7 @@ pub fn len_at<H: HasTable<A>, A: Allocator>(
     ensures stands { KeepsStanding frame.old frame.new handles.now handles.now }
     ensures read { ReadsPlace frame.old frame.new handles.now index
         (λ k answer. Late frame.old k (λ mid. LenOf mid frame.new k answer)) result }
+    ensures waited { IfErr result (λ fault. fault ≢ faults.Busy) }
 {
     let Some(handle) = handles.get(index) else {
         return Err(Fault::NoSuchPlace);
@@ -106,6 +108,7 @@ pub fn int_at<H: HasTable<A>, A: Allocator>(
     ensures stands { KeepsStanding frame.old frame.new handles.now handles.now }
     ensures read { ReadsPlace frame.old frame.new handles.now index
         (λ k answer. Late frame.old k (λ mid. IntOf mid frame.new k answer)) result }
+    ensures waited { IfErr result (λ fault. fault ≢ faults.Busy) }
 {
     let Some(handle) = handles.get(index) else {
         return Err(Fault::NoSuchPlace);
@@ -144,6 +147,7 @@ pub fn text_at<H: HasTable<A>, A: Allocator>(
     ensures stands { KeepsStanding frame.old frame.new handles.now handles.now }
     ensures read { ReadsPlace frame.old frame.new handles.now index
         (λ k answer. Late frame.old k (λ mid. TextOf mid frame.new k answer)) result }
+    ensures waited { IfErr result (λ fault. fault ≢ faults.Busy) }
 {
     let Some(handle) = handles.get(index) else {
         return Err(Fault::NoSuchPlace);

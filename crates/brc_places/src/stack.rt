@@ -4,8 +4,9 @@ ghost use Rattle.std.specs.Prelude.{◌≡◌, ◌≢◌, ◌+◌, ◌-◌, ◌<
 ghost use Rattle.std.specs.Prelude.{IfNone, OnOk, OnErr, MatchOption, length};
 ghost use Rattle.std.specs.Option.{option_copied};
 ghost use Rattle.brc_words.specs.declared.fault.Fault.TheVariants as faults;
-ghost use Rattle.brc_count.specs.Frames.{HandleSeen, IsUnlocked, Owns, Refused};
-ghost use Rattle.brc_count.specs.Owned.{Loses};
+ghost use Rattle.brc_count.specs.law.living.Quiet.{Quietly};
+ghost use Rattle.brc_count.specs.Frames.{HandleSeen, IsAsBefore, IsUnlocked, Owns, Refused};
+ghost use Rattle.brc_count.specs.Owned.{Keeps, Loses};
 ghost use Rattle.brc_things.specs.Called.{Late};
 ghost use Rattle.brc_things.specs.Looking.{IntOf};
 ghost use Rattle.brc_handles.specs.Handles.{slot, filled, IsApart, OwnsEach, Retains, Swapped};
@@ -19,11 +20,11 @@ ghost use Rattle.brc_places.specs.Stacking.{DropsLast, Stores, TakesTop};
 
 use crate::giving::{GiveBy, give_at};
 use crate::place_makers::{Make, make_at};
-use crate::placing::{To, place};
+use crate::placing::{To, fill};
 use crate::reading::int_at;
 use crate::taking::{TakeBy, take_at};
 use brc_count::biased::HasTable;
-use brc_count::{Frame, Handle};
+use brc_count::{Frame, HandedBack, Handle};
 use brc_handles::Handles;
 use brc_words::Fault;
 use std::alloc::{Allocator, Global};
@@ -46,7 +47,8 @@ fn drop_last<H: HasTable<A>, A: Allocator>(frame: &mut Frame<H, A>, handles: &mu
     }
 }
 
-/// Handles, each in a place with a number; the last place is the top. They must be spent, by `release_all`.
+/// Handles, each in a place with a number; the last place is the top. No place is empty: each call that makes one fills
+/// it, or takes it off. They must be spent, by `release_all`.
 pub struct Stack<A: Allocator = Global> {
     handles: Handles<A>,
 }
@@ -54,10 +56,13 @@ pub struct Stack<A: Allocator = Global> {
 impl<A: Allocator> Model for Stack<A> {
     ghost use Rattle.std.specs.Prelude.{List, Option};
     ghost use Rattle.brc_count.specs.Frames.{HandleSeen};
+    ghost use Rattle.brc_places.specs.Stacking.{AreFilled};
 
     ghost Value = { List (Option HandleSeen) };
 
     ghost view = { λ s. s.handles };
+
+    ghost invariant = { λ s. AreFilled s.handles };
 }
 
 impl<A: Allocator> Stack<A> {
@@ -78,46 +83,46 @@ impl<A: Allocator> Stack<A> {
         self.handles.len()
     }
 
-    /// The handle in this place, counted from the first; None where it is empty, or there is no such place.
+    /// The handle in this place, counted from the first; None where there is no such place.
     #[inline(always)]
     pub fn get(&self, index: usize) -> Option<&Handle<A>>
-        ensures { option_copied result ≡ slot self.now index }
+        ensures found { option_copied result ≡ slot self.now index }
+        ensures none { IfNone result (length self.now ≤ index) }
     {
         self.handles.get(index)
     }
 
-    /// The handle on top; None where it is empty, or there is none.
+    /// The handle on top; None where there is none.
     #[inline(always)]
     pub fn top(&self) -> Option<&Handle<A>>
-        ensures { option_copied result ≡ slot self.now (length self.now - 1) }
+        ensures found { option_copied result ≡ slot self.now (length self.now - 1) }
+        ensures none { IfNone result (self.now ≡ []) }
     {
         self.handles.get(self.handles.len().saturating_sub(1))
     }
 
-    /// A handle on top. OutOfMemory where the place can't be had: the handle is released.
+    /// A handle on top. OutOfMemory where the place can't be had: the handle is handed back.
     #[inline(always)]
     pub fn push<H: HasTable<A>>(
         &mut self,
-        frame: &mut Frame<H, A>,
+        frame: &Frame<H, A>,
         handle: Handle<A>,
-    ) -> Result<(), Fault>
-        requires each { OwnsEach frame.old self.old }
-        requires owned { Owns frame.old handle }
+    ) -> Result<(), HandedBack<Handle<A>>>
+        requires each { OwnsEach frame.now self.old }
+        requires owned { Owns frame.now handle }
         requires apart { IsApart handle self.old }
-        requires unlocked { IsUnlocked frame.old }
 
-        ensures each { OwnsEach frame.new self.new }
-        ensures count { frame.new.len + filled self.old + 1 ≡ frame.old.len + filled self.new }
-        ensures heap { frame.new.heap ≡ frame.old.heap }
-        ensures unlocked { IsUnlocked frame.new }
-        ensures owns { (h : HandleSeen) → Owns frame.old h → handle.place ≢ h.place → Owns frame.new h }
+        ensures each { OwnsEach frame.now self.new }
+        ensures count { OnOk result (filled self.new ≡ filled self.old + 1) }
         ensures apart { (h : HandleSeen) → h.place ≢ handle.place → IsApart h self.old → IsApart h self.new }
 
-        ensures pushed { OnOk result ((self.new ≡ self.old ++ Some handle ∷ []) × (frame.new ≡ frame.old)) }
-        ensures released { OnErr result (Loses frame.old frame.new handle × (self.new ≡ self.old)) }
-        ensures refused { IfErr result (λ fault. fault ≡ faults.OutOfMemory) }
+        ensures pushed { OnOk result (self.new ≡ self.old ++ Some handle ∷ []) }
+        ensures refused { IfErr result (λ handed. handed.fault ≡ faults.OutOfMemory) }
+        ensures back { IfErr result (λ handed. handed.value ≡ handle) }
+        ensures unchanged { OnErr result (self.new ≡ self.old) }
     {
-        self.handles.keep(frame, handle)
+        let _frame = frame; // only clauses speak of it
+        self.handles.push(handle)
     }
 
     /// What is made, on top; it is refused as `make_at` is.
@@ -134,12 +139,13 @@ impl<A: Allocator> Stack<A> {
         ensures stands { KeepsStanding frame.old frame.new self.old self.new }
         ensures made { OnOk result (Comes tos.Last (MadeBy make.entry frame.old) frame.new self.old self.new) }
         ensures refused { IfErr result (Lacks tos.Last (MadeBy make.entry frame.old) frame.old frame.new self.old) }
+        ensures keeps { OnErr result (Keeps frame.old frame.new) }
         ensures unchanged { OnErr result (self.new ≡ self.old) }
     {
         make_at(alloc, frame, &mut self.handles, make, To::Last)
     }
 
-    /// The top goes. The answer is the handle that was in it; None where it was empty, or there is none.
+    /// The top goes. The answer is the handle that was in it; None where there is none.
     #[inline(always)]
     pub fn pop<H: HasTable<A>>(&mut self, frame: &Frame<H, A>) -> Option<Handle<A>>
         requires each { OwnsEach frame.now self.old }
@@ -153,7 +159,7 @@ impl<A: Allocator> Stack<A> {
         ensures beside { IfSome result (λ handle. (h : HandleSeen) → IsApart h self.old → h.place ≢ handle.place) }
 
         ensures popped { IfSome result (λ handle. self.old ≡ self.new ++ Some handle ∷ []) }
-        ensures none { IfNone result ((self.old ≡ self.new ++ None ∷ []) ⊎ ((self.old ≡ []) × (self.new ≡ []))) }
+        ensures none { IfNone result ((self.old ≡ []) × (self.new ≡ [])) }
     {
         match self.handles.pop_out(frame) {
             None => None,
@@ -161,7 +167,7 @@ impl<A: Allocator> Stack<A> {
         }
     }
 
-    /// The top goes, and what was in it is released. NoSuchPlace where no handle was in it, or there is none.
+    /// The top goes, and what was in it is released. NoSuchPlace where there is none.
     #[inline(always)]
     pub fn release<H: HasTable<A>>(&mut self, frame: &mut Frame<H, A>) -> Result<(), Fault>
         requires each { OwnsEach frame.old self.old }
@@ -170,8 +176,8 @@ impl<A: Allocator> Stack<A> {
         ensures gone { OnOk result ((handle : HandleSeen) × (self.old ≡ self.new ++ Some handle ∷ [])
             × Loses frame.old frame.new handle) }
         ensures refused { IfErr result (λ fault. (fault ≡ faults.NoSuchPlace) × (frame.new ≡ frame.old)) }
-        ensures none { OnErr result
-            ((self.old ≡ self.new ++ None ∷ []) ⊎ ((self.old ≡ []) × (self.new ≡ []))) }
+        ensures none { OnErr result (self.old ≡ []) }
+        ensures unchanged { OnErr result (self.new ≡ self.old) }
     {
         let Some(handle) = self.pop(frame) else {
             return Err(Fault::NoSuchPlace);
@@ -181,7 +187,7 @@ impl<A: Allocator> Stack<A> {
     }
 
     /// One reference more to the object of the handle in this place, counted from the first, on top. NoSuchPlace where
-    /// no handle is there, then as `Handles::retain`.
+    /// there is no such place; then OutOfMemory for a new one; then as `Frame::retain`. A refusal changes nothing.
     #[inline(always)]
     pub fn load<H: HasTable<A>>(
         &mut self,
@@ -196,6 +202,7 @@ impl<A: Allocator> Stack<A> {
             ⊎ Refused frame.old fault) }
         ensures missing { slot self.old index ≡ None → (result ≡ Err faults.NoSuchPlace) × (frame.new ≡ frame.old) }
         ensures none { result ≡ Err faults.NoSuchPlace → slot self.old index ≡ None }
+        ensures keeps { OnErr result (IsAsBefore frame.old frame.new) }
         ensures unchanged { OnErr result (self.new ≡ self.old) }
     {
         if self.handles.get(index).is_none() {
@@ -216,6 +223,7 @@ impl<A: Allocator> Stack<A> {
         ensures missing { slot self.old (length self.old - 1) ≡ None
             → (result ≡ Err faults.NoSuchPlace) × (frame.new ≡ frame.old) }
         ensures none { result ≡ Err faults.NoSuchPlace → slot self.old (length self.old - 1) ≡ None }
+        ensures keeps { OnErr result (IsAsBefore frame.old frame.new) }
         ensures unchanged { OnErr result (self.new ≡ self.old) }
     {
         let top = self.len().saturating_sub(1);
@@ -257,7 +265,9 @@ impl<A: Allocator> Stack<A> {
             (GivesTo tos.Last (GaveLate by.entry frame.old) frame.new self.old self.new (length self.old - 1)) }
         ensures refused { IfErr result
             (GivesNot tos.Last (GaveLate by.entry frame.old) frame.old frame.new self.old (length self.old - 1)) }
+        ensures keeps { OnErr result (Keeps frame.old frame.new) }
         ensures unchanged { OnErr result (self.new ≡ self.old) }
+        ensures waited { IfErr result (λ fault. fault ≢ faults.Busy) }
     {
         let top = self.len().saturating_sub(1);
         give_at(rt, frame, &mut self.handles, top, by, To::Last)
@@ -280,7 +290,9 @@ impl<A: Allocator> Stack<A> {
         ensures took { OnOk result (TakesTop (TookLate by.entry frame.old) frame.new self.old self.new) }
         ensures refused { IfErr result (TakesNot (TookLate by.entry frame.old) frame.old frame.new self.old
             (length self.old - 2) (length self.old - 1)) }
+        ensures keeps { OnErr result (Keeps frame.old frame.new) }
         ensures unchanged { OnErr result (self.new ≡ self.old) }
+        ensures waited { IfErr result (λ fault. fault ≢ faults.Busy) }
     {
         let len = self.len();
         if len < 2 {
@@ -296,7 +308,7 @@ impl<A: Allocator> Stack<A> {
     }
 
     /// The top goes into this place, counted from the first, and what was there is released. NoSuchPlace where there is
-    /// no such place below the top, then where no handle is on top: its place is gone.
+    /// no such place below the top: a refusal changes nothing.
     #[inline(always)]
     pub fn store<H: HasTable<A>>(
         &mut self,
@@ -308,19 +320,17 @@ impl<A: Allocator> Stack<A> {
         ensures stands { KeepsStanding frame.old frame.new self.old self.new }
         ensures stored { OnOk result (Stores frame.old frame.new self.old self.new index) }
         ensures refused { IfErr result (λ fault. (fault ≡ faults.NoSuchPlace) × (frame.new ≡ frame.old)) }
-        ensures none { OnErr result (((length self.old ≤ index + 1) × (self.new ≡ self.old))
-            ⊎ (self.old ≡ self.new ++ None ∷ [])) }
+        ensures none { OnErr result (length self.old ≤ index + 1) }
+        ensures unchanged { OnErr result (self.new ≡ self.old) }
     {
         if index >= self.len().saturating_sub(1) {
             return Err(Fault::NoSuchPlace);
         }
         let Some(handle) = self.pop(frame) else {
-            return Err(Fault::NoSuchPlace);
+            unreachable!()
         };
-        match place(frame, &mut self.handles, To::Place(index), handle) {
-            Ok(()) => Ok(()),
-            Err(_fault) => unreachable!(),
-        }
+        fill(frame, &mut self.handles, index, handle);
+        Ok(())
     }
 
     /// The number of the integer on top, which stays; it is refused as `int_at` is.
@@ -331,6 +341,7 @@ impl<A: Allocator> Stack<A> {
         ensures stands { KeepsStanding frame.old frame.new self.now self.now }
         ensures read { ReadsPlace frame.old frame.new self.now (length self.now - 1)
             (λ k answer. Late frame.old k (λ mid. IntOf mid frame.new k answer)) result }
+        ensures waited { IfErr result (λ fault. fault ≢ faults.Busy) }
     {
         let top = self.len().saturating_sub(1);
         int_at(rt, frame, &self.handles, top)
@@ -344,6 +355,7 @@ impl<A: Allocator> Stack<A> {
         ensures owns { (h : HandleSeen) → Owns frame.old h → IsApart h self → Owns frame.new h }
         ensures heap { frame.new.heap ≡ frame.old.heap }
         ensures unlocked { IsUnlocked frame.new }
+        ensures quiet { Quietly frame.old.seat.log frame.new.seat.log }
     {
         let Stack { handles } = self;
         handles.release_all(frame);

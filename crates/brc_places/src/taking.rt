@@ -134,8 +134,9 @@ fn put_back<A: Allocator>(handles: &mut Handles<A>, index: usize, handle: Handle
 }
 
 /// The handle in the value's place goes into the container in another place, once no other thread has that locked. The
-/// value's place has what came out for it then, which lies in the same place of the frame, or is empty. NoSuchPlace where no handle is in one of them, or they are
-/// one place; then what the call answers (`brc_lists`, `brc_dicts`): the value stays in its place.
+/// value's place has what came out for it then, which lies in the same place of the frame, or is empty. NoSuchPlace
+/// where no handle is in one of them, or they are one place; then what the call answers (`brc_lists`, `brc_dicts`): the
+/// value stays in its place.
 pub fn take_at<H: HasTable<A>, A: Allocator + Copy>(
     rt: &impl Wait,
     alloc: A,
@@ -153,6 +154,7 @@ pub fn take_at<H: HasTable<A>, A: Allocator + Copy>(
         (TakesFrom (TookLate by.entry frame.old) frame.new handles.old handles.new container value) }
     ensures refused { IfErr result
         (TakesNot (TookLate by.entry frame.old) frame.old frame.new handles.old container value) }
+    ensures keeps { OnErr result (Keeps frame.old frame.new) }
     ensures came { OnOk result (IfSome (slot handles.new value) (λ came. slot handles.old value ≡ Some came)) }
     ensures unchanged { OnErr result (handles.new ≡ handles.old) }
     ensures waited { IfErr result (λ fault. fault ≢ faults.Busy) }
@@ -195,6 +197,7 @@ pub fn try_take_at<H: HasTable<A>, A: Allocator + Copy>(
         (TakesFrom (TookBy by.entry frame.old) frame.new handles.old handles.new container value) }
     ensures refused { IfErr result
         (TakesNot (TookBy by.entry frame.old) frame.old frame.new handles.old container value) }
+    ensures keeps { OnErr result (Keeps frame.old frame.new) }
     ensures came { OnOk result (IfSome (slot handles.new value) (λ came. slot handles.old value ≡ Some came)) }
     ensures unchanged { OnErr result (handles.new ≡ handles.old) }
 {

@@ -15,6 +15,7 @@ mod failed;
 mod gate;
 mod help;
 mod phrases;
+mod taken;
 mod telling;
 mod unread;
 

@@ -1,18 +1,23 @@
 //! Why a command line asks for nothing: a second look, at words that were refused.
 
-ghost use Rattle.std.specs.Prelude.{◌≡◌, ◌↔◌, IfSome, IsTrue, drop};
+ghost use Rattle.std.specs.Prelude.{◌≡◌, ◌<◌, ◌↔◌, IfSome, IsTrue, codes, length};
 ghost use Rattle.brc_text.specs.Puts.{PutsText};
-ghost use Rattle.brc_program.specs.Unreads.{least_of, most_of, SpellsAllowed, IsUnread, IsOneOf, before_word};
-ghost use Rattle.brc_program.specs.Unreads.{behind_word};
-ghost use Rattle.brc_program.specs.Unreads.{unread_line, word_of};
+ghost use Rattle.brc_program.specs.Takes.{argument_at};
+ghost use Rattle.brc_program.specs.Unreads.{option_name, least_of, most_of, SpellsAllowed, GivesValue, IsUnread};
+ghost use Rattle.brc_program.specs.Unreads.{names_command, lacks_value, is_flag_with_value, are_both, are_same};
+ghost use Rattle.brc_program.specs.Unreads.{StandsAgain, IsWrong, TellsWord};
+ghost use Rattle.brc_program.specs.Unreads.{before_word, behind_word, unread_line, word_of};
 
 use crate::command::{behind_name, brc_command};
+use crate::taken::{
+    argument_at, is_behind_dashes, is_command, is_dashed, is_option, is_taken, is_word, wants_value,
+};
 use brc_excerpt::{Excerpt, put_quoted};
 use brc_run_text::MOST_TURNS;
 use brc_text::{number_of, put_bytes, put_parts};
 use brc_words::{FEWEST_CELLS, Fault, MOST_CELLS, MOST_LOCAL};
+use clap::Error;
 use clap::error::ErrorKind;
-use clap::{ArgMatches, Error};
 use std::alloc::Global;
 use std::io::Write;
 
@@ -50,12 +55,14 @@ pub(crate) enum Unread {
 
 // ---- a number of an option
 
-/// The option's name, without the dashes.
-fn name_of(option: Numbered) -> &'static str {
+/// The option, as it stands in a command line.
+fn option_name(option: Numbered) -> &'static str
+    ensures { result.now ≡ option_name option }
+{
     match option {
-        Numbered::Cells => "cells",
-        Numbered::Turns => "budget",
-        Numbered::LocalLimit => "local-limit",
+        Numbered::Cells => "--cells",
+        Numbered::Turns => "--budget",
+        Numbered::LocalLimit => "--local-limit",
     }
 }
 
@@ -91,24 +98,50 @@ fn is_within(option: Numbered, said: &[u8]) -> bool
     }
 }
 
-/// The option's value, if it is no number that the option takes.
-fn unread_value(words: &[String], options: &ArgMatches, option: Numbered) -> Option<Unread>
-    ensures { IfSome result (IsUnread words.now) }
+/// The value that the word at the place gives the option: behind its equals sign, or the next word.
+fn value_at(words: &[String], at: usize, option: Numbered) -> Option<&[u8]>
+    requires there { at < length words.now }
+
+    ensures gives { IfSome result (λ said. GivesValue words.now at option said.now) }
 {
-    let said = options.get_str(name_of(option))?.as_bytes();
-    if is_within(option, said) {
-        None
-    } else {
-        Some(Unread::NotWithin(option, Excerpt::of(said)))
+    let rest = argument_at(words, at).strip_prefix(option_name(option).as_bytes())?;
+    if !rest.is_empty() {
+        return rest.strip_prefix(b"=");
     }
+    if at + 1 < words.len() {
+        return Some(argument_at(words, at + 1));
+    }
+    None
+}
+
+/// The first value of the option that is no number which it takes.
+fn unread_value(words: &[String], option: Numbered) -> Option<Unread>
+    requires run { argument_at words.now 1 ≡ codes "run" }
+
+    ensures told { IfSome result (IsUnread words.now) }
+{
+    for at in 2..words.len() {
+        if is_behind_dashes(words, at) {
+            return None;
+        }
+        if let Some(said) = value_at(words, at, option)
+            && !is_within(option, said)
+        {
+            return Some(Unread::NotWithin(option, Excerpt::of(said)));
+        }
+    }
+    None
 }
 
 /// The first value of a run that is no number of its option.
-fn unread_number(words: &[String], options: &ArgMatches) -> Option<Unread>
+fn unread_number(words: &[String]) -> Option<Unread>
     ensures { IfSome result (IsUnread words.now) }
 {
+    if !is_word(argument_at(words, 1), b"run") {
+        return None;
+    }
     for option in [Numbered::Cells, Numbered::Turns, Numbered::LocalLimit] {
-        let unread = unread_value(words, options, option);
+        let unread = unread_value(words, option);
         if unread.is_some() {
             return unread;
         }
@@ -196,13 +229,91 @@ fn is_meant(text: &[u8], misfit: Misfit, word: &[u8]) -> bool {
     }
 }
 
-/// The first of the words behind the program's name that is meant.
-fn meant_word(words: &[String], text: &[u8], misfit: Misfit) -> Option<Excerpt>
-    ensures { IfSome result (IsOneOf words.now) }
+// ---- whether what `clap` says of a word is so
+
+/// Whether a command's name belongs at the place.
+fn names_command(words: &[String], at: usize) -> bool
+    ensures { result ≡ names_command words.now at }
 {
-    for (at, word) in words.iter().enumerate() {
-        if at > 0 && is_meant(text, misfit, word.as_bytes()) {
-            return Some(Excerpt::of(word.as_bytes()));
+    at == 1 || is_word(argument_at(words, 1), b"help") || is_word(argument_at(words, 1), b"--")
+}
+
+/// Whether the word has to have a value, and none stands behind it.
+fn lacks_value(words: &[String], at: usize) -> bool
+    requires there { at < length words.now }
+
+    ensures { result ≡ lacks_value words.now at }
+{
+    wants_value(argument_at(words, at))
+        && (at + 1 == words.len() || is_dashed(argument_at(words, at + 1)))
+}
+
+/// Whether it is an option that takes no value, and gives it one.
+fn is_flag_with_value(word: &[u8]) -> bool
+    ensures { result ≡ is_flag_with_value word.now }
+{
+    word.starts_with(b"--explain=")
+        || word.starts_with(b"--help=")
+        || word.starts_with(b"--version=")
+}
+
+/// Whether both words are this option.
+fn are_both(option: &[u8], one: &[u8], other: &[u8]) -> bool
+    ensures { result ≡ are_both option.now one.now other.now }
+{
+    is_option(one, option) && is_option(other, option)
+}
+
+/// Whether both are the same option.
+fn are_same(one: &[u8], other: &[u8]) -> bool
+    ensures { result ≡ are_same one.now other.now }
+{
+    are_both(b"--explain", one, other)
+        || are_both(b"--cells", one, other)
+        || are_both(b"--budget", one, other)
+        || are_both(b"--local-limit", one, other)
+}
+
+/// Whether the option at the place stands behind it once more.
+fn stands_again(words: &[String], at: usize) -> bool
+    requires there { at < length words.now }
+
+    ensures again { IsTrue result → StandsAgain words.now at }
+{
+    for other in at + 1..words.len() {
+        if is_taken(words, other) && are_same(argument_at(words, at), argument_at(words, other)) {
+            return true;
+        }
+    }
+    false
+}
+
+/// Whether this is wrong with the word at the place.
+fn is_wrong(words: &[String], at: usize, misfit: Misfit) -> bool
+    requires behind { 0 < at }
+    requires there { at < length words.now }
+
+    ensures wrong { IsTrue result → IsWrong words.now at misfit }
+{
+    let word = argument_at(words, at);
+    let is_taken = is_taken(words, at);
+    match misfit {
+        Misfit::NotTaken => !is_taken,
+        Misfit::NoCommand => names_command(words, at) && !is_command(word),
+        Misfit::NoValue => is_taken && lacks_value(words, at),
+        Misfit::WithValue => is_taken && is_flag_with_value(word),
+        Misfit::Twice => is_taken && stands_again(words, at),
+    }
+}
+
+/// The first of the words behind the program's name that is meant, and with which this is wrong.
+fn meant_word(words: &[String], text: &[u8], misfit: Misfit) -> Option<Excerpt>
+    ensures told { IfSome result (TellsWord words.now misfit) }
+{
+    for at in 1..words.len() {
+        let word = argument_at(words, at);
+        if is_meant(text, misfit, word) && is_wrong(words, at, misfit) {
+            return Some(Excerpt::of(word));
         }
     }
     None
@@ -234,10 +345,7 @@ pub(crate) fn why_unread(alloc: Global, words: &[String]) -> Option<Unread>
         return None;
     };
     match brc.try_get_matches_from(behind_name(words)) {
-        Ok(matches) => match matches.subcommand() {
-            Some(("run", options)) => unread_number(words, options),
-            _ => None,
-        },
+        Ok(_) => unread_number(words),
         Err(error) => unread_word(alloc, words, &error),
     }
 }

@@ -1,7 +1,8 @@
 //! The merge queues: references go into queue words and their bits are popped, notify words say which queue words to
 //! look at, and a popped object's local count joins its shared one.
 
-ghost use Rattle.std.specs.Prelude.{◌+◌, ◌*◌, ◌%◌, ◌^◌, ◌≡◌, ◌<◌, ◌∷◌, Some};
+ghost use Rattle.std.specs.Prelude.{◌+◌, ◌*◌, ◌%◌, ◌≡◌, ◌<◌, ◌∷◌, Some};
+ghost use Rattle.law.specs.world.Lists.{WORD_LIMIT};
 ghost use Rattle.law.specs.world.Heap.{words_for};
 ghost use Rattle.law.specs.world.declared.event.Step.TheVariants as steps;
 ghost use Rattle.law.specs.rule.declared.told.Moved.TheVariants as moves;
@@ -105,7 +106,7 @@ pub fn merge_add<A: Allocator>(
     requires table { seat.old.table ≡ table.now.table }
     requires inside { cell < table.now.cells }
     requires adds { AddsLocal table.now.cells seat.old.log cell local }
-    ensures told { seat.new.log ≡ told.Stepped (steps.MergeAdd cell) ((result + (local * 4 + 1)) % 2 ^ 64) moves.Nothing
+    ensures told { seat.new.log ≡ told.Stepped (steps.MergeAdd cell) ((result + (local * 4 + 1)) % WORD_LIMIT) moves.Nothing
         ∷ seat.old.log }
     ensures seat { IsSameSeat seat.old seat.new }
     ensures knows { Knows table.now.cells seat.new.log

@@ -36,7 +36,7 @@ marks_few (x ∷ items) = by_item x (marks_few items)
   where
     by_item : (x : Item) → length (marks_of items) ≤ registrations_of items + 1
         → length (marks_on x (marks_of items)) ≤ registrations_on x (registrations_of items) + 1
-    by_item (logged.Did (Register u) number entries) few = elim (cases_lt u (length (marks_of items))) [
+    by_item (logged.Stepped (Register u) number entries) few = elim (cases_lt u (length (marks_of items))) [
       | inl used ↦ rw (lt-ltb u (length (marks_of items)) used) (omega (
         arith,
         few,
@@ -48,7 +48,7 @@ marks_few (x ∷ items) = by_item x (marks_few items)
         length-append (marks_of items) (false ∷ []),
       ))
     ]
-    by_item (logged.Did (Gather u) number entries) few = omega (arith, few, length-set (marks_of items) u true)
+    by_item (logged.Stepped (Gather u) number entries) few = omega (arith, few, length-set (marks_of items) u true)
     by_item _ few = few
 
 pub next_is : (v : View) → next_thread v ≤ registrations v + 1

@@ -1,5 +1,8 @@
 -- What a call on a shared heap says of the root that it found at the desk. Which root that was, as to what it has
 -- counted, is known to the call alone: another may have it at once.
+--
+-- Each `root` below is some root of this heap. No definition says that it is the one which lay at the desk, with what
+-- that one had counted.
 use Rattle.std.specs.Prelude.{◌≡◌, ◌≢◌, ℕ}
 use Rattle.std.specs.declared.alloc.Global.{Global}
 use Rattle.brc_words.specs.declared.fault.Fault.{Fault}

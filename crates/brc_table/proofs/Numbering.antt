@@ -13,7 +13,7 @@ use Rattle.law.specs.world.Steps.{first_gathered}
 use Rattle.law.specs.world.declared.event.Step.TheVariants.{Register, Gather}
 use Rattle.law.proofs.world.Changes.{read_here, read_there}
 use Rattle.law.proofs.world.Registering.{length-push, push_else}
-use Rattle.law.specs.known.Items.{Item, Did}
+use Rattle.law.specs.known.Items.{Item, Stepped}
 use Rattle.law.specs.known.Root.{marks_of, marks_on, rows_of}
 use Rattle.brc_table.specs.Numbers.{in_use, AreFree, IsLowest}
 
@@ -88,7 +88,7 @@ here_bit bits new now at i value low is same so =
 
 -- a number is registered
 taken_marks : (marks : List Bool) (u number : ℕ) (entries : List ℕ) → u ≤ length marks → u ≢ 0 → (v : ℕ)
-    → in_use (marks_on (Did (Register u) number entries) marks) v ≡ (if v == u then true else in_use marks v)
+    → in_use (marks_on (Stepped (Register u) number entries) marks) v ≡ (if v == u then true else in_use marks v)
 taken_marks marks u number entries low some v = elim (cases_lt u (length marks)) [
   | inl inside ↦
       ap (λ b. in_use (if b then set marks u false else marks ++ false ∷ []) v) (lt-ltb u (length marks) inside)
@@ -124,12 +124,12 @@ taken_marks marks u number entries low some v = elim (cases_lt u (length marks))
 pub taken_number : (bits new u number : ℕ) (entries : List ℕ) (items : List Item) → AreFree bits (marks_of items)
     → u ≡ first_gathered (marks_of items) → u ≤ MOST_THREADS
     → ((i : ℕ) → i < 64 → bit_at new i ≡ (if i == u - 1 then 0 else bit_at bits i))
-    → AreFree new (marks_of (Did (Register u) number entries ∷ items))
+    → AreFree new (marks_of (Stepped (Register u) number entries ∷ items))
 taken_number bits new u number entries items free is few bit_is =
     let marks : List Bool = marks_of items in
     let positive : 0 < u = omega (arith, is, first_some marks free.root free.some) in
     let low : u ≤ length marks = omega (arith, is, first_low marks) in
-    let now : List Bool = marks_on (Did (Register u) number entries) marks in
+    let now : List Bool = marks_on (Stepped (Register u) number entries) marks in
     let use_is : (v : ℕ) → in_use now v ≡ (if v == u then true else in_use marks v) =
     taken_marks marks u number entries low (λ e. omega (arith, e, positive)) in
     record {
@@ -177,7 +177,7 @@ taken_number bits new u number entries items free is few bit_is =
 -- a thread is gathered
 pub given_number : (bits new u number : ℕ) (entries : List ℕ) (items : List Item) → AreFree bits (marks_of items)
     → 0 < u → u ≤ MOST_THREADS → ((i : ℕ) → i < 64 → bit_at new i ≡ (if i == u - 1 then 1 else bit_at bits i))
-    → AreFree new (marks_of (Did (Gather u) number entries ∷ items))
+    → AreFree new (marks_of (Stepped (Gather u) number entries ∷ items))
 given_number bits new u number entries items free positive few bit_is =
     let marks : List Bool = marks_of items in
     let now : List Bool = set marks u true in
@@ -223,7 +223,7 @@ none_taken = record {
 
 pub taken_rows : (u rows number : ℕ) (entries : List ℕ) (items : List Item) → rows ≡ rows_of items
     → u ≡ first_gathered (marks_of items)
-    → rows_of (Did (Register u) number entries ∷ items) ≡ (if u == rows then u + 1 else rows)
+    → rows_of (Stepped (Register u) number entries ∷ items) ≡ (if u == rows then u + 1 else rows)
 taken_rows u rows number entries items is first =
     let marks : List Bool = marks_of items in
     let low : u ≤ length marks = omega (arith, first, first_low marks) in
@@ -239,5 +239,5 @@ taken_rows u rows number entries items is first =
     ]
 
 pub given_rows : (u number : ℕ) (entries : List ℕ) (items : List Item)
-    → rows_of (Did (Gather u) number entries ∷ items) ≡ rows_of items
+    → rows_of (Stepped (Gather u) number entries ∷ items) ≡ rows_of items
 given_rows u number entries items = length-set (marks_of items) u true

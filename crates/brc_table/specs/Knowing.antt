@@ -1,6 +1,7 @@
 -- What a seat knows by its log, and what a call makes of it: so nobody above unfolds a log.
 use Rattle.std.specs.Prelude.{◌≡◌, ◌≢◌, ℕ, ◌%◌, true, false, List, [], Option, Some, None}
 use Rattle.brc_block.specs.declared.payload.Payload.{Payload}
+use Rattle.brc_words.specs.declared.look.TheConstants.{ONE_COUNT}
 use Rattle.law.specs.world.declared.event.Dropped.{Dropped}
 use Rattle.law.specs.world.Lists.{names}
 use Rattle.law.specs.known.declared.word.Field.{Field}
@@ -35,7 +36,7 @@ pub record KeepsNotes (n : ℕ) (before log : List LogItem) : Type 0 where
 
 -- a shared word in another state than default was found: each place and last entry that has the cell has it seen risen
 pub record SeesRisen (n : ℕ) (before : List LogItem) (c number : ℕ) (log : List LogItem) : Type 0 where
-  pub risen : number % 4 ≢ 0 → (drop : Dropped) → drop_in (part_seen n before) drop ≡ Some c
+  pub risen : number % ONE_COUNT ≢ 0 → (drop : Dropped) → drop_in (part_seen n before) drop ≡ Some c
       → risen_seen n log drop c ≡ true
 
 -- the number found in this word of the cell is noted, and what was noted of other words stays so

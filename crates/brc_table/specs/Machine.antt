@@ -1,7 +1,8 @@
 -- What an operation on a word may be.
-use Rattle.std.specs.Prelude.{◌≡◌, ℕ, ◌+◌, ◌%◌, ◌^◌, ◌==◌, ◌≤◌, Bool, true, if◌then◌else◌, Option}
+use Rattle.std.specs.Prelude.{◌≡◌, ℕ, ◌+◌, ◌%◌, ◌==◌, ◌≤◌, Bool, true, if◌then◌else◌, Option}
 use prog.Atomic.{either}
 use Rattle.atomic_table.specs.Table.{Me, Allows}
+use Rattle.law.specs.world.Lists.{WORD_LIMIT}
 use Rattle.law.specs.known.declared.word.Word.{Word}
 use Rattle.law.specs.rule.declared.contents.Contents.{Contents}
 use Rattle.law.specs.rule.declared.told.LogItem.{LogItem}
@@ -38,7 +39,7 @@ module _ {B : Type 0} (shows : B → ℕ × Contents) (n limit id : ℕ) (me : M
   -- how much, as a ghost value gives it to what is told.
   abbrev pub MaySum : (ℕ → ℕ) → (ℕ → LogItem) → ℕ → Type 0
   MaySum f item more = Allows (Kept shows n limit) n id me (spot n w) f
-      (λ there after. (after ≡ (with_told (item there) me.0, me.1)) × CountsSome ((there + more) % 2 ^ 64))
+      (λ there after. (after ≡ (with_told (item there) me.0, me.1)) × CountsSome ((there + more) % WORD_LIMIT))
 
   -- The rule allows that a notify word becomes f of what it was, as the item, and the log before is an own log. m is n,
   -- as a ghost value gives it to what is told.

@@ -1,11 +1,12 @@
 -- Blocks that move: out of the table with a seat, and home.
-use Rattle.std.specs.Prelude.{◌≡◌, ℕ, ◌/◌, ◌%◌, ◌^◌, ◌==◌, ◌<◌, bit_and, Bool, true, false, List, [], ◌∷◌, Option, Some}
+use Rattle.std.specs.Prelude.{◌≡◌, ℕ, ◌/◌, ◌%◌, ◌==◌, ◌<◌, bit_and, Bool, true, false, List, [], ◌∷◌, Option, Some}
 use Rattle.std.specs.Prelude.{None}
 use Rattle.std.specs.Int.{bit_at}
 use prog.Atomic.{either}
 use Rattle.atomic_table.specs.Table.{Me, Allows, rest}
 use Rattle.brc_block.specs.declared.payload.Payload.{Payload}
 use Rattle.law.specs.world.declared.event.Step.{Step}
+use Rattle.law.specs.world.Lists.{WORD_LIMIT}
 use Rattle.law.specs.world.Steps.{takes_block}
 use Rattle.law.specs.known.declared.word.Field.TheVariants.{Shared, Mutex}
 use Rattle.law.specs.known.declared.word.Word.{Word}
@@ -33,7 +34,7 @@ found_locked log = found_or Nothing (contents_locked log)
 
 -- what the thread has given back so far is a number of 64 bits
 abbrev pub FewFrees : ℕ → List LogItem → Type 0
-FewFrees n log = (part_seen n log).row.frees < 2 ^ 64
+FewFrees n log = (part_seen n log).row.frees < WORD_LIMIT
 
 module _ {A : Type 0} where
   -- ---- what a step that may take a block answers

@@ -2,6 +2,7 @@
 use Rattle.std.specs.Prelude.{ℕ, zero, suc, ◌+◌, ◌-◌, ◌*◌, ◌/◌, ◌%◌, ◌^◌, ◌==◌, nat_lt, min, if◌then◌else◌, List, []}
 use Rattle.std.specs.Prelude.{◌∷◌, ◌++◌, Option, Some, None}
 use Rattle.brc_words.specs.declared.limits.TheConstants.{FIRST_MORTAL, IMMORTAL_LOCAL}
+use Rattle.brc_words.specs.declared.look.TheConstants.{NO_COUNT}
 use Rattle.brc_block.specs.declared.payload.Payload.{Payload}
 use Rattle.law.specs.rule.declared.contents.Contents.{Contents}
 use Rattle.law.specs.known.Free_Words.{free_words_for}
@@ -22,7 +23,7 @@ opening_free n k = 2 ^ bits_below n k - 2 ^ bits_below FIRST_MORTAL k
 -- is an owner
 abbrev pub opening_count : ℕ → ℕ → ℕ
 opening_count c part = if part == 0 then (if nat_lt c FIRST_MORTAL then IMMORTAL_LOCAL else 0)
-    else (if part == 8 then 2 ^ 42 else 0)
+    else (if part == 8 then NO_COUNT else 0)
 
 -- the word at a spot before the counts: behind the free words nobody is told anything
 abbrev pub opening_low : ℕ → ℕ → ℕ

@@ -1,8 +1,10 @@
 //! Cells: one is claimed, its words are set, and an object is born in it; a dead one's cell is free again.
 
-ghost use Rattle.std.specs.Prelude.{◌≡◌, ◌/◌, ◌%◌, ◌<◌, ◌∷◌, ◌^◌, None, OnOk, OnErr, IfOk, IfErr};
+ghost use Rattle.std.specs.Prelude.{◌≡◌, ◌/◌, ◌%◌, ◌<◌, ◌∷◌, None, OnOk, OnErr, IfOk, IfErr};
 ghost use Rattle.std.specs.Int.{bit_at};
 ghost use Rattle.atomic_table.specs.Table.{rest};
+ghost use Rattle.brc_words.specs.declared.look.TheConstants.{NO_COUNT};
+ghost use Rattle.law.specs.world.Lists.{WORD_LIMIT};
 ghost use Rattle.law.specs.world.declared.event.Step.TheVariants as steps;
 ghost use Rattle.law.specs.world.declared.row.Hand.TheVariants as hands;
 ghost use Rattle.law.specs.world.declared.row.Phase.TheVariants as phases;
@@ -82,7 +84,7 @@ impl<A: Allocator> HeapTable<A> {
         requires table { seat.old.table ≡ self.now.table }
         requires inside { cell < self.now.cells }
         requires carries { MayCarry self.now.cells seat.old.log (steps.InitShared cell) cell }
-        ensures told { seat.new.log ≡ told.Stepped (steps.InitShared cell) (2 ^ 42) moves.Nothing ∷ seat.old.log }
+        ensures told { seat.new.log ≡ told.Stepped (steps.InitShared cell) NO_COUNT moves.Nothing ∷ seat.old.log }
         ensures seat { IsSameSeat seat.old seat.new }
         ensures knows { Knows self.now.cells seat.new.log
             (handing (hands.Busy phases.Ready cell) (known_seen self.now.cells seat.old.log)) }
@@ -126,7 +128,7 @@ impl<A: Allocator> HeapTable<A> {
         ensures seat { Continues seat.old seat.new }
         ensures knows { Knows self.now.cells seat.new.log (giving_back cell (known_seen self.now.cells seat.old.log)) }
         ensures keeps { KeepsNotes self.now.cells seat.old.log seat.new.log }
-        ensures few { (part_seen self.now.cells seat.new.log).row.frees < 2 ^ 64 }
+        ensures few { (part_seen self.now.cells seat.new.log).row.frees < WORD_LIMIT }
     {
         let word = Word::FreeWord(cell / 64);
         let bits = bit(cell % 64);

@@ -1,6 +1,7 @@
 //! Counting: by the owner on the local word, and by all others on the shared one.
 
-ghost use Rattle.std.specs.Prelude.{◌≡◌, ◌≢◌, ◌+◌, ◌-◌, ◌%◌, ◌^◌, ◌==◌, ◌<◌, ◌≤◌, ◌∷◌, true, Some, OnOk, OnErr, IfErr};
+ghost use Rattle.std.specs.Prelude.{◌≡◌, ◌≢◌, ◌+◌, ◌-◌, ◌%◌, ◌==◌, ◌<◌, ◌≤◌, ◌∷◌, true, Some, OnOk, OnErr, IfErr};
+ghost use Rattle.brc_words.specs.declared.look.TheConstants.{NO_COUNT, ONE_COUNT};
 ghost use Rattle.law.specs.world.declared.event.Step.TheVariants as steps;
 ghost use Rattle.law.specs.world.declared.event.Dropped.TheVariants as drops;
 ghost use Rattle.law.specs.known.declared.word.Field.TheVariants as fields;
@@ -118,7 +119,7 @@ impl<A: Allocator> HeapTable<A> {
             (filling place cell (known_seen self.now.cells seat.old.log)) }
         ensures keeps { KeepsNotes self.now.cells seat.old.log seat.new.log }
         ensures found { contents_locked seat.new.log ≡ contents_locked seat.old.log }
-        ensures risen { result % 4 ≢ 0 → risen_seen self.now.cells seat.new.log (drops.Frame place) cell ≡ true }
+        ensures risen { result % ONE_COUNT ≢ 0 → risen_seen self.now.cells seat.new.log (drops.Frame place) cell ≡ true }
     {
         let word = Word::Of(Field::Shared, cell);
         let step = Step::SharedUp { source, place };
@@ -134,9 +135,9 @@ impl<A: Allocator> HeapTable<A> {
         ensures told { seat.new.log ≡ told.Stepped (steps.Ask drop) result moves.Nothing ∷ seat.old.log }
         ensures seat { IsSameSeat seat.old seat.new }
         ensures knows { Knows self.now.cells seat.new.log
-            (asking (result % 4 == 0) drop cell (known_seen self.now.cells seat.old.log)) }
+            (asking (result % ONE_COUNT == 0) drop cell (known_seen self.now.cells seat.old.log)) }
         ensures keeps { KeepsNotes self.now.cells seat.old.log seat.new.log }
-        ensures risen { result % 4 ≢ 0 → risen_seen self.now.cells seat.new.log drop cell ≡ true }
+        ensures risen { result % ONE_COUNT ≢ 0 → risen_seen self.now.cells seat.new.log drop cell ≡ true }
     {
         let word = Word::Of(Field::Shared, cell);
         or(self, &mut seat.place, word, QUEUED_BITS, Step::Ask(drop))
@@ -154,8 +155,8 @@ impl<A: Allocator> HeapTable<A> {
         requires table { seat.old.table ≡ self.now.table }
         requires inside { cell < self.now.cells }
         requires releases { MayRelease self.now.cells seat.old.log (steps.SharedDown drop) cell }
-        requires default { old % 4 ≡ 0 }
-        requires some_count { 2 ^ 42 + 4 ≤ old }
+        requires default { old % ONE_COUNT ≡ 0 }
+        requires some_count { NO_COUNT + ONE_COUNT ≤ old }
         ensures won { OnOk result
             (seat.new.log ≡ told.Stepped (steps.SharedDown drop) old moves.Nothing ∷ seat.old.log) }
         ensures lost { IfErr result (λ found. seat.new.log ≡ told.Lost (words.Of fields.Shared cell) found

@@ -2,6 +2,7 @@
 
 ghost use Rattle.std.specs.Prelude.{◌≡◌, ℕ, ◌<◌, bit_or};
 ghost use Rattle.law.specs.known.declared.word.Word.TheVariants as words;
+ghost use Rattle.brc_words.specs.declared.look.TheConstants.{CLOSED_BIT};
 ghost use Rattle.law.specs.known.Items.{IsWord};
 ghost use Rattle.law.specs.rule.declared.told.LogItem.{LogItem as told_data};
 ghost use Rattle.law.specs.rule.declared.told.LogItem.TheVariants as told;
@@ -81,7 +82,7 @@ pub(crate) fn take_and_close<A: Allocator, M: Draining>(
     requires same { seat.old.table_id ≡ table.now.table }
     requires inside { IsWord table.now.cells word }
     requires allowed { MayTake shows table.now.cells table.now.local_limit seat.old.id seat.old.me word
-        (λ there. bit_or there 9223372036854775808) M.item M.cells M.word }
+        (λ there. bit_or there CLOSED_BIT) M.item M.cells M.word }
     ensures same { (seat.new.table_id ≡ seat.old.table_id) × (seat.new.id ≡ seat.old.id) }
     ensures told { seat.new.me ≡ (with_told (M.item result) seat.old.me.0, seat.old.me.1) }
     ensures cells { AreQueued M.cells M.word result }

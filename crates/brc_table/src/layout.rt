@@ -3,6 +3,7 @@
 ghost use Rattle.std.specs.Prelude.{◌-◌, ◌^◌, ◌≡◌, ◌==◌, ◌<◌, ◌≤◌};
 ghost use Rattle.std.specs.Int.{bit_at};
 ghost use Rattle.brc_words.specs.declared.limits.TheConstants.{MOST_CELLS};
+ghost use Rattle.law.specs.world.Lists.{WORD_LIMIT};
 ghost use Rattle.law.specs.world.Heap.{words_for as queue_words};
 ghost use Rattle.law.specs.known.Free_Words.{free_words_for as free_words};
 ghost use Rattle.law.specs.known.Items.{IsWord};
@@ -78,7 +79,7 @@ pub(crate) fn bit(at: u32) -> u64
 #[inline(always)]
 pub(crate) fn all_but(at: u32) -> u64
     requires { at < 64 }
-    ensures { result ≡ 2 ^ 64 - 1 - 2 ^ at }
+    ensures { result ≡ WORD_LIMIT - 1 - 2 ^ at }
 {
     u64::MAX - bit(at)
 }

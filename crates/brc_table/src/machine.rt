@@ -1,8 +1,9 @@
 //! One function for each operation on a word. The caller says which event or look it is, and owes that the operation is
 //! allowed as that; the seat's log then has it.
 
-ghost use Rattle.std.specs.Prelude.{◌≡◌, ◌+◌, ◌%◌, ◌^◌, ◌==◌, ◌<◌, ◌≤◌, ℕ, Bool, true, false, if◌then◌else◌, bit_or};
+ghost use Rattle.std.specs.Prelude.{◌≡◌, ◌+◌, ◌%◌, ◌==◌, ◌<◌, ◌≤◌, ℕ, Bool, true, false, if◌then◌else◌, bit_or};
 ghost use prog.Atomic.{either};
+ghost use Rattle.law.specs.world.Lists.{WORD_LIMIT};
 ghost use Rattle.law.specs.known.declared.word.Word.{Word as word_data};
 ghost use Rattle.law.specs.known.declared.word.Word.TheVariants as words;
 ghost use Rattle.law.specs.known.Items.{IsWord};
@@ -156,7 +157,7 @@ fn add_as<A: Allocator, M: ToldItem>(
     requires same { seat.old.table_id ≡ table.now.table }
     requires inside { IsWord table.now.cells word }
     requires allowed { MayTell shows table.now.cells table.now.local_limit seat.old.id seat.old.me word
-        (λ there. (there + more) % 2 ^ 64) (M.item) }
+        (λ there. (there + more) % WORD_LIMIT) (M.item) }
     ensures same { (seat.new.table_id ≡ seat.old.table_id) × (seat.new.id ≡ seat.old.id) }
     ensures told { seat.new.me ≡ (with_told (M.item result) seat.old.me.0, seat.old.me.1) }
 {
@@ -177,7 +178,7 @@ pub(crate) fn add<A: Allocator>(
     requires same { seat.old.table_id ≡ table.now.table }
     requires inside { IsWord table.now.cells word }
     requires allowed { MayTell shows table.now.cells table.now.local_limit seat.old.id seat.old.me word
-        (λ there. (there + more) % 2 ^ 64) (λ there. told.Stepped step there moves.Nothing) }
+        (λ there. (there + more) % WORD_LIMIT) (λ there. told.Stepped step there moves.Nothing) }
     ensures same { (seat.new.table_id ≡ seat.old.table_id) × (seat.new.id ≡ seat.old.id) }
     ensures told { seat.new.me ≡ (with_told (told.Stepped step result moves.Nothing) seat.old.me.0, seat.old.me.1) }
 {
@@ -204,7 +205,7 @@ pub(crate) struct LogSums<M> {
 
 impl<S, M: Summed> Play<S, View> for LogSums<M> {
     ghost then = { λ step me number after. (after ≡ (with_told (M.item number) me.0, me.1)) × CountsSome
-        ((number + M.more) % 2 ^ 64) };
+        ((number + M.more) % WORD_LIMIT) };
 }
 
 /// An addition to a shared word, as an item that is told the sum.
@@ -219,10 +220,10 @@ pub(crate) fn add_up<A: Allocator, M: Summed>(
     requires same { seat.old.table_id ≡ table.now.table }
     requires inside { IsWord table.now.cells word }
     requires allowed { MaySum shows table.now.cells table.now.local_limit seat.old.id seat.old.me word
-        (λ there. (there + more) % 2 ^ 64) M.item M.more }
+        (λ there. (there + more) % WORD_LIMIT) M.item M.more }
     ensures same { (seat.new.table_id ≡ seat.old.table_id) × (seat.new.id ≡ seat.old.id) }
     ensures told { seat.new.me ≡ (with_told (M.item result) seat.old.me.0, seat.old.me.1) }
-    ensures counts { CountsSome ((result + M.more) % 2 ^ 64) }
+    ensures counts { CountsSome ((result + M.more) % WORD_LIMIT) }
 {
     let _step = step;
     let at = spot_of(table.cells, word);

@@ -1,8 +1,10 @@
 //! Merging: an object is made nobody's, and its local count joins the shared one; who has asked for it puts it into a
 //! queue.
 
-ghost use Rattle.std.specs.Prelude.{◌≡◌, ◌<◌, ◌≤◌, ◌∷◌, ◌+◌, ◌*◌, ◌%◌, ◌^◌, if◌then◌else◌, Some, None, IfSome};
+ghost use Rattle.std.specs.Prelude.{◌≡◌, ◌<◌, ◌≤◌, ◌∷◌, ◌+◌, ◌*◌, ◌%◌, if◌then◌else◌, Some, None, IfSome};
 ghost use Rattle.brc_words.specs.declared.limits.TheConstants.{MOST_THREADS};
+ghost use Rattle.brc_words.specs.declared.look.TheConstants.{ONE_COUNT};
+ghost use Rattle.law.specs.world.Lists.{WORD_LIMIT};
 ghost use Rattle.law.specs.world.declared.event.Step.TheVariants as steps;
 ghost use Rattle.law.specs.world.declared.row.Hand.TheVariants as hands;
 ghost use Rattle.law.specs.world.declared.row.Phase.TheVariants as phases;
@@ -114,7 +116,7 @@ impl<A: Allocator> HeapTable<A> {
         requires inside { cell < self.now.cells }
         requires adds { AddsLocal self.now.cells seat.old.log cell local }
         ensures told { seat.new.log ≡ told.Stepped (steps.MergeAdd cell)
-            ((result + (local * 4 + 1)) % 2 ^ 64) moves.Nothing
+            ((result + (local * ONE_COUNT + 1)) % WORD_LIMIT) moves.Nothing
             ∷ seat.old.log }
         ensures seat { IsSameSeat seat.old seat.new }
         ensures knows { Knows self.now.cells seat.new.log

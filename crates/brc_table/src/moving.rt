@@ -1,12 +1,13 @@
 //! One function for each operation by which a block may move: out of the table with the seat, or home.
 
-ghost use Rattle.std.specs.Prelude.{◌≡◌, ◌+◌, ◌-◌, ◌%◌, ◌^◌, ◌==◌, ◌<◌, ◌∷◌, ℕ, Option, Some, None, true, false};
+ghost use Rattle.std.specs.Prelude.{◌≡◌, ◌+◌, ◌-◌, ◌%◌, ◌==◌, ◌<◌, ◌∷◌, ℕ, Option, Some, None, true, false};
 ghost use Rattle.std.specs.Prelude.{IfSome, OnOk, IfErr, bit_or};
 ghost use Rattle.std.specs.Int.{bit_at};
 ghost use prog.Atomic.{either};
 ghost use Rattle.atomic_table.specs.Table.{Allows, rest};
 ghost use Rattle.law.specs.world.declared.event.Step.{Step as step_data};
 ghost use Rattle.law.specs.world.declared.event.Step.TheVariants as steps;
+ghost use Rattle.law.specs.world.Lists.{WORD_LIMIT};
 ghost use Rattle.law.specs.world.Steps.{takes_block};
 ghost use Rattle.law.specs.known.declared.word.Field.TheVariants as fields;
 ghost use Rattle.law.specs.known.declared.word.Word.TheVariants as words;
@@ -126,7 +127,7 @@ fn sub_ends<A: Allocator, M: Ending>(
     requires same { seat.old.table_id ≡ table.now.table }
     requires inside { cell < table.now.cells }
     requires allowed { MayEnd table.now.cells table.now.local_limit seat.old.id seat.old.me cell
-        (λ there. (there + (2 ^ 64 - less)) % 2 ^ 64) M.cells M.step M.cell }
+        (λ there. (there + (WORD_LIMIT - less)) % WORD_LIMIT) M.cells M.step M.cell }
     ensures same { (seat.new.table_id ≡ seat.old.table_id) × (seat.new.id ≡ seat.old.id) }
     ensures ended { EndedObject shows M.cells seat.old.me.0 seat.old.me.1 M.step M.cell result
         (takes_block M.step (cell_told M.step result)) seat.new.me }
@@ -164,8 +165,8 @@ pub(crate) struct LogSumEnds<M> {
 
 impl<A: Allocator, M: Summing> Play<Option<Block<A>>, View> for LogSumEnds<M> {
     ghost then = { λ step me number after. EndedObject shows M.cells me.0 me.1 M.step M.cell
-        ((number + M.more) % 2 ^ 64)
-        (takes_block M.step (cell_told M.step ((number + M.more) % 2 ^ 64))) after };
+        ((number + M.more) % WORD_LIMIT)
+        (takes_block M.step (cell_told M.step ((number + M.more) % WORD_LIMIT))) after };
 }
 
 /// An addition.
@@ -180,10 +181,10 @@ fn add_ends<A: Allocator, M: Summing>(
     requires same { seat.old.table_id ≡ table.now.table }
     requires inside { cell < table.now.cells }
     requires allowed { MayEndAt table.now.cells table.now.local_limit seat.old.id seat.old.me cell
-        (λ there. (there + more) % 2 ^ 64) (λ there. (there + M.more) % 2 ^ 64) M.cells M.step M.cell }
+        (λ there. (there + more) % WORD_LIMIT) (λ there. (there + M.more) % WORD_LIMIT) M.cells M.step M.cell }
     ensures same { (seat.new.table_id ≡ seat.old.table_id) × (seat.new.id ≡ seat.old.id) }
-    ensures ended { EndedObject shows M.cells seat.old.me.0 seat.old.me.1 M.step M.cell ((result + M.more) % 2 ^ 64)
-        (takes_block M.step (cell_told M.step ((result + M.more) % 2 ^ 64))) seat.new.me }
+    ensures ended { EndedObject shows M.cells seat.old.me.0 seat.old.me.1 M.step M.cell ((result + M.more) % WORD_LIMIT)
+        (takes_block M.step (cell_told M.step ((result + M.more) % WORD_LIMIT))) seat.new.me }
 {
     let _step = step;
     let at = spot_of(table.cells, Word::Of(Field::Shared, cell));
@@ -295,7 +296,7 @@ pub(crate) fn end_by_sub<A: Allocator>(
     requires same { seat.old.table_id ≡ table.now.table }
     requires inside { cell < table.now.cells }
     requires allowed { MayEnd table.now.cells table.now.local_limit seat.old.id seat.old.me cell
-        (λ there. (there + (2 ^ 64 - less)) % 2 ^ 64) table.now.cells step cell }
+        (λ there. (there + (WORD_LIMIT - less)) % WORD_LIMIT) table.now.cells step cell }
     ensures same { (seat.new.table_id ≡ seat.old.table_id) × (seat.new.id ≡ seat.old.id) }
     ensures of_cell { IfSome result.block (λ block. block.0 ≡ cell) }
     ensures fresh { IfSome result.block
@@ -323,7 +324,7 @@ pub(crate) fn end_by_add<A: Allocator>(
     requires same { seat.old.table_id ≡ table.now.table }
     requires inside { cell < table.now.cells }
     requires allowed { MayEndAt table.now.cells table.now.local_limit seat.old.id seat.old.me cell
-        (λ there. (there + more) % 2 ^ 64) (λ there. (there + more) % 2 ^ 64) table.now.cells step cell }
+        (λ there. (there + more) % WORD_LIMIT) (λ there. (there + more) % WORD_LIMIT) table.now.cells step cell }
     ensures same { (seat.new.table_id ≡ seat.old.table_id) × (seat.new.id ≡ seat.old.id) }
     ensures of_cell { IfSome result.block (λ block. block.0 ≡ cell) }
     ensures fresh { IfSome result.block

@@ -10,7 +10,7 @@ use crate::root::Root;
 use brc_count::Ledger;
 use brc_count::biased::HasTable;
 use brc_count::table::{HeapTable, Rest};
-use brc_words::Fault;
+use brc_words::{Fault, MOST_LOCAL};
 use std::alloc::{Allocator, Global};
 use std::marker::Model;
 
@@ -27,7 +27,7 @@ impl Options {
     /// 4,096 cells, of which 3,830 are for objects, and the largest limit.
     pub const DEFAULT: Options = Options {
         cells: 4_096,
-        local_limit: 4_294_967_294,
+        local_limit: MOST_LOCAL,
     };
 
     /// The name of before of `DEFAULT`.
@@ -36,8 +36,9 @@ impl Options {
 
 impl Default for Options {
     ghost use Rattle.std.specs.Prelude.{◌≡◌};
+    ghost use Rattle.brc_words.specs.declared.limits.TheConstants.{MOST_LOCAL};
 
-    ghost is_default = { λ o. (o.cells ≡ 4096) × (o.local_limit ≡ 4294967294) };
+    ghost is_default = { λ o. (o.cells ≡ 4096) × (o.local_limit ≡ MOST_LOCAL) };
 
     fn default() -> Options {
         Options::DEFAULT

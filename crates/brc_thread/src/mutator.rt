@@ -7,7 +7,7 @@ ghost use Rattle.brc_count.specs.law.world.declared.event.Source.TheVariants as 
 ghost use Rattle.brc_count.specs.law.living.Living.{OwnLog};
 ghost use Rattle.brc_count.specs.Frames.{GivenHandle, Refused, IsAsBefore, IsUnlocked, KeepsHandles, KeepsButStart};
 ghost use Rattle.brc_count.specs.Frames.{Turns};
-ghost use Rattle.brc_count.specs.Frames.{word_asked, ledger_seen};
+ghost use Rattle.brc_count.specs.Frames.{HasSpare, word_asked, ledger_seen};
 ghost use Rattle.brc_count.specs.Polling.{Polled};
 ghost use Rattle.brc_count.specs.Closing.{GoesOut};
 ghost use Rattle.brc_count.specs.Owned.{Keeps, Gains};
@@ -58,6 +58,15 @@ impl<H: HasTable<A>, A: Allocator> Mutator<H, A> {
         ensures { result ≡ ledger_seen self.now }
     {
         self.frame.ledger()
+    }
+
+    /// Whether the frame's next place is ready: it is below 65,536, and its memory is there.
+    #[inline(always)]
+    pub fn has_spare(&self) -> bool
+        ensures spare { IsTrue result → HasSpare self.now }
+        ensures none { IsFalse result → ¬ HasSpare self.now }
+    {
+        self.frame.has_spare()
     }
 
     /// Whether it has no handle, and no dead block to take apart.

@@ -138,6 +138,7 @@ impl<A: Allocator> PartialEq for Key<A> {
 
     ghost laws = { partial_equiv_from_equiv same_key-equiv };
 
+    #[inline(always)]
     fn eq(&self, other: &Self) -> bool {
         match (self, other) {
             (Key::Int(number), Key::Int(other)) => number == other,

@@ -19,7 +19,7 @@ use Rattle.law_world.specs.Steps.{locked_at, registered_again}
 use Rattle.law_world.specs.Holding.{lives}
 use Rattle.law_world.specs.Sound.{IsSound, WorklistFits}
 use Rattle.law_lasting.specs.Staying.{IsAnothers, SameOwn}
-use Rattle.law_known.specs.Items.{Did, ItemRun, world_of_items, AreItems, own, found, Part, new_part, part_after}
+use Rattle.law_known.specs.Items.{Stepped, ItemRun, world_of_items, AreItems, own, found, Part, new_part, part_after}
 use Rattle.law_known.specs.Items.{part_of, meant, IsPart, IsNumberFound}
 use Rattle.law_world.proofs.Asking.{May}
 use Rattle.law_world.proofs.Naming.{one-true}
@@ -83,7 +83,7 @@ new_is h t sound last =
 -- ---- a number that is used again
 
 again_is : (h : Heap) (t number : ℕ) (entries : List ℕ) → IsSound h → Vacated h t
-    → IsPart (registered_again h t) t (part_of (length h.cells) (Did (Register t) number entries ∷ []))
+    → IsPart (registered_again h t) t (part_of (length h.cells) (Stepped (Register t) number entries ∷ []))
 again_is h t number entries sound vacated =
     let row : row_at (registered_again h t) t ≡ again_row = read_here h.rows t again_row no_row vacated.inside in
     let worklist : worklist_at (registered_again h t) t ≡ replicate (length h.cells) false =
@@ -131,11 +131,11 @@ now_is h t part is =
 
 own_part : (h : Heap) (t : ℕ) (s : Step) (number : ℕ) (entries : List ℕ) (part : Part) → IsSound h → QueuesFit h
     → May h t s → IsNumberFound h t s number → entries ≡ found h t s → IsPart h t part
-    → IsPart (after_target h t s (target_at h t s)) t (part_after (length h.cells) part (Did s number entries))
+    → IsPart (after_target h t s (target_at h t s)) t (part_after (length h.cells) part (Stepped s number entries))
 own_part h t s number entries part sound fit may told_is found_is is =
     let w : Heap = after_target h t s (target_at h t s) in
     let knows : Knows h t part.has = record { locked = is.locked_has; worklists = is.work_has } in
-    subst (λ p. IsPart w t (part_after (length h.cells) p (Did s number entries))) (now_is h t part is)
+    subst (λ p. IsPart w t (part_after (length h.cells) p (Stepped s number entries))) (now_is h t part is)
     (subst (λ p. IsPart w t p) (told_alike h t (length h.cells) s number entries (now h t part.has) told_is)
     (own_step h t s entries part.has sound fit may found_is knows))
 
@@ -146,13 +146,13 @@ part_follows t cells = record {
   starts = λ h reached size last. subst (λ n. IsPart (registered h) t (new_part n)) size
       (new_is h t (reached_sound h reached) last);
   again = λ h number entries reached size vacated.
-      subst (λ n. IsPart (registered_again h t) t (part_of n (Did (Register t) number entries ∷ []))) size
+      subst (λ n. IsPart (registered_again h t) t (part_of n (Stepped (Register t) number entries ∷ []))) size
       (again_is h t number entries (reached_sound h reached) vacated);
   others = λ h e log reached ok others before. others_part h e t (part_of cells log) (reached_sound h reached) ok
       others before;
   owns = λ h s number entries log reached size fit may told_is found_is before.
       subst (λ n. IsPart (after_target h t s (target_at h t s)) t
-      (part_after n (part_of cells log) (Did s number entries))) size
+      (part_after n (part_of cells log) (Stepped s number entries))) size
       (own_part h t s number entries (part_of cells log) (reached_sound h reached) fit may told_is found_is before);
   gathers = λ h u log before. gathered_is h u t (part_of cells log) before;
   saw = λ h word number log reached shows before. before;

@@ -27,7 +27,8 @@ use Rattle.law_world.specs.Steps.{entries_after, entries_without, entries_change
 use Rattle.law_world.specs.Steps.{stage_after, drained_word, with_drained, locked_at, hand_ok}
 use Rattle.law_world.specs.Sound.{IsSound, Locks}
 use Rattle.law_known.specs.Items.{own_stage_after, closing_bit, told_at, told_of, told_apart, finds, found_at, Part, cell_told}
-use Rattle.law_known.specs.Items.{popped_told, put, has_found, has_without, has_after, part_by, part_after, IsPart, Did}
+use Rattle.law_known.specs.Items.{popped_told, put, has_found, has_without, has_after, part_by, part_after, IsPart}
+use Rattle.law_known.specs.Items.{Stepped}
 use Rattle.law_world.proofs.Changes.{read_here}
 use Rattle.law_world.proofs.Asking.{May, on_cell, Vacant, vacant}
 use Rattle.law_world.proofs.Framing.{place_at-filled_else}
@@ -337,7 +338,7 @@ by_target h t s entries has (Some c) sound fit may named are knows =
 pub own_step : (h : Heap) (t : ℕ) (s : Step) (entries : List ℕ) (has : ℕ → List ℕ) → IsSound h → QueuesFit h → May h t s
     → entries ≡ found_at h s (target_at h t s) → Knows h t has
     → IsPart (after_target h t s (target_at h t s)) t
-    (part_after (length h.cells) (now h t has) (Did s (told_at h t s (target_at h t s)) entries))
+    (part_after (length h.cells) (now h t has) (Stepped s (told_at h t s (target_at h t s)) entries))
 own_step h t s entries has sound fit may are knows =
     subst (λ o. IsPart (after_target h t s (target_at h t s)) t
     (part_by (length h.cells) (now h t has) s (told_at h t s (target_at h t s)) entries o))

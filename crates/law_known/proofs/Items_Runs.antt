@@ -9,7 +9,7 @@ use Rattle.law_world.specs.declared.row.Phase.TheVariants as phases
 use Rattle.law_world.specs.Heap.{Heap, cell_at}
 use Rattle.law_world.specs.Steps.{enabled, is_shut}
 use Rattle.law_world.specs.Runs.{IsRun, world_after}
-use Rattle.law_known.specs.Items.{Item, Did, Saw, Lost, ItemRun, with_event, events_of, world_of_items, MayCome}
+use Rattle.law_known.specs.Items.{Item, Stepped, Loaded, Lost, ItemRun, with_event, events_of, world_of_items, MayCome}
 use Rattle.law_known.specs.Items.{AreItems, told, found, Part, part_after, IsNumberFound, spelled, ToldBy, Queue}
 use Rattle.law_known.specs.Items.{closing_bit}
 
@@ -31,7 +31,7 @@ told_is_told h t _ = refl
 -- a thread's part goes on alike with each of the numbers that its step may be told
 pub told_alike : (h : Heap) (t cells : ℕ) (s : Step) (number : ℕ) (entries : List ℕ) (part : Part)
     → IsNumberFound h t s number
-    → part_after cells part (Did s (told h t s) entries) ≡ part_after cells part (Did s number entries)
+    → part_after cells part (Stepped s (told h t s) entries) ≡ part_after cells part (Stepped s number entries)
 told_alike h t cells (Enqueue d) number entries part is = by_shut (is_shut h d) refl is
   where
     with_hand : Bool → Part
@@ -43,19 +43,19 @@ told_alike h t cells (Enqueue d) number entries part is = by_shut (is_shut h d) 
     }
 
     by_shut : (b : Bool) → is_shut h d ≡ b → ToldBy b (told h t (Enqueue d)) number
-        → part_after cells part (Did (Enqueue d) (told h t (Enqueue d)) entries) ≡ part_after cells part
-        (Did (Enqueue d) number entries)
+        → part_after cells part (Stepped (Enqueue d) (told h t (Enqueue d)) entries) ≡ part_after cells part
+        (Stepped (Enqueue d) number entries)
     by_shut true shut high = ap with_hand (le-leb _ _ (closed_word h d shut)
         ∙ sym (le-leb 9223372036854775808 number high))
-    by_shut false apart same = ap (λ n. part_after cells part (Did (Enqueue d) n entries)) (sym same)
-told_alike h t cells s number entries part is = ap (λ n. part_after cells part (Did s n entries)) (sym is)
+    by_shut false apart same = ap (λ n. part_after cells part (Stepped (Enqueue d) n entries)) (sym same)
+told_alike h t cells s number entries part is = ap (λ n. part_after cells part (Stepped s n entries)) (sym is)
 
 -- ---- the events of items are a run
 
 item_run : (start : Heap) (t : ℕ) (item : Item) (items : ItemRun) → IsRun start (events_of items)
     → MayCome (world_of_items start items) t item → IsRun start (with_event t item (events_of items))
-item_run start t (Did s number entries) items is_run may = (is_run, may.0)
-item_run start t (Saw word number) items is_run may = is_run
+item_run start t (Stepped s number entries) items is_run may = (is_run, may.0)
+item_run start t (Loaded word number) items is_run may = is_run
 item_run start t (Lost word number) items is_run may = is_run
 
 pub events_run : (start : Heap) (items : ItemRun) → AreItems start items → IsRun start (events_of items)
@@ -65,10 +65,10 @@ events_run start (x ∷ items) are = item_run start x.0 x.1 items (events_run st
 -- and each run is the events of items
 item_for : (start : Heap) (e : Event) (run : List Event) (items : ItemRun) → events_of items ≡ run
     → enabled (world_after start run) e ≡ true
-    → MayCome (world_of_items start items) e.thread (Did e.step (told (world_after start run) e.thread e.step)
+    → MayCome (world_of_items start items) e.thread (Stepped e.step (told (world_after start run) e.thread e.step)
     (found (world_after start run) e.thread e.step))
 item_for start e run items is may =
-    subst (λ r. MayCome (world_after start r) e.thread (Did e.step (told (world_after start run) e.thread e.step)
+    subst (λ r. MayCome (world_after start r) e.thread (Stepped e.step (told (world_after start run) e.thread e.step)
     (found (world_after start run) e.thread e.step))) (sym is)
     (may, told_is_told (world_after start run) e.thread e.step, refl)
 
@@ -78,7 +78,7 @@ run_items start [] is_run = ([], tt, refl)
 run_items start (e ∷ run) is_run =
     let before : (items : ItemRun) × AreItems start items × (events_of items ≡ run) = run_items start run is_run.0 in
     let h : Heap = world_after start run in (
-      (e.thread, Did e.step (told h e.thread e.step) (found h e.thread e.step)) ∷ before.0,
+      (e.thread, Stepped e.step (told h e.thread e.step) (found h e.thread e.step)) ∷ before.0,
       (before.1, item_for start e run before.0 before.2 is_run.1),
       ap (λ r. e ∷ r) before.2,
     )

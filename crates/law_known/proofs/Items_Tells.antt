@@ -14,7 +14,8 @@ use Rattle.law_world.specs.Steps.{enabled, after, after_target, root_after, root
 use Rattle.law_world.specs.Steps.{gathered_in, registered_again}
 use Rattle.law_world.specs.Runs.{world_after, IsReached}
 use Rattle.law_lasting.specs.Staying.{is_about, IsAnothers}
-use Rattle.law_known.specs.Items.{Word, Item, Did, Saw, Lost, ItemRun, with_event, events_of, world_of_items, MayCome}
+use Rattle.law_known.specs.Items.{Word, Item, Stepped, Loaded, Lost, ItemRun, with_event, events_of, world_of_items}
+use Rattle.law_known.specs.Items.{MayCome}
 use Rattle.law_known.specs.Items.{AreItems, is_start, is_used, begins_with, own, IsNumberFound, WordShows, found}
 use Rattle.std.specs.Cmp.Derive.{both_true}
 use Rattle.std.proofs.lemmas.List.{length-set}
@@ -33,16 +34,16 @@ use Rattle.law_known.proofs.Items_Runs.{events_run}
 pub record Follows (t cells : ℕ) (P : Heap → List Item → Type 0) : Type 0 where
   pub starts : (h : Heap) → IsReached h → length h.cells ≡ cells → t ≡ length h.rows → P (registered h) []
   pub again : (h : Heap) (number : ℕ) (entries : List ℕ) → IsReached h → length h.cells ≡ cells → Vacated h t
-      → P (registered_again h t) (Did (Register t) number entries ∷ [])
+      → P (registered_again h t) (Stepped (Register t) number entries ∷ [])
   pub others : (h : Heap) (e : Event) (log : List Item) → IsReached h → enabled h e ≡ true → IsAnothers t e → P h log
       → P (after h e) log
   pub owns : (h : Heap) (s : Step) (number : ℕ) (entries : List ℕ) (log : List Item) → IsReached h
       → length h.cells ≡ cells → QueuesFit h → May h t s
       → IsNumberFound h t s number → entries ≡ found h t s → P h log
-      → P (after_target h t s (target_at h t s)) (Did s number entries ∷ log)
+      → P (after_target h t s (target_at h t s)) (Stepped s number entries ∷ log)
   pub gathers : (h : Heap) (u : ℕ) (log : List Item) → P h log → P (gathered_in h u) log
   pub saw : (h : Heap) (word : Word) (number : ℕ) (log : List Item) → IsReached h → WordShows h word number → P h log
-      → P h (Saw word number ∷ log)
+      → P h (Loaded word number ∷ log)
   pub lost : (h : Heap) (word : Word) (number : ℕ) (log : List Item) → IsReached h → WordShows h word number → P h log
       → P h (Lost word number ∷ log)
 
@@ -65,7 +66,7 @@ mine_too used t u item log older same =
 
 -- a thread neither registers nor gathers
 pub no_start : (h : Heap) (u : ℕ) (s : Step) (t number : ℕ) (entries : List ℕ) → May h u s
-    → (is_start t (Did s number entries) ≡ false) × (is_about t s ≡ false)
+    → (is_start t (Stepped s number entries) ≡ false) × (is_about t s ≡ false)
 no_start h u (Register v) t number entries may = absurd (true≢false (sym may.hand))
 no_start h u (Gather v) t number entries may = absurd (true≢false (sym may.hand))
 no_start h u _ t number entries may = (refl, refl)
@@ -104,7 +105,7 @@ registered_same h v t vacated some = elim (cases_eq v t) [
 ]
 
 root_used : (h : Heap) (s : Step) (t number : ℕ) (entries : List ℕ) → IsSound h → 0 < t → root_may h s ≡ true
-    → (is_start t (Did s number entries) || is_registered h t) ≡ is_registered (root_after h s) t
+    → (is_start t (Stepped s number entries) || is_registered h t) ≡ is_registered (root_after h s) t
 root_used h (Register v) t number entries sound some may = elim (registers h v sound may) [
   | fresh last most few new ↦ registered_more h v t last some ∙ ap (λ w. is_registered w t) (sym new)
   | reused vacated few again ↦ registered_same h v t vacated some ∙ ap (λ w. is_registered w t) (sym again)
@@ -115,9 +116,9 @@ root_used h _ t number entries sound some may = absurd (true≢false (sym may))
 item_used : (h : Heap) (u : ℕ) (item : Item) (t : ℕ) (run : List Event) → IsReached h → 0 < t → MayCome h u item
     → (start : Heap) → world_after start run ≡ h
     → (is_start t item || is_registered h t) ≡ is_registered (world_after start (with_event u item run)) t
-item_used h u (Did s number entries) t run reached some comes start leads =
+item_used h u (Stepped s number entries) t run reached some comes start leads =
     let moved : Heap = after_target h u s (target_at h u s) in
-    subst (λ w. (is_start t (Did s number entries) || is_registered h t)
+    subst (λ w. (is_start t (Stepped s number entries) || is_registered h t)
     ≡ is_registered (after w (record { thread = u; step = s })) t) (sym leads)
     (elim (cases_Bool (u == 0)) [
       | inl root ↦
@@ -132,7 +133,7 @@ item_used h u (Did s number entries) t run reached some comes start leads =
           ∙ ap (λ n. nat_lt 0 t && nat_lt t n) (sym (same_rows h u s (target_at h u s)))
           ∙ ap (λ b. is_registered (if b then root_after h s else moved) t) (sym thread)
     ])
-item_used h u (Saw word number) t run reached some comes start leads = ap (λ w. is_registered w t) (sym leads)
+item_used h u (Loaded word number) t run reached some comes start leads = ap (λ w. is_registered w t) (sym leads)
 item_used h u (Lost word number) t run reached some comes start leads = ap (λ w. is_registered w t) (sym leads)
 
 pub used_is : (cells limit : ℕ) (items : ItemRun) (t : ℕ) → AreOptions cells limit
@@ -152,12 +153,12 @@ module _ (t cells : ℕ) (P : Heap → List Item → Type 0) (follows : Follows 
   Holds h log = t < length h.rows → P h log
 
   thread_item : (h : Heap) (u : ℕ) (s : Step) (number : ℕ) (entries : List ℕ) (log : List Item) → IsReached h
-      → length h.cells ≡ cells → QueuesFit h → MayCome h u (Did s number entries)
+      → length h.cells ≡ cells → QueuesFit h → MayCome h u (Stepped s number entries)
       → after h (record { thread = u; step = s }) ≡ after_target h u s (target_at h u s) → May h u s → Holds h log
-      → (used : Bool) → Holds (after_target h u s (target_at h u s)) (with_item used t u (Did s number entries) log)
+      → (used : Bool) → Holds (after_target h u s (target_at h u s)) (with_item used t u (Stepped s number entries) log)
   unfolding Holds
   thread_item h u s number entries log reached size fit comes is may before used inside =
-      let item : Item = Did s number entries in
+      let item : Item = Stepped s number entries in
       let w : Heap = after_target h u s (target_at h u s) in
       let was : P h log = before (omega (arith, inside, same_rows h u s (target_at h u s))) in
       let apart = no_start h u s t number entries may in
@@ -175,7 +176,8 @@ module _ (t cells : ℕ) (P : Heap → List Item → Type 0) (follows : Follows 
   root_item : (h : Heap) (u : ℕ) (s : Step) (number : ℕ) (entries : List ℕ) (log : List Item) → IsReached h
       → length h.cells ≡ cells → enabled h (record { thread = u; step = s }) ≡ true
       → after h (record { thread = u; step = s }) ≡ root_after h s → root_may h s ≡ true → u ≢ t → Holds h log
-      → (used : Bool) → used ≡ is_registered h t → Holds (root_after h s) (with_item used t u (Did s number entries) log)
+      → (used : Bool) → used ≡ is_registered h t
+      → Holds (root_after h s) (with_item used t u (Stepped s number entries) log)
   unfolding Holds
   root_item h u (Register v) number entries log reached size ok is may other before used used_so inside =
       elim (registers h v (reached_sound h reached) may) [
@@ -186,7 +188,7 @@ module _ (t cells : ℕ) (P : Heap → List Item → Type 0) (follows : Follows 
       ]
     where
       item : Item
-      item = Did (Register v) number entries
+      item = Stepped (Register v) number entries
 
       -- another number is registered
       stays : (w : Heap) → root_after h (Register v) ≡ w → (v == t) ≡ false → t < length h.rows
@@ -219,35 +221,36 @@ module _ (t cells : ℕ) (P : Heap → List Item → Type 0) (follows : Follows 
           subst (λ b. P (registered_again h v)
           (if b then begins_with used item else (if u == t then item ∷ log else log))) (sym mine)
           (subst (λ b. P (registered_again h v) (begins_with b item)) (sym old_number)
-          (subst (λ z. P (registered_again h z) (Did (Register z) number entries ∷ [])) (sym same)
+          (subst (λ z. P (registered_again h z) (Stepped (Register z) number entries ∷ [])) (sym same)
           (follows.again h number entries reached size (subst (Vacated h) same vacated))))
       by_bearer vacated again (inr apart) =
           let there : t < length (registered_again h v).rows = subst (λ (w : Heap). t < length w.rows) again inside in
           stays (registered_again h v) again apart (omega (arith, there, length-set h.rows v again_row))
   root_item h u (Gather v) number entries log reached size ok is may other before used used_so inside =
-      subst (P (gathered_in h v)) (sym (not_mine used t u (Did (Gather v) number entries) log refl (ne_eqb u t other)))
+      subst (P (gathered_in h v))
+      (sym (not_mine used t u (Stepped (Gather v) number entries) log refl (ne_eqb u t other)))
       (follows.gathers h v log (before inside))
   root_item h u _ number entries log reached size ok is may other before used used_so inside =
       absurd (true≢false (sym may))
 
   did_item : (h : Heap) (u : ℕ) (s : Step) (number : ℕ) (entries : List ℕ) (log : List Item) → IsReached h
-      → length h.cells ≡ cells → QueuesFit h → MayCome h u (Did s number entries) → 0 < t
+      → length h.cells ≡ cells → QueuesFit h → MayCome h u (Stepped s number entries) → 0 < t
       → Holds h log → (used : Bool) → used ≡ is_registered h t
-      → Holds (after h (record { thread = u; step = s })) (with_item used t u (Did s number entries) log)
+      → Holds (after h (record { thread = u; step = s })) (with_item used t u (Stepped s number entries) log)
   did_item h u s number entries log reached size fit comes some_thread before used used_so =
       let moved : Heap = after_target h u s (target_at h u s) in
       elim (cases_Bool (u == 0)) [
         | inl root ↦
             let is : after h (record { thread = u; step = s }) ≡ root_after h s =
             ap (λ b. if b then root_after h s else moved) root in
-            subst (λ w. Holds w (with_item used t u (Did s number entries) log)) (sym is)
+            subst (λ w. Holds w (with_item used t u (Stepped s number entries) log)) (sym is)
             (root_item h u s number entries log reached size comes.0 is
             (subst (λ b. (if b then root_may h s else thread_may h u s) ≡ true) root comes.0)
             (λ same. omega (arith, some_thread, same, eqb-true u 0 root)) before used used_so)
         | inr thread ↦
             let is : after h (record { thread = u; step = s }) ≡ moved =
             ap (λ b. if b then root_after h s else moved) thread in
-            subst (λ w. Holds w (with_item used t u (Did s number entries) log)) (sym is)
+            subst (λ w. Holds w (with_item used t u (Stepped s number entries) log)) (sym is)
             (thread_item h u s number entries log reached size fit comes is
             (may_parts h u s (subst (λ b. (if b then root_may h s else thread_may h u s) ≡ true) thread
             comes.0)) before used)
@@ -268,13 +271,13 @@ module _ (t cells : ℕ) (P : Heap → List Item → Type 0) (follows : Follows 
       → Holds (world_of_items (start_of cells limit) items) (own t items)
       → Holds (world_after (start_of cells limit) (with_event u item (events_of items)))
       (with_item (is_used t items) t u item (own t items))
-  item_holds limit u (Did s number entries) items options are comes some_thread before =
+  item_holds limit u (Stepped s number entries) items options are comes some_thread before =
       let run : List Event = events_of items in
       did_item (world_after (start_of cells limit) run) u s number entries (own t items)
       (run_reached cells limit run options (events_run (start_of cells limit) items are))
       (run_cells cells limit run) (run_queues cells limit run) comes some_thread before (is_used t items)
       (used_is cells limit items t options are some_thread)
-  item_holds limit u (Saw word number) items options are comes some_thread before = noted _ u (Saw word number)
+  item_holds limit u (Loaded word number) items options are comes some_thread before = noted _ u (Loaded word number)
       (own t items) refl (follows.saw _ word number (own t items)
       (run_reached cells limit (events_of items) options (events_run (start_of cells limit) items are)) comes) before
       (is_used t items)

@@ -13,7 +13,7 @@ use Rattle.law_world.specs.declared.event.Step.TheVariants.{MergeAdd, SharedUp, 
 use Rattle.law_world.specs.declared.event.Step.TheVariants.{Nudge, Wake, Lock, Unlock, Reopen}
 use Rattle.law_world.specs.Lists.{place_at, is_marked, last_of, front_of}
 use Rattle.law_world.specs.Steps.{needs_no_cell, takes_block, is_default, frame_without, frame_changed}
-use Rattle.law_known.specs.Items.{Item, Did, Part, part_of, meant, cell_told, state_told, has_without, has_found}
+use Rattle.law_known.specs.Items.{Item, Stepped, Part, part_of, meant, cell_told, state_told, has_without, has_found}
 use Rattle.law_known.specs.Risen.{drop_in}
 use Rattle.law_known.specs.Going_On.{Known, known_of, knows_after, given_up, place_dropped, place_changed}
 use Rattle.law_known.specs.Going_On.{touched_place}
@@ -67,7 +67,7 @@ table_place _ c number entries old j other = refl
 
 pub places_kept : (cells : ℕ) (items : List Item) (s : Step) (c number : ℕ) (entries : List ℕ) (j : ℕ)
     → meant (part_of cells items) s ≡ Some c → touched_place s ≢ Some j
-    → place_at (part_of cells (Did s number entries ∷ items)).frame j ≡ place_at (part_of cells items).frame j
+    → place_at (part_of cells (Stepped s number entries ∷ items)).frame j ≡ place_at (part_of cells items).frame j
 places_kept cells items s c number entries j named other =
     ap (λ (p : Part). place_at p.frame j) (goes_on cells items s c number entries named).part_is
     ∙ table_place s c number entries (known_of cells items) j other
@@ -158,7 +158,7 @@ table_entry cells _ c number entries old q named other apart = refl
 
 pub entries_kept : (cells : ℕ) (items : List Item) (s : Step) (c number : ℕ) (entries : List ℕ) (q : ℕ)
     → meant (part_of cells items) s ≡ Some c → q ≢ c → given_up s ≢ Some (dropped.Work q)
-    → drop_in (part_of cells (Did s number entries ∷ items)) (dropped.Work q) ≡ drop_in (part_of cells items)
+    → drop_in (part_of cells (Stepped s number entries ∷ items)) (dropped.Work q) ≡ drop_in (part_of cells items)
     (dropped.Work q)
 entries_kept cells items s c number entries q named other apart =
     ap (λ p. drop_in p (dropped.Work q)) (goes_on cells items s c number entries named).part_is
@@ -167,7 +167,7 @@ entries_kept cells items s c number entries q named other apart =
 -- steps that mean no cell leave all of them
 pub apart_kept : (cells : ℕ) (items : List Item) (s : Step) (number : ℕ) (entries : List ℕ) (drop : Dropped)
     → needs_no_cell s ≡ true
-    → drop_in (part_of cells (Did s number entries ∷ items)) drop ≡ drop_in (part_of cells items) drop
+    → drop_in (part_of cells (Stepped s number entries ∷ items)) drop ≡ drop_in (part_of cells items) drop
 apart_kept cells items (Drain k) number entries drop apart = refl
 apart_kept cells items (Close k) number entries drop apart = refl
 apart_kept cells items (Nudge u k) number entries drop apart = refl

@@ -17,7 +17,7 @@ use Rattle.law_world.specs.Steps.{locked_after, locked_at, gathered_in}
 use Rattle.law_world.specs.Runs.{IsReached}
 use Rattle.law_world.specs.Sound.{IsSound}
 use Rattle.law_lasting.specs.Staying.{IsAnothers, SameOwn}
-use Rattle.law_known.specs.Items.{Did, ItemRun, AreItems, events_of, world_of_items, own, found, found_at, part_of}
+use Rattle.law_known.specs.Items.{Stepped, ItemRun, AreItems, events_of, world_of_items, own, found, found_at, part_of}
 use Rattle.law_known.specs.Items.{IsPart}
 use Rattle.law_known.specs.Locked.{locked_on, locked_of, place_locked, KnowsWhatIsLocked}
 use Rattle.law_world.proofs.Asking.{May, Vacant, vacant}
@@ -143,7 +143,7 @@ newly_locked h t k entries (Some c) sound may named are =
 
 owns_lock : (h : Heap) (t : ℕ) (s : Step) (number : ℕ) (entries : List ℕ) (lock : Option (ℕ × List ℕ)) → IsSound h
     → May h t s → entries ≡ found h t s → LockIs h t lock
-    → LockIs (after_target h t s (target_at h t s)) t (locked_on (Did s number entries) lock)
+    → LockIs (after_target h t s (target_at h t s)) t (locked_on (Stepped s number entries) lock)
 owns_lock h t (Lock k) number entries lock sound may are is = newly_locked h t k entries (target_at h t (Lock k)) sound
     may refl are
 owns_lock h t (Unlock change) number entries lock sound may are is =

@@ -12,7 +12,7 @@ use Rattle.law_world.specs.declared.event.Step.{Step}
 use Rattle.law_world.specs.declared.event.Step.TheVariants.{SharedUp, Ask, Unlock}
 use Rattle.law_world.specs.Lists.{names, place_at, vacated}
 use Rattle.law_world.specs.Steps.{needs_no_cell, is_default}
-use Rattle.law_known.specs.Items.{Item, Did, Saw, Lost, Word, Of, Shared, Part, part_of, meant, state_told}
+use Rattle.law_known.specs.Items.{Item, Stepped, Loaded, Lost, Word, Of, Shared, Part, part_of, meant, state_told}
 use Rattle.law_known.specs.Risen.{drop_in, is_risen_word, tells_risen, is_risen}
 use Rattle.law_known.specs.Going_On.{given_up, touched_place}
 use Rattle.law_world.proofs.Framing.{place_at-filled_here}
@@ -56,29 +56,29 @@ risen_kept cells items item drop c same risen = risen_if cells items item drop c
 -- at every place but the one that a step may change
 pub risen_places_kept : (cells : ℕ) (items : List Item) (s : Step) (d number : ℕ) (entries : List ℕ) (j c : ℕ)
     → meant (part_of cells items) s ≡ Some d → touched_place s ≢ Some j
-    → is_risen cells items (dropped.Frame j) c ≡ true → is_risen cells (Did s number entries ∷ items)
+    → is_risen cells items (dropped.Frame j) c ≡ true → is_risen cells (Stepped s number entries ∷ items)
     (dropped.Frame j) c ≡ true
-risen_places_kept cells items s d number entries j c named other = risen_kept cells items (Did s number entries)
+risen_places_kept cells items s d number entries j c named other = risen_kept cells items (Stepped s number entries)
     (dropped.Frame j) c (places_kept cells items s d number entries j named other)
 
 -- and at every last entry but those of the block that is meant and of the one that gives up its last
 pub risen_entries_kept : (cells : ℕ) (items : List Item) (s : Step) (d number : ℕ) (entries : List ℕ) (q c : ℕ)
     → meant (part_of cells items) s ≡ Some d → q ≢ d → given_up s ≢ Some (dropped.Work q)
-    → is_risen cells items (dropped.Work q) c ≡ true → is_risen cells (Did s number entries ∷ items)
+    → is_risen cells items (dropped.Work q) c ≡ true → is_risen cells (Stepped s number entries ∷ items)
     (dropped.Work q) c ≡ true
-risen_entries_kept cells items s d number entries q c named other apart = risen_kept cells items (Did s number entries)
-    (dropped.Work q) c (entries_kept cells items s d number entries q named other apart)
+risen_entries_kept cells items s d number entries q c named other apart =
+    risen_kept cells items (Stepped s number entries) (dropped.Work q) c (entries_kept cells items s d number entries q named other apart)
 
 pub risen_apart_kept : (cells : ℕ) (items : List Item) (s : Step) (number : ℕ) (entries : List ℕ) (drop : Dropped)
     (c : ℕ) → needs_no_cell s ≡ true
-    → is_risen cells items drop c ≡ true → is_risen cells (Did s number entries ∷ items) drop c ≡ true
-risen_apart_kept cells items s number entries drop c apart = risen_kept cells items (Did s number entries) drop c
+    → is_risen cells items drop c ≡ true → is_risen cells (Stepped s number entries ∷ items) drop c ≡ true
+risen_apart_kept cells items s number entries drop c apart = risen_kept cells items (Stepped s number entries) drop c
     (apart_kept cells items s number entries drop apart)
 
 -- a note changes no place and no entry
 pub risen_over_saw : (cells : ℕ) (items : List Item) (word : Word) (number : ℕ) (drop : Dropped) (c : ℕ)
-    → is_risen cells items drop c ≡ true → is_risen cells (Saw word number ∷ items) drop c ≡ true
-risen_over_saw cells items word number drop c = risen_kept cells items (Saw word number) drop c refl
+    → is_risen cells items drop c ≡ true → is_risen cells (Loaded word number ∷ items) drop c ≡ true
+risen_over_saw cells items word number drop c = risen_kept cells items (Loaded word number) drop c refl
 
 pub risen_over_lost : (cells : ℕ) (items : List Item) (word : Word) (number : ℕ) (drop : Dropped) (c : ℕ)
     → is_risen cells items drop c ≡ true → is_risen cells (Lost word number ∷ items) drop c ≡ true
@@ -89,8 +89,8 @@ risen_over_lost cells items word number drop c = risen_kept cells items (Lost wo
 -- an unlocking tells nothing, so nothing is seen that wasn't
 pub risen_over_unlock : (cells : ℕ) (items : List Item) (change : Change) (number : ℕ) (entries : List ℕ)
     (drop : Dropped) (c : ℕ)
-    → is_risen cells (Did (Unlock change) number entries ∷ items) drop c
-    ≡ (names c (drop_in (part_of cells (Did (Unlock change) number entries ∷ items)) drop) && is_risen cells
+    → is_risen cells (Stepped (Unlock change) number entries ∷ items) drop c
+    ≡ (names c (drop_in (part_of cells (Stepped (Unlock change) number entries ∷ items)) drop) && is_risen cells
     items drop c)
 risen_over_unlock cells items change number entries drop c = refl
 
@@ -103,7 +103,7 @@ vacated_here frame k = elim (cases_lt k (length frame)) [
 -- the place whose cell moved in is vacant
 pub risen_after_put : (cells : ℕ) (items : List Item) (j d number : ℕ) (entries : List ℕ) (c : ℕ)
     → meant (part_of cells items) (Unlock (changes.Put j)) ≡ Some d
-    → is_risen cells (Did (Unlock (changes.Put j)) number entries ∷ items) (dropped.Frame j) c ≡ false
+    → is_risen cells (Stepped (Unlock (changes.Put j)) number entries ∷ items) (dropped.Frame j) c ≡ false
 risen_after_put cells items j d number entries c named =
     let s : Step = Unlock (changes.Put j) in
     ap (λ (p : Part). names c (place_at p.frame j) && is_risen cells items (dropped.Frame j) c)
@@ -113,9 +113,9 @@ risen_after_put cells items j d number entries c named =
 -- a place that a cell moved out to was vacant, so nothing was seen there
 pub risen_after_take : (cells : ℕ) (items : List Item) (i j number : ℕ) (entries : List ℕ) (c : ℕ)
     → place_at (part_of cells items).frame j ≡ None
-    → is_risen cells (Did (Unlock (changes.Take i j)) number entries ∷ items) (dropped.Frame j) c ≡ false
+    → is_risen cells (Stepped (Unlock (changes.Take i j)) number entries ∷ items) (dropped.Frame j) c ≡ false
 risen_after_take cells items i j number entries c room =
-    let item : Item = Did (Unlock (changes.Take i j)) number entries in
+    let item : Item = Stepped (Unlock (changes.Take i j)) number entries in
     ap (λ b. names c (drop_in (part_of cells (item ∷ items)) (dropped.Frame j)) && b)
     (unseen cells items (dropped.Frame j) c room)
     ∙ neither (names c (drop_in (part_of cells (item ∷ items)) (dropped.Frame j)))
@@ -134,7 +134,7 @@ risen_after_take cells items i j number entries c room =
 -- a place whose cell was exchanged is seen where the same cell came back
 pub risen_after_swap : (cells : ℕ) (items : List Item) (i j d number : ℕ) (entries : List ℕ) (c : ℕ)
     → meant (part_of cells items) (Unlock (changes.Swap i j)) ≡ Some d
-    → is_risen cells (Did (Unlock (changes.Swap i j)) number entries ∷ items) (dropped.Frame j) c
+    → is_risen cells (Stepped (Unlock (changes.Swap i j)) number entries ∷ items) (dropped.Frame j) c
     ≡ ((get_or ((part_of cells items).has d) i 0 == c) && is_risen cells items (dropped.Frame j) c)
 risen_after_swap cells items i j d number entries c named =
     let s : Step = Unlock (changes.Swap i j) in
@@ -151,7 +151,7 @@ anew a b x first second = ap (λ q. q && (b || x)) first ∙ ap (λ q. q || x) s
 -- who counts up on the shared word sees the copy risen
 pub risen_by_up : (cells : ℕ) (items : List Item) (source : Source) (k c number : ℕ) (entries : List ℕ)
     → meant (part_of cells items) (SharedUp source k) ≡ Some c → is_risen_word number ≡ true
-    → is_risen cells (Did (SharedUp source k) number entries ∷ items) (dropped.Frame k) c ≡ true
+    → is_risen cells (Stepped (SharedUp source k) number entries ∷ items) (dropped.Frame k) c ≡ true
 risen_by_up cells items source k c number entries named risen =
     let s : Step = SharedUp source k in
     anew _ _ (is_risen cells items (dropped.Frame k) c)
@@ -162,7 +162,7 @@ risen_by_up cells items source k c number entries named risen =
 -- who asks and comes late sees it risen, and still has it
 pub risen_by_ask : (cells : ℕ) (items : List Item) (drop : Dropped) (c number : ℕ) (entries : List ℕ)
     → drop_in (part_of cells items) drop ≡ Some c → is_risen_word number ≡ true
-    → is_risen cells (Did (Ask drop) number entries ∷ items) drop c ≡ true
+    → is_risen cells (Stepped (Ask drop) number entries ∷ items) drop c ≡ true
 risen_by_ask cells items drop c number entries named risen =
     let late : is_default (state_told number) ≡ false = default_told number ∙ not_zero (number % 4 == 0) risen in
     anew _ _ (is_risen cells items drop c)
@@ -177,7 +177,7 @@ risen_by_ask cells items drop c number entries named risen =
 -- who looks at the shared word of what it has
 pub risen_by_look : (cells : ℕ) (items : List Item) (drop : Dropped) (c number : ℕ)
     → drop_in (part_of cells items) drop ≡ Some c → is_risen_word number ≡ true
-    → is_risen cells (Saw (Of Shared c) number ∷ items) drop c ≡ true
+    → is_risen cells (Loaded (Of Shared c) number ∷ items) drop c ≡ true
 risen_by_look cells items drop c number has risen =
     anew _ _ (is_risen cells items drop c) (names_it c _ has)
     (ap (λ b. b && is_risen_word number) (eq-eqb c c refl) ∙ risen)

@@ -18,7 +18,8 @@ use Rattle.law_world.specs.Steps.{enabled, after, after_target, target_at, dropp
 use Rattle.law_world.specs.Runs.{IsReached}
 use Rattle.law_world.specs.Sound.{IsSound, held}
 use Rattle.law_lasting.specs.Staying.{rank}
-use Rattle.law_known.specs.Items.{Item, Did, Word, Of, Shared, ItemRun, AreItems, world_of_items, own, Part, part_of}
+use Rattle.law_known.specs.Items.{Item, Stepped, Word, Of, Shared, ItemRun, AreItems, world_of_items, own, Part}
+use Rattle.law_known.specs.Items.{part_of}
 use Rattle.law_known.specs.Items.{meant, IsPart, IsNumberFound, WordShows, shared_word, told_at}
 use Rattle.law_known.specs.Risen.{drop_in, is_risen_word, is_shared_of, tells_risen, is_risen}
 use Rattle.law_world.proofs.Asking.{May}
@@ -100,7 +101,7 @@ seen_risen h _ number c shows tells = absurd (true≢false (sym tells))
 -- an own step that is told the shared word
 told_risen : (h : Heap) (t : ℕ) (s : Step) (number : ℕ) (entries : List ℕ) (part : Part) (c : ℕ) → IsReached h
     → May h t s → IsNumberFound h t s number → IsPart h t part → FIRST_MORTAL ≤ c
-    → tells_risen part c (Did s number entries) ≡ true → (1 ≤ held h c) × (1 ≤ rank (cell_at h c).state)
+    → tells_risen part c (Stepped s number entries) ≡ true → (1 ≤ held h c) × (1 ≤ rank (cell_at h c).state)
 told_risen h t (SharedUp source k) number entries part c reached may told is mortal risen =
     let s : Step = SharedUp source k in
     let parts = and_parts (names c (meant part s)) (is_risen_word number) risen in
@@ -135,7 +136,7 @@ risen_follows t cells =
       );
       owns = λ h s number entries log reached size fit may told found before. (
         parts.owns h s number entries log reached size fit may told found before.0,
-        λ drop c risen mortal. elim (or_cases (tells_risen (part_of cells log) c (Did s number entries))
+        λ drop c risen mortal. elim (or_cases (tells_risen (part_of cells log) c (Stepped s number entries))
             (is_risen cells log drop c) (and_parts _ _ risen).1) [
               | inl now ↦ let seen = told_risen h t s number entries (part_of cells log) c reached may told
                   before.0 mortal

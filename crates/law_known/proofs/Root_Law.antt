@@ -17,7 +17,7 @@ use Rattle.law_world.proofs.Changes.{read_there}
 use Rattle.law_world.proofs.Registering.{push_else}
 use Rattle.law_world.specs.Runs.{world_after, IsReached}
 use Rattle.law_world.specs.Sound.{IsSound}
-use Rattle.law_known.specs.Items.{Item, Did, Saw, Lost, ItemRun, with_event, events_of, world_of_items, MayCome}
+use Rattle.law_known.specs.Items.{Item, Stepped, Loaded, Lost, ItemRun, with_event, events_of, world_of_items, MayCome}
 use Rattle.law_known.specs.Items.{AreItems, is_start, is_used, begins_with, own}
 use Rattle.law_known.specs.Root.{rows_of, gathered_of, marks_of, registrations_of, next_number}
 use Rattle.law_world.proofs.Asking.{May, may_parts}
@@ -49,15 +49,15 @@ marked_again marks v low = ap (λ b. if b then set marks v false else marks ++ f
 
 root_goes : (h : Heap) (s : Step) (number : ℕ) (entries : List ℕ) (log : List Item) → IsSound h
     → root_may h s ≡ true → RootSays h log
-    → RootSays (root_after h s) (Did s number entries ∷ log)
+    → RootSays (root_after h s) (Stepped s number entries ∷ log)
 root_goes h (Register v) number entries log sound may says = elim (registers h v sound may) [
-  | fresh new most few is ↦ subst (λ w. RootSays w (Did (Register v) number entries ∷ log)) (sym is) (
+  | fresh new most few is ↦ subst (λ w. RootSays w (Stepped (Register v) number entries ∷ log)) (sym is) (
     ap (λ marks. marks ++ false ∷ []) says.0
         ∙ sym (marked_new (marks_of log) v (new ∙ sym sound.shaped.gathered ∙ ap length says.0)),
     ap (λ n. n + 1) says.1,
     push_else h.gathered false false 0 (λ e. omega (arith, e, sound.shaped.gathered, sound.shaped.root)) ∙ says.2,
   )
-  | reused vacated few is ↦ subst (λ w. RootSays w (Did (Register v) number entries ∷ log)) (sym is) (
+  | reused vacated few is ↦ subst (λ w. RootSays w (Stepped (Register v) number entries ∷ log)) (sym is) (
     ap (λ marks. set marks v false) says.0
         ∙ sym (marked_again (marks_of log) v
         (omega (arith, vacated.inside, sound.shaped.gathered, ap length says.0))),
@@ -77,7 +77,7 @@ root_goes h _ number entries log sound may says = absurd (true≢false (sym may)
 
 -- nobody registers number 0, so the root's items never begin anew
 never_again : (h : Heap) (s : Step) (number : ℕ) (entries : List ℕ) → IsSound h → root_may h s ≡ true
-    → is_start 0 (Did s number entries) ≡ false
+    → is_start 0 (Stepped s number entries) ≡ false
 never_again h (Register v) number entries sound may = ne_eqb v 0 (λ e. elim (registers h v sound may) [
   | fresh new most few is ↦ omega (arith, e, new, sound.shaped.root)
   | reused vacated few is ↦ omega (arith, e, vacated.thread)
@@ -85,7 +85,7 @@ never_again h (Register v) number entries sound may = ne_eqb v 0 (λ e. elim (re
 never_again h _ number entries sound may = refl
 
 pub never_root : (h : Heap) (u : ℕ) (s : Step) (number : ℕ) (entries : List ℕ) → IsReached h
-    → enabled h (record { thread = u; step = s }) ≡ true → is_start 0 (Did s number entries) ≡ false
+    → enabled h (record { thread = u; step = s }) ≡ true → is_start 0 (Stepped s number entries) ≡ false
 never_root h u s number entries reached ok = elim (cases_Bool (u == 0)) [
   | inl root ↦ never_again h s number entries (reached_sound h reached)
       (subst (λ b. (if b then root_may h s else thread_may h u s) ≡ true) root ok)
@@ -95,9 +95,9 @@ never_root h u s number entries reached ok = elim (cases_Bool (u == 0)) [
 
 did_says : (h : Heap) (u : ℕ) (s : Step) (number : ℕ) (entries : List ℕ) (log : List Item) → IsReached h
     → enabled h (record { thread = u; step = s }) ≡ true → RootSays h log
-    → RootSays (after h (record { thread = u; step = s })) (with_item false 0 u (Did s number entries) log)
+    → RootSays (after h (record { thread = u; step = s })) (with_item false 0 u (Stepped s number entries) log)
 did_says h u s number entries log reached ok says =
-    let item : Item = Did s number entries in
+    let item : Item = Stepped s number entries in
     let moved : Heap = after_target h u s (target_at h u s) in
     let sound : IsSound h = reached_sound h reached in
     elim (cases_Bool (u == 0)) [
@@ -128,12 +128,12 @@ item_says : (cells limit u : ℕ) (item : Item) (items : ItemRun) → AreOptions
     → RootSays (world_of_items (start_of cells limit) items) (own 0 items)
     → RootSays (world_after (start_of cells limit) (with_event u item (events_of items)))
     (with_item false 0 u item (own 0 items))
-item_says cells limit u (Did s number entries) items options are comes says =
+item_says cells limit u (Stepped s number entries) items options are comes says =
     did_says (world_of_items (start_of cells limit) items) u s number entries (own 0 items)
     (run_reached cells limit (events_of items) options (events_run (start_of cells limit) items are))
     comes.0 says
-item_says cells limit u (Saw word number) items options are comes says =
-    noted_says (world_of_items (start_of cells limit) items) u (Saw word number) (own 0 items) refl says says
+item_says cells limit u (Loaded word number) items options are comes says =
+    noted_says (world_of_items (start_of cells limit) items) u (Loaded word number) (own 0 items) refl says says
 item_says cells limit u (Lost word number) items options are comes says =
     noted_says (world_of_items (start_of cells limit) items) u (Lost word number) (own 0 items) refl says says
 
@@ -145,7 +145,7 @@ no_root_start cells limit x items options are comes = by_item x.1 refl comes
   where
     by_item : (item : Item) → x.1 ≡ item → MayCome (world_of_items (start_of cells limit) items) x.0 item
         → own 0 (x ∷ items) ≡ with_item false 0 x.0 x.1 (own 0 items)
-    by_item (Did s number entries) is comes =
+    by_item (Stepped s number entries) is comes =
         let h : Heap = world_of_items (start_of cells limit) items in
         let older : is_start 0 x.1 ≡ false = ap (is_start 0) is
         ∙ never_root h x.0 s number entries
@@ -154,7 +154,7 @@ no_root_start cells limit x items options are comes = by_item x.1 refl comes
         older
         ∙ sym (ap (λ b. if b then begins_with false x.1 else (if x.0 == 0 then x.1 ∷ own 0 items else own 0 items))
         older)
-    by_item (Saw word number) is comes = ap (λ z. if is_start 0 z then begins_with (is_used 0 items) z else (if x.0 ==
+    by_item (Loaded word number) is comes = ap (λ z. if is_start 0 z then begins_with (is_used 0 items) z else (if x.0 ==
         0 then z ∷ own 0 items else own 0 items)) is
         ∙ sym (ap (λ z. if is_start 0 z then begins_with false z else (if x.0 == 0 then z ∷ own 0 items else own 0
         items)) is)

@@ -21,7 +21,8 @@ use Rattle.law_world.specs.Steps.{gone, takes_block, is_free_step, worklist_with
 use Rattle.law_world.specs.Runs.{IsReached}
 use Rattle.law_world.specs.Sound.{IsSound, WorklistFits, held}
 use Rattle.law_lasting.specs.Staying.{IsAnothers, SameOwn}
-use Rattle.law_known.specs.Items.{Item, Did, ItemRun, MayCome, AreItems, events_of, world_of_items, own, part_of, meant}
+use Rattle.law_known.specs.Items.{Item, Stepped, ItemRun, MayCome, AreItems, events_of, world_of_items, own, part_of}
+use Rattle.law_known.specs.Items.{meant}
 use Rattle.law_known.specs.Items.{IsPart, IsNumberFound, found_at, finds, told, told_at, told_of, cell_told}
 use Rattle.law_known.specs.Items.{has_without}
 use Rattle.law_known.specs.Items.{has_after}
@@ -395,7 +396,7 @@ none_taken cells limit items t options are there nothing =
 -- the block that a step takes, by the number that it was told, isn't listed before
 pub fresh_is_told : (cells limit : ℕ) (items : ItemRun) (t c : ℕ) (s : Step) (number : ℕ) (entries : List ℕ)
     → AreOptions cells limit → AreItems (start_of cells limit) items
-    → MayCome (world_of_items (start_of cells limit) items) t (Did s number entries) → t ≢ 0
+    → MayCome (world_of_items (start_of cells limit) items) t (Stepped s number entries) → t ≢ 0
     → meant (part_of cells (own t items)) s ≡ Some c → takes_block s (cell_told s number) ≡ true
     → listed_at (taken_of cells (own t items)) c ≡ None
 fresh_is_told cells limit items t c s number entries options are comes thread named takes =

@@ -5,7 +5,7 @@ use Rattle.law_world.specs.declared.event.Step.{Step}
 use Rattle.law_world.specs.declared.event.Step.TheVariants.{Birth, LocalUp, LocalDown, Untie, Close}
 use Rattle.law_world.specs.declared.row.Stage.{Stage}
 use Rattle.law_world.specs.Steps.{is_mine}
-use Rattle.law_known.specs.Items.{Item, Did, Saw, Lost, Part, part_of, meant}
+use Rattle.law_known.specs.Items.{Item, Stepped, Loaded, Lost, Part, part_of, meant}
 
 -- what the thread counts on the cell's local word: its count where the thread owns the cell and is active, else nothing
 abbrev pub own_count : ℕ → Stage → Cell → ℕ
@@ -29,8 +29,8 @@ counts_by s number None counts d = counted_apart s (counts d)
 counts_by s number (Some c) counts d = if d == c then counted_by s number (counts d) else counts d
 
 abbrev pub counts_after : Part → (ℕ → ℕ) → Item → ℕ → ℕ
-counts_after part counts (Did s number entries) = counts_by s number (meant part s) counts
-counts_after part counts (Saw word number) = counts
+counts_after part counts (Stepped s number entries) = counts_by s number (meant part s) counts
+counts_after part counts (Loaded word number) = counts
 counts_after part counts (Lost word number) = counts
 
 -- the local counts of mortal cells, from the own items alone; 0 where the thread owns nothing

@@ -5,7 +5,7 @@ use Rattle.std.specs.Prelude.{◌≡◌, ℕ, ◌+◌, ◌-◌, ◌*◌, ◌/◌
 use Rattle.std.specs.Prelude.{negsuc, ◌-ℤ◌, List, [], ◌∷◌, length, replicate, bit_or, Option, Some, None, slice_set}
 use Rattle.std.specs.Prelude.{◌^◌, ◌≤◌, ◌<◌}
 use Rattle.brc_words.specs.declared.limits.TheConstants.{MOST_THREADS}
-use Rattle.brc_words.specs.declared.look.TheConstants.{CLOSED_BIT}
+use Rattle.brc_words.specs.declared.look.TheConstants.{CLOSED_BIT, ONE_COUNT, QUEUED_BITS}
 use Rattle.brc_words.specs.Owners.{word_of}
 use Rattle.brc_words.specs.Shared.{bits_of}
 use Rattle.brc_words.specs.declared.state.State.{State}
@@ -36,13 +36,17 @@ pub use Rattle.law_known.specs.declared.word.Word.TheVariants.{Of, Queue, Notify
 
 -- ---- the numbers that words spell
 
+-- A shared word has its count raised by 2^40 above its state bits, so that a count below 0 has a spelling.
+abbrev pub RAISED_BY : ℕ
+RAISED_BY = 2 ^ 40
+
 -- a count, counted from -2^40
 abbrev pub raised : ℤ → ℕ
-raised (pos n) = 2 ^ 40 + n
-raised (negsuc n) = 2 ^ 40 - 1 - n
+raised (pos n) = RAISED_BY + n
+raised (negsuc n) = RAISED_BY - 1 - n
 
 abbrev pub shared_word : ℤ → State → ℕ
-shared_word count state = raised count * 4 + bits_of state
+shared_word count state = raised count * ONE_COUNT + bits_of state
 
 -- the number in a word of a cell
 abbrev pub word_in : Field → Cell → ℕ
@@ -178,16 +182,16 @@ found h t s = found_at h s (target_at h t s)
 -- a step with the number that it was told and the entries that it found; or a note: a load, or a compare-exchange that
 -- was lost, with the number found
 pub data Item : Type 0 where
-  Did : Step → ℕ → List ℕ → Item
-  Saw : Word → ℕ → Item
+  Stepped : Step → ℕ → List ℕ → Item
+  Loaded : Word → ℕ → Item
   Lost : Word → ℕ → Item
 
 abbrev pub ItemRun : Type 0
 ItemRun = List (ℕ × Item)
 
 abbrev pub with_event : ℕ → Item → List Event → List Event
-with_event t (Did s number entries) run = record { thread = t; step = s } ∷ run
-with_event t (Saw word number) run = run
+with_event t (Stepped s number entries) run = record { thread = t; step = s } ∷ run
+with_event t (Loaded word number) run = run
 with_event t (Lost word number) run = run
 
 abbrev pub events_of : ItemRun → List Event
@@ -201,9 +205,9 @@ world_of_items start items = world_after start (events_of items)
 -- the item may come next: a step that is enabled, with what it is told and finds; a note with a number that may be
 -- there
 abbrev pub MayCome : Heap → ℕ → Item → Type 0
-MayCome h t (Did s number entries) = (enabled h (record { thread = t; step = s }) ≡ true) × IsNumberFound h t s number
-    × (entries ≡ found h t s)
-MayCome h t (Saw word number) = WordShows h word number
+MayCome h t (Stepped s number entries) = (enabled h (record { thread = t; step = s }) ≡ true)
+    × IsNumberFound h t s number × (entries ≡ found h t s)
+MayCome h t (Loaded word number) = WordShows h word number
 MayCome h t (Lost word number) = WordShows h word number
 
 -- each item may come where it stands
@@ -213,7 +217,7 @@ AreItems start (x ∷ items) = AreItems start items × MayCome (world_of_items s
 
 -- the root registers the thread
 abbrev pub is_start : ℕ → Item → Bool
-is_start t (Did (Register u) number entries) = u == t
+is_start t (Stepped (Register u) number entries) = u == t
 is_start t _ = false
 
 -- some item before registers the thread
@@ -256,11 +260,11 @@ new_part cells = record {
 
 -- count and state, read off the number of a shared word
 abbrev pub count_told : ℕ → ℤ
-count_told number = pos (number / 4) -ℤ pos (2 ^ 40)
+count_told number = pos (number / ONE_COUNT) -ℤ pos RAISED_BY
 
 abbrev pub state_told : ℕ → State
-state_told number = if number % 4 ==
-    0 then states.Default else (if number % 4 == 2 then states.Queued else states.Merged)
+state_told number = if number % ONE_COUNT ==
+    0 then states.Default else (if number % ONE_COUNT == QUEUED_BITS then states.Queued else states.Merged)
 
 -- the cell as a step's number tells it: the local count before one was taken, or count and state
 abbrev pub cell_told : Step → ℕ → Cell
@@ -319,8 +323,8 @@ abbrev pub meant : Part → Step → Option ℕ
 meant part s = target part.row part.frame part.worklist part.has s
 
 abbrev pub part_after : ℕ → Part → Item → Part
-part_after cells part (Did s number entries) = part_by cells part s number entries (meant part s)
-part_after cells part (Saw word number) = part
+part_after cells part (Stepped s number entries) = part_by cells part s number entries (meant part s)
+part_after cells part (Loaded word number) = part
 part_after cells part (Lost word number) = part
 
 -- a thread's part, from its own items alone

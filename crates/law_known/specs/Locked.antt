@@ -4,12 +4,12 @@ use Rattle.law_world.specs.declared.event.Step.TheVariants.{Lock, Unlock}
 use Rattle.law_world.specs.Lists.{place_at}
 use Rattle.law_world.specs.Heap.{Heap, entries_at}
 use Rattle.law_world.specs.Steps.{locked_at}
-use Rattle.law_known.specs.Items.{Item, Did, part_of}
+use Rattle.law_known.specs.Items.{Item, Stepped, part_of}
 use Rattle.law_known.specs.Taken.{listed_at, taken_of}
 
 abbrev pub locked_on : Item → Option (ℕ × List ℕ) → Option (ℕ × List ℕ)
-locked_on (Did (Lock k) number entries) before = Some (k, entries)
-locked_on (Did (Unlock change) number entries) before = None
+locked_on (Stepped (Lock k) number entries) before = Some (k, entries)
+locked_on (Stepped (Unlock change) number entries) before = None
 locked_on x before = before
 
 -- the newest of the thread's lockings and unlockings

@@ -6,10 +6,10 @@ use Rattle.law_world.specs.declared.edition.Edition.{Edition}
 use Rattle.law_world.specs.declared.edition.Edition.TheVariants as editions
 use Rattle.law_world.specs.declared.event.Step.TheVariants.{Register, Gather}
 use Rattle.law_world.specs.Steps.{first_gathered}
-use Rattle.law_known.specs.Items.{Item, Did}
+use Rattle.law_known.specs.Items.{Item, Stepped}
 
 abbrev pub registrations_on : Item → ℕ → ℕ
-registrations_on (Did (Register u) number entries) n = n + 1
+registrations_on (Stepped (Register u) number entries) n = n + 1
 registrations_on x n = n
 
 -- how many threads were registered
@@ -19,9 +19,9 @@ registrations_of (x ∷ items) = registrations_on x (registrations_of items)
 
 -- a number is used for the first time, or again; or its thread is gathered
 abbrev pub marks_on : Item → List Bool → List Bool
-marks_on (Did (Register u) number entries) marks =
+marks_on (Stepped (Register u) number entries) marks =
     if nat_lt u (length marks) then slice_set marks u false else marks ++ false ∷ []
-marks_on (Did (Gather u) number entries) marks = slice_set marks u true
+marks_on (Stepped (Gather u) number entries) marks = slice_set marks u true
 marks_on x marks = marks
 
 -- whether the threads of the numbers that were used are gathered, the root's first

@@ -6,7 +6,7 @@ use Rattle.law_world.specs.declared.event.Dropped.TheVariants as dropped
 use Rattle.law_world.specs.declared.event.Step.{Step}
 use Rattle.law_world.specs.Lists.{front_of}
 use Rattle.law_world.specs.Steps.{gone, takes_block, is_free_step}
-use Rattle.law_known.specs.Items.{Item, Did, Saw, Lost, Part, part_of, meant, cell_told}
+use Rattle.law_known.specs.Items.{Item, Stepped, Loaded, Lost, Part, part_of, meant, cell_told}
 
 -- a cell with the entries of its block
 abbrev pub Blocks : Type 0
@@ -46,8 +46,8 @@ taken_by s number entries (Some c) blocks = taken_on (is_free_step s) (takes_blo
     (cut_by (gone s (cell_told s number)) blocks)
 
 abbrev pub taken_after : Part → Blocks → Item → Blocks
-taken_after part blocks (Did s number entries) = taken_by s number entries (meant part s) blocks
-taken_after part blocks (Saw word number) = blocks
+taken_after part blocks (Stepped s number entries) = taken_by s number entries (meant part s) blocks
+taken_after part blocks (Loaded word number) = blocks
 taken_after part blocks (Lost word number) = blocks
 
 abbrev pub taken_of : ℕ → List Item → Blocks

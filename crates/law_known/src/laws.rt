@@ -1,6 +1,6 @@
 //! What a thread's own items tell it, each as the contract of a function with nothing to do.
 
-ghost use Rattle.std.specs.Prelude.{◌≡◌, ◌≢◌, ◌≤◌, ℕ, ◌+◌, ◌*◌, ◌^◌, ◌<◌, ◌==◌, ◌&&◌, List, [], ◌∷◌, Some, None, true};
+ghost use Rattle.std.specs.Prelude.{◌≡◌, ◌≢◌, ◌≤◌, ℕ, ◌+◌, ◌*◌, ◌<◌, ◌==◌, ◌&&◌, List, [], ◌∷◌, Some, None, true};
 ghost use Rattle.std.specs.Prelude.{false, length, slice_index_or};
 ghost use Rattle.std.specs.Int.{bit_at};
 ghost use Rattle.law_world.specs.declared.cell.Cell.{Cell as cell};
@@ -12,7 +12,8 @@ ghost use Rattle.law_world.specs.declared.event.Source.{Source as source};
 ghost use Rattle.law_world.specs.declared.event.Step.{Step as step};
 ghost use Rattle.law_world.specs.declared.event.Step.TheVariants as steps;
 ghost use Rattle.law_world.specs.declared.event.Event.{Event as event};
-ghost use Rattle.law_world.specs.Lists.{one, names, place_at, word_at, is_marked, is_bare, is_unmarked, is_blank};
+ghost use Rattle.law_world.specs.Lists.{WORD_LIMIT, one, names, place_at, word_at, is_marked, is_bare, is_unmarked};
+ghost use Rattle.law_world.specs.Lists.{is_blank};
 ghost use Rattle.brc_words.specs.Owners.{word_of};
 ghost use Rattle.law_world.specs.Holding.{lives};
 ghost use Rattle.law_known.specs.Start.{start_of};
@@ -36,8 +37,8 @@ ghost use Rattle.brc_words.specs.declared.limits.TheConstants.{FIRST_MORTAL, MOS
 ghost use Rattle.law_lasting.specs.Staying.{rank};
 ghost use Rattle.law_known.specs.Free_Words.{is_free_cell};
 ghost use Rattle.law_known.specs.Items.{Word as word, IsWord, WordShows, works_on, Of, Owner, Shared, FreeWord, Item};
-ghost use Rattle.law_known.specs.Items.{Did};
-ghost use Rattle.law_known.specs.Items.{Saw, Lost, ItemRun, MayCome, AreItems, IsPart, events_of, world_of_items};
+ghost use Rattle.law_known.specs.Items.{Stepped};
+ghost use Rattle.law_known.specs.Items.{Loaded, Lost, ItemRun, MayCome, AreItems, IsPart, events_of, world_of_items};
 ghost use Rattle.law_known.specs.Items.{part_of, meant, cell_told, own};
 
 /// Items are runs with what each step was told: the events of items are a run, and each run is the events of items. A
@@ -81,7 +82,7 @@ pub fn own_items_tell_few_frees()
     ensures { (cells limit : ℕ) (items : ItemRun) (t : ℕ) → AreOptions cells limit
         → AreItems (start_of cells limit) items
         → is_registered (world_of_items (start_of cells limit) items) t ≡ true
-        → (part_of cells (own t items)).row.frees < 2 ^ 64 }
+        → (part_of cells (own t items)).row.frees < WORD_LIMIT }
 {}
 
 /// The local count of each of a thread's own objects is a function of its own items, with the numbers that they were
@@ -151,7 +152,7 @@ pub fn own_items_tell_the_blocks()
         (entries_at (world_of_items (start_of cells limit) items) c) }
     ensures fresh { (cells limit : ℕ) (items : ItemRun) (t c : ℕ) (s : step) (number : ℕ)
         (entries : List ℕ) → AreOptions cells limit → AreItems (start_of cells limit) items
-        → MayCome (world_of_items (start_of cells limit) items) t (Did s number entries) → t ≢ 0
+        → MayCome (world_of_items (start_of cells limit) items) t (Stepped s number entries) → t ≢ 0
         → meant (part_of cells (own t items)) s ≡ Some c
         → takes_block s (cell_told s number) ≡ true
         → listed_at (taken_of cells (own t items)) c ≡ None }
@@ -178,22 +179,22 @@ pub fn own_items_tell_the_lock()
 pub fn own_steps_go_on()
     ensures meant { (cells : ℕ) (items : List Item) (s : step) (c number : ℕ) (entries : List ℕ)
         → meant (part_of cells items) s ≡ Some c
-        → KnowsNext cells items (Did s number entries)
+        → KnowsNext cells items (Stepped s number entries)
         (knows_after s c number entries (known_of cells items)) }
     ensures apart { (cells : ℕ) (items : List Item) (s : step) (number : ℕ) (entries : List ℕ)
         → needs_no_cell s ≡ true
-        → KnowsNext cells items (Did s number entries) (knows_apart cells s number (known_of cells items)) }
+        → KnowsNext cells items (Stepped s number entries) (knows_apart cells s number (known_of cells items)) }
     ensures places { (cells : ℕ) (items : List Item) (s : step) (c number : ℕ) (entries : List ℕ)
         (j : ℕ) → meant (part_of cells items) s ≡ Some c → touched_place s ≢ Some j
-        → place_at (part_of cells (Did s number entries ∷ items)).frame j
+        → place_at (part_of cells (Stepped s number entries ∷ items)).frame j
         ≡ place_at (part_of cells items).frame j }
     ensures entries { (cells : ℕ) (items : List Item) (s : step) (c number : ℕ) (entries : List ℕ)
         (q : ℕ) → meant (part_of cells items) s ≡ Some c → q ≢ c
         → given_up s ≢ Some (drops.Work q)
-        → drop_in (part_of cells (Did s number entries ∷ items)) (drops.Work q)
+        → drop_in (part_of cells (Stepped s number entries ∷ items)) (drops.Work q)
         ≡ drop_in (part_of cells items) (drops.Work q) }
     ensures saw { (cells : ℕ) (items : List Item) (w : word) (number : ℕ)
-        → KnowsNext cells items (Saw w number) (known_of cells items) }
+        → KnowsNext cells items (Loaded w number) (known_of cells items) }
     ensures lost { (cells : ℕ) (items : List Item) (w : word) (number : ℕ)
         → KnowsNext cells items (Lost w number) (known_of cells items) }
 {}
@@ -208,27 +209,27 @@ pub fn what_has_risen_stays_seen()
     ensures places { (cells : ℕ) (items : List Item) (s : step) (d number : ℕ) (entries : List ℕ)
         (j c : ℕ) → meant (part_of cells items) s ≡ Some d → touched_place s ≢ Some j
         → is_risen cells items (drops.Frame j) c ≡ true
-        → is_risen cells (Did s number entries ∷ items) (drops.Frame j) c ≡ true }
+        → is_risen cells (Stepped s number entries ∷ items) (drops.Frame j) c ≡ true }
     ensures entries { (cells : ℕ) (items : List Item) (s : step) (d number : ℕ) (entries : List ℕ)
         (q c : ℕ) → meant (part_of cells items) s ≡ Some d → q ≢ d
         → given_up s ≢ Some (drops.Work q) → is_risen cells items (drops.Work q) c ≡ true
-        → is_risen cells (Did s number entries ∷ items) (drops.Work q) c ≡ true }
+        → is_risen cells (Stepped s number entries ∷ items) (drops.Work q) c ≡ true }
     ensures apart { (cells : ℕ) (items : List Item) (s : step) (number : ℕ) (entries : List ℕ)
         (drop : dropped) (c : ℕ) → needs_no_cell s ≡ true → is_risen cells items drop c ≡ true
-        → is_risen cells (Did s number entries ∷ items) drop c ≡ true }
+        → is_risen cells (Stepped s number entries ∷ items) drop c ≡ true }
 
     // The place that an unlocking changes.
     ensures put { (cells : ℕ) (items : List Item) (j d number : ℕ) (entries : List ℕ) (c : ℕ)
         → meant (part_of cells items) (steps.Unlock (changes.Put j)) ≡ Some d
-        → is_risen cells (Did (steps.Unlock (changes.Put j)) number entries ∷ items)
+        → is_risen cells (Stepped (steps.Unlock (changes.Put j)) number entries ∷ items)
         (drops.Frame j) c ≡ false }
     ensures took { (cells : ℕ) (items : List Item) (i j number : ℕ) (entries : List ℕ) (c : ℕ)
         → place_at (part_of cells items).frame j ≡ None
-        → is_risen cells (Did (steps.Unlock (changes.Take i j)) number entries ∷ items)
+        → is_risen cells (Stepped (steps.Unlock (changes.Take i j)) number entries ∷ items)
         (drops.Frame j) c ≡ false }
     ensures swapped { (cells : ℕ) (items : List Item) (i j d number : ℕ) (entries : List ℕ) (c : ℕ)
         → meant (part_of cells items) (steps.Unlock (changes.Swap i j)) ≡ Some d
-        → is_risen cells (Did (steps.Unlock (changes.Swap i j)) number entries ∷ items)
+        → is_risen cells (Stepped (steps.Unlock (changes.Swap i j)) number entries ∷ items)
         (drops.Frame j) c ≡ ((slice_index_or ((part_of cells items).has d) i 0 == c)
         && is_risen cells items (drops.Frame j) c) }
 
@@ -236,15 +237,15 @@ pub fn what_has_risen_stays_seen()
     ensures counted { (cells : ℕ) (items : List Item) (from : source) (k c number : ℕ)
         (entries : List ℕ) → meant (part_of cells items) (steps.SharedUp from k) ≡ Some c
         → is_risen_word number ≡ true
-        → is_risen cells (Did (steps.SharedUp from k) number entries ∷ items) (drops.Frame k) c
+        → is_risen cells (Stepped (steps.SharedUp from k) number entries ∷ items) (drops.Frame k) c
         ≡ true }
     ensures asked { (cells : ℕ) (items : List Item) (drop : dropped) (c number : ℕ)
         (entries : List ℕ) → drop_in (part_of cells items) drop ≡ Some c
         → is_risen_word number ≡ true
-        → is_risen cells (Did (steps.Ask drop) number entries ∷ items) drop c ≡ true }
+        → is_risen cells (Stepped (steps.Ask drop) number entries ∷ items) drop c ≡ true }
     ensures saw { (cells : ℕ) (items : List Item) (drop : dropped) (c number : ℕ)
         → drop_in (part_of cells items) drop ≡ Some c → is_risen_word number ≡ true
-        → is_risen cells (Saw (Of Shared c) number ∷ items) drop c ≡ true }
+        → is_risen cells (Loaded (Of Shared c) number ∷ items) drop c ≡ true }
     ensures lost { (cells : ℕ) (items : List Item) (drop : dropped) (c number : ℕ)
         → drop_in (part_of cells items) drop ≡ Some c → is_risen_word number ≡ true
         → is_risen cells (Lost (Of Shared c) number ∷ items) drop c ≡ true }
@@ -292,7 +293,7 @@ pub fn a_step_changes_one_word()
 pub fn free_words_tell_the_free_cells()
     ensures free { (h : Heap) (k i number : ℕ) → i < 64 → WordShows h (FreeWord k) number
         → bit_at number i ≡ one (is_free_cell h (k * 64 + i)) }
-    ensures small { (h : Heap) (k number : ℕ) → WordShows h (FreeWord k) number → number < 2 ^ 64 }
+    ensures small { (h : Heap) (k number : ℕ) → WordShows h (FreeWord k) number → number < WORD_LIMIT }
     ensures owner { (h : Heap) (c number : ℕ) → lives (cell_at h c).owner ≡ true
         → WordShows h (Of Owner c) number → number ≡ word_of (cell_at h c).owner }
 {}

@@ -22,7 +22,8 @@ use Rattle.law_world.proofs.Reached.{reached_sound}
 use Rattle.law_lasting.specs.Staying.{IsAnothers}
 use Rattle.law_lasting.proofs.Lasting.{others_own}
 use Rattle.law_known.proofs.Starting.{run_reached}
-use Rattle.law_known.specs.Items.{Item, Did, ItemRun, AreItems, events_of, world_of_items, own, Part, part_of, IsPart}
+use Rattle.law_known.specs.Items.{Item, Stepped, ItemRun, AreItems, events_of, world_of_items, own, Part, part_of}
+use Rattle.law_known.specs.Items.{IsPart}
 use Rattle.law_known.proofs.Items_Law.{part_follows}
 use Rattle.law_known.proofs.Items_Runs.{events_run}
 use Rattle.law_known.proofs.Items_Tells.{Follows, tells}
@@ -191,7 +192,7 @@ pub record ApartNow (t cells : ℕ) (h : Heap) (log : List Item) : Type 0 where
 -- opening one more word makes nothing private
 pub opens_none : (cells : ℕ) (s : Step) (number : ℕ) (entries : List ℕ) (log : List Item) (k : ℕ) → s ≡ Reopen k
     → ((c : ℕ) → private_of cells log c ≡ false)
-    → (c : ℕ) → private_of cells (Did s number entries ∷ log) c ≡ false
+    → (c : ℕ) → private_of cells (Stepped s number entries ∷ log) c ≡ false
 opens_none cells s number entries log k is none c =
     ap (λ (z : Step). private_by (part_of cells log).frame (locked_told cells log) z (private_of cells log) c)
     is ∙ none c
@@ -206,7 +207,7 @@ apart_follows t cells = record {
   again = λ h number entries reached size vacated. record {
     part = (part_follows t cells).again h number entries reached size vacated;
     apart = λ active. none_private (registered_again h t) t
-        (private_of cells (Did (Register t) number entries ∷ [])) (λ c. refl);
+        (private_of cells (Stepped (Register t) number entries ∷ [])) (λ c. refl);
     opening = λ n is c. refl;
   };
   others = λ h e log reached ok others before. record {
@@ -225,7 +226,7 @@ apart_follows t cells = record {
           (own_target h t s (private_of cells log) (target_at h t s) (reached_sound h reached) (before.apart was) was
           (joined h t s may) refl)
       | inr opens ↦ none_private (after_target h t s (target_at h t s)) t
-          (private_of cells (Did s number entries ∷ log))
+          (private_of cells (Stepped s number entries ∷ log))
           (opens_none cells s number entries log opens.0 opens.1 (before.opening opens.0 opens.2))
     ];
     opening = λ n is.

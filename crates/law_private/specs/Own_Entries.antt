@@ -5,7 +5,7 @@ use Rattle.law_world.specs.declared.event.Step.{Step}
 use Rattle.law_world.specs.declared.event.Step.TheVariants.{Unlock}
 use Rattle.law_world.specs.Heap.{Heap, entries_at}
 use Rattle.law_world.specs.Steps.{locked_cell}
-use Rattle.law_known.specs.Items.{Item, Did, Saw, Lost, part_of}
+use Rattle.law_known.specs.Items.{Item, Stepped, Loaded, Lost, part_of}
 use Rattle.law_private.specs.Private.{place_put, is_in, locked_told, private_of}
 
 -- a private cell, or one below the globals, which nobody changes
@@ -23,8 +23,8 @@ puts_own frame into set (Unlock change) =
 puts_own frame into set _ = true
 
 abbrev pub puts_own_on : List (Option ℕ) → Option ℕ → (ℕ → Bool) → Item → Bool
-puts_own_on frame into set (Did s number entries) = puts_own frame into set s
-puts_own_on frame into set (Saw word number) = true
+puts_own_on frame into set (Stepped s number entries) = puts_own frame into set s
+puts_own_on frame into set (Loaded word number) = true
 puts_own_on frame into set (Lost word number) = true
 
 -- each of the thread's items did so

@@ -17,7 +17,7 @@ use Rattle.law_world.specs.declared.row.Phase.{Phase}
 use Rattle.law_world.specs.Lists.{place_at, bit_of, is_marked}
 use Rattle.law_world.specs.Heap.{Heap, cell_at, entries_at, row_at, frame_at, popped_at, worklist_at, queue_at}
 use Rattle.law_world.specs.Steps.{locked_cell, is_queued}
-use Rattle.law_known.specs.Items.{Item, Did, Saw, Lost, part_of}
+use Rattle.law_known.specs.Items.{Item, Stepped, Loaded, Lost, part_of}
 
 -- the place whose cell an unlock puts into the locked object
 abbrev pub place_put : Change → Option ℕ
@@ -49,8 +49,8 @@ abbrev pub locked_told : ℕ → List Item → Option ℕ
 locked_told cells items = locked_cell (part_of cells items).frame (part_of cells items).row.locked
 
 abbrev pub private_on : List (Option ℕ) → Option ℕ → (ℕ → Bool) → Item → ℕ → Bool
-private_on frame into set (Did s number entries) c = private_by frame into s set c
-private_on frame into set (Saw word number) c = set c
+private_on frame into set (Stepped s number entries) c = private_by frame into s set c
+private_on frame into set (Loaded word number) c = set c
 private_on frame into set (Lost word number) c = set c
 
 -- the private cells, told by own items alone; a thread begins without any

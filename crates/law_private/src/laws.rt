@@ -20,7 +20,7 @@ ghost use Rattle.law_world.specs.Steps.{thread_may, target_at, locked_at, steppe
 ghost use Rattle.law_world.specs.Steps.{registered_again, gathered_in, is_active, is_default, is_keep, is_others};
 ghost use Rattle.law_world.specs.Steps.{hand_after};
 ghost use Rattle.law_known.specs.declared.word.Word.{Word as word};
-ghost use Rattle.law_known.specs.Items.{Item, Did, Saw, Lost, ItemRun, AreItems, world_of_items, own, part_of};
+ghost use Rattle.law_known.specs.Items.{Item, Stepped, Loaded, Lost, ItemRun, AreItems, world_of_items, own, part_of};
 ghost use Rattle.law_private.specs.Private.{Isolated, LeavesInHand, is_plain, is_shared, private_by, private_of};
 ghost use Rattle.law_private.specs.Private.{locked_told};
 ghost use Rattle.law_private.specs.Own_Entries.{keeps_own, OwnEntries};
@@ -61,24 +61,24 @@ pub fn private_cells_go_on()
     ensures none { (cells c : ℕ) → private_of cells [] c ≡ false }
     ensures born { (cells : ℕ) (items : List Item) (d : ℕ) (kind : kind) (k number : ℕ)
         (entries : List ℕ) (c : ℕ)
-        → private_of cells (Did (steps.Birth d kind k) number entries ∷ items) c
+        → private_of cells (Stepped (steps.Birth d kind k) number entries ∷ items) c
         ≡ (if d == c then true else private_of cells items c) }
     ensures freed { (cells : ℕ) (items : List Item) (d number : ℕ) (entries : List ℕ) (c : ℕ)
-        → private_of cells (Did (steps.Free d) number entries ∷ items) c
+        → private_of cells (Stepped (steps.Free d) number entries ∷ items) c
         ≡ (if d == c then false else private_of cells items c) }
     ensures unlocked { (cells : ℕ) (items : List Item) (change : change) (number : ℕ)
         (entries : List ℕ) (c : ℕ)
-        → private_of cells (Did (steps.Unlock change) number entries ∷ items) c
+        → private_of cells (Stepped (steps.Unlock change) number entries ∷ items) c
         ≡ (if is_shared (private_of cells items) (part_of cells items).frame (locked_told cells items) change
         then false else private_of cells items c) }
     ensures offered { (cells : ℕ) (items : List Item) (d number : ℕ) (entries : List ℕ) (c : ℕ)
-        → private_of cells (Did (steps.Offer d) number entries ∷ items) c
+        → private_of cells (Stepped (steps.Offer d) number entries ∷ items) c
         ≡ (if private_of cells items d then false else private_of cells items c) }
     ensures plain { (cells : ℕ) (items : List Item) (s : step) (number : ℕ) (entries : List ℕ) (c : ℕ)
         → is_plain s ≡ true
-        → private_of cells (Did s number entries ∷ items) c ≡ private_of cells items c }
+        → private_of cells (Stepped s number entries ∷ items) c ≡ private_of cells items c }
     ensures saw { (cells : ℕ) (items : List Item) (w : word) (number c : ℕ)
-        → private_of cells (Saw w number ∷ items) c ≡ private_of cells items c }
+        → private_of cells (Loaded w number ∷ items) c ≡ private_of cells items c }
     ensures lost { (cells : ℕ) (items : List Item) (w : word) (number c : ℕ)
         → private_of cells (Lost w number ∷ items) c ≡ private_of cells items c }
 {}

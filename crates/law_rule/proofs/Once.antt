@@ -120,7 +120,7 @@ some_number h v sound may = elim (registers h v sound may) [
 
 -- nobody registers number 0
 never_root : (h : Heap) (u : ℕ) (s : Step) (number : ℕ) (entries : List ℕ) → IsReached h
-    → enabled h (record { thread = u; step = s }) ≡ true → is_start 0 (items.Did s number entries) ≡ false
+    → enabled h (record { thread = u; step = s }) ≡ true → is_start 0 (items.Stepped s number entries) ≡ false
 never_root h u (Register v) number entries reached ok = elim (cases_Bool (u == 0)) [
   | inl root ↦
       let may : root_may h (Register v) ≡ true =

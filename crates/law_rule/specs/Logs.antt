@@ -48,8 +48,8 @@ entries_found (moves.Found c contents) = entries_in contents
 entries_found _ = []
 
 abbrev pub item_of : LogItem → Item
-item_of (Stepped s number moved) = items.Did s number (entries_found moved)
-item_of (Loaded word number) = items.Saw word number
+item_of (Stepped s number moved) = items.Stepped s number (entries_found moved)
+item_of (Loaded word number) = items.Loaded word number
 item_of (Lost word number) = items.Lost word number
 
 abbrev pub log_items : List LogItem → List Item

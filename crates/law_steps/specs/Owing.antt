@@ -1,6 +1,7 @@
 -- What each kind of step asks of its seat's log, and of nothing else.
 use Rattle.std.specs.Prelude.{◌≡◌, ◌≢◌, ◌⊎◌, ℕ, ◌%◌, ◌<◌, ◌≤◌, ◌||◌, Bool, true, false, List, [], Some, None}
 use Rattle.brc_words.specs.declared.limits.TheConstants.{FIRST_MORTAL, MOST_THREADS}
+use Rattle.brc_words.specs.declared.look.TheConstants.{MERGED_BITS, ONE_COUNT}
 use Rattle.law_world.specs.declared.event.Source.{Source}
 use Rattle.law_world.specs.declared.event.Dropped.{Dropped}
 use Rattle.law_world.specs.declared.event.Change.{Change}
@@ -128,7 +129,7 @@ pub record MayNudge (n : ℕ) (log : List LogItem) (q k : ℕ) : Type 0 where
 pub record EndsPopped (n : ℕ) (log : List LogItem) (c number : ℕ) : Type 0 where
   pub own : own_may n (part_seen n log) (LastDown (lasts.Popped c)) ≡ true
   pub found : noted Shared c log ≡ Some number
-  pub merged : number % 4 ≡ 3
+  pub merged : number % ONE_COUNT ≡ MERGED_BITS
 
 -- a popped entry of an object that the thread has just merged
 pub record EndsAdded (n : ℕ) (log : List LogItem) (c : ℕ) : Type 0 where
@@ -175,7 +176,7 @@ pub record UntiesPopped (n : ℕ) (log : List LogItem) (c number : ℕ) : Type 0
   pub active : is_active (part_seen n log).row.stage ≡ true
   pub hand : (part_seen n log).row.hand ≡ hands.Free
   pub found : noted Shared c log ≡ Some number
-  pub unmerged : number % 4 ≢ 3
+  pub unmerged : number % ONE_COUNT ≢ MERGED_BITS
 
 -- an object of which the thread has popped a reference and that it has made nobody's, with its local count as noted
 pub record AddsLocal (n : ℕ) (log : List LogItem) (c local : ℕ) : Type 0 where

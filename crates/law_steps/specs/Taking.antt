@@ -1,11 +1,13 @@
 -- What a step that may take a block tells its seat.
-use Rattle.std.specs.Prelude.{◌≡◌, ℕ, ◌<◌, ◌≤◌, ◌+◌, ◌*◌, ◌/◌, ◌^◌, Bool, true, false, List, ◌∷◌, length, Option, Some}
+use Rattle.std.specs.Prelude.{◌≡◌, ℕ, ◌<◌, ◌≤◌, ◌+◌, ◌*◌, ◌/◌, Bool, true, false, List, ◌∷◌, length, Option, Some}
 use Rattle.std.specs.Prelude.{None, slice_get}
 use Rattle.std.specs.Int.{bit_at}
 use Rattle.atomic_table.specs.Table.{Me}
 use Rattle.brc_words.specs.declared.limits.TheConstants.{MOST_ENTRIES}
+use Rattle.brc_words.specs.declared.look.TheConstants.{ONE_COUNT}
 use Rattle.law_world.specs.declared.event.Step.{Step}
 use Rattle.law_world.specs.declared.event.Step.TheVariants.{Claim, Lock}
+use Rattle.law_known.specs.Items.{RAISED_BY}
 use Rattle.law_known.specs.Taken.{listed_at}
 use Rattle.law_known.specs.declared.word.Field.TheVariants.{Mutex}
 use Rattle.law_known.specs.declared.word.Word.TheVariants.{Of, FreeWord}
@@ -29,7 +31,7 @@ AreQueued n k bits = (i : ℕ) → bit_at bits i ≡ 1 → (i < 32) × (k * 32 +
 
 -- the number of a shared word of which the count is above 0
 abbrev pub CountsSome : ℕ → Type 0
-CountsSome number = 2 ^ 40 < number / 4
+CountsSome number = RAISED_BY < number / ONE_COUNT
 
 -- The seat has the cell's block now, and its log the contents that were found in it. It was none of the dead blocks
 -- that the seat had, and its entries are cells of the heap, not too many.

@@ -8,11 +8,13 @@ ghost use prog.Atomic.{either};
 ghost use Rattle.atomic_table.specs.Table.{Allows, Splits, Joins};
 ghost use Rattle.brc_words.specs.declared.kind.Kind.{Kind as kind};
 ghost use Rattle.brc_words.specs.declared.limits.TheConstants.{MOST_THREADS};
+ghost use Rattle.brc_words.specs.declared.look.TheConstants.{CLOSED_BIT, MERGED_BITS, NO_COUNT, ONE_COUNT, QUEUED_BITS};
 ghost use Rattle.law_world.specs.declared.event.Change.{Change as change};
 ghost use Rattle.law_world.specs.declared.event.Dropped.{Dropped as dropped};
 ghost use Rattle.law_world.specs.declared.event.LastDropped.TheVariants as lasts;
 ghost use Rattle.law_world.specs.declared.event.Source.{Source as source};
 ghost use Rattle.law_world.specs.declared.event.Step.TheVariants as steps;
+ghost use Rattle.law_world.specs.Lists.{WORD_LIMIT};
 ghost use Rattle.law_world.specs.Heap.{words_for};
 ghost use Rattle.law_world.specs.Steps.{takes_block};
 ghost use Rattle.law_known.specs.declared.word.Field.TheVariants as fields;
@@ -68,14 +70,14 @@ pub fn others_count<B>()
         (source : source) (k c : ℕ)
         → v.active ≡ true → 0 < v.thread → c < n → MayRaiseShared n limit v.log source k c
         → Allows (Kept shows n limit) n id (v, slots) (spot n (words.Of fields.Shared c))
-        (λ there. (there + 4) % 2 ^ 64)
+        (λ there. (there + ONE_COUNT) % WORD_LIMIT)
         (λ there me. me ≡ (with_told (told.Stepped (steps.SharedUp source k) there moves.Nothing) v, slots)) }
     ensures down { (shows : B → ℕ × contents) (n limit id : ℕ) (v : view) (slots : List (ℕ × Option B)) (drop : dropped)
         (c old : ℕ)
         → v.active ≡ true → 0 < v.thread → c < n → MayRelease n v.log (steps.SharedDown drop) c
-        → old % 4 ≡ 0 → 2 ^ 42 + 4 ≤ old
+        → old % ONE_COUNT ≡ 0 → NO_COUNT + ONE_COUNT ≤ old
         → Allows (Kept shows n limit) n id (v, slots) (spot n (words.Of fields.Shared c))
-        (λ there. either (there == old) (old - 4) there)
+        (λ there. either (there == old) (old - ONE_COUNT) there)
         (λ there me. me ≡ (
           (if there == old then with_told (told.Stepped (steps.SharedDown drop) old moves.Nothing) v
               else with_told (told.Lost (words.Of fields.Shared c) there) v),
@@ -84,7 +86,8 @@ pub fn others_count<B>()
     ensures ask { (shows : B → ℕ × contents) (n limit id : ℕ) (v : view) (slots : List (ℕ × Option B))
         (drop : dropped) (c : ℕ)
         → v.active ≡ true → 0 < v.thread → c < n → MayRelease n v.log (steps.Ask drop) c
-        → Allows (Kept shows n limit) n id (v, slots) (spot n (words.Of fields.Shared c)) (λ there. bit_or there 2)
+        → Allows (Kept shows n limit) n id (v, slots) (spot n (words.Of fields.Shared c))
+        (λ there. bit_or there QUEUED_BITS)
         (λ there me. me ≡ (with_told (told.Stepped (steps.Ask drop) there moves.Nothing) v, slots)) }
 {}
 
@@ -98,14 +101,15 @@ pub fn objects_end<B>()
         (takes_block (steps.SeeZero c) (cell_told (steps.SeeZero c) there)) me) }
     ensures merge_zero { (shows : B → ℕ × contents) (n limit id : ℕ) (v : view) (slots : List (ℕ × Option B)) (c : ℕ)
         → v.active ≡ true → 0 < v.thread → c < n → MayCarry n v.log (steps.MergeZero c) c
-        → Allows (Kept shows n limit) n id (v, slots) (spot n (words.Of fields.Shared c)) (λ there. bit_or there 3)
+        → Allows (Kept shows n limit) n id (v, slots) (spot n (words.Of fields.Shared c))
+        (λ there. bit_or there MERGED_BITS)
         (λ there me. EndedObject shows n v slots (steps.MergeZero c) c there
         (takes_block (steps.MergeZero c) (cell_told (steps.MergeZero c) there)) me) }
     ensures last_down { (shows : B → ℕ × contents) (n limit id : ℕ) (v : view) (slots : List (ℕ × Option B))
         (drop : dropped) (c : ℕ)
         → v.active ≡ true → 0 < v.thread → c < n → EndsRisen n v.log drop c
         → Allows (Kept shows n limit) n id (v, slots) (spot n (words.Of fields.Shared c))
-        (λ there. (there + (2 ^ 64 - 4)) % 2 ^ 64)
+        (λ there. (there + (WORD_LIMIT - ONE_COUNT)) % WORD_LIMIT)
         (λ there me. EndedObject shows n v slots (steps.LastDown (lasts.Dropped drop)) c there
         (takes_block (steps.LastDown (lasts.Dropped drop))
         (cell_told (steps.LastDown (lasts.Dropped drop)) there)) me) }
@@ -119,7 +123,7 @@ pub fn cells_are_used_again<B>()
     ensures claim { (shows : B → ℕ × contents) (n limit id : ℕ) (v : view) (slots : List (ℕ × Option B)) (c : ℕ)
         → v.active ≡ true → 0 < v.thread → c < n → MayClaimCell n v.log c
         → Allows (Kept shows n limit) n id (v, slots) (spot n (words.FreeWord (c / 64)))
-        (λ there. bit_and there (2 ^ 64 - 1 - 2 ^ (c % 64)))
+        (λ there. bit_and there (WORD_LIMIT - 1 - 2 ^ (c % 64)))
         (λ there me. Claimed n v slots c there (bit_at there (c % 64) == 1) me) }
     ensures init_local { (shows : B → ℕ × contents) (n limit id : ℕ) (v : view) (slots : List (ℕ × Option B)) (c : ℕ)
         → v.active ≡ true → 0 < v.thread → c < n → MayCarry n v.log (steps.InitLocal c) c
@@ -127,8 +131,8 @@ pub fn cells_are_used_again<B>()
         (λ there me. me ≡ (with_told (told.Stepped (steps.InitLocal c) 1 moves.Nothing) v, slots)) }
     ensures init_shared { (shows : B → ℕ × contents) (n limit id : ℕ) (v : view) (slots : List (ℕ × Option B)) (c : ℕ)
         → v.active ≡ true → 0 < v.thread → c < n → MayCarry n v.log (steps.InitShared c) c
-        → Allows (Kept shows n limit) n id (v, slots) (spot n (words.Of fields.Shared c)) (λ there. 2 ^ 42)
-        (λ there me. me ≡ (with_told (told.Stepped (steps.InitShared c) (2 ^ 42) moves.Nothing) v, slots)) }
+        → Allows (Kept shows n limit) n id (v, slots) (spot n (words.Of fields.Shared c)) (λ there. NO_COUNT)
+        (λ there me. me ≡ (with_told (told.Stepped (steps.InitShared c) NO_COUNT moves.Nothing) v, slots)) }
     ensures birth { (shows : B → ℕ × contents) (n limit id : ℕ) (v : view) (rest : List (ℕ × Option B)) (block : B)
         (kind : kind) (k c : ℕ)
         → v.active ≡ true → 0 < v.thread → c < n → MayBear n v.log (shows block) kind k c
@@ -174,7 +178,7 @@ pub fn queues_are_drained<B>()
     ensures close { (shows : B → ℕ × contents) (n limit id : ℕ) (v : view) (slots : List (ℕ × Option B)) (k : ℕ)
         → v.active ≡ true → 0 < v.thread → v.thread ≤ MOST_THREADS → k < words_for n → MayClose n v.log k
         → Allows (Kept shows n limit) n id (v, slots) (spot n (words.Queue v.thread k))
-        (λ there. bit_or there 9223372036854775808)
+        (λ there. bit_or there CLOSED_BIT)
         (λ there me. (me ≡ (with_told (told.Stepped (steps.Close k) there moves.Nothing) v, slots))
         × AreQueued n k there) }
     ensures reopen { (shows : B → ℕ × contents) (n limit id : ℕ) (v : view) (slots : List (ℕ × Option B)) (k : ℕ)
@@ -211,31 +215,31 @@ pub fn queued_references_end<B>()
     ensures popped { (shows : B → ℕ × contents) (n limit id : ℕ) (v : view) (slots : List (ℕ × Option B)) (c number : ℕ)
         → v.active ≡ true → 0 < v.thread → c < n → EndsPopped n v.log c number
         → Allows (Kept shows n limit) n id (v, slots) (spot n (words.Of fields.Shared c))
-        (λ there. (there + (2 ^ 64 - 4)) % 2 ^ 64)
+        (λ there. (there + (WORD_LIMIT - ONE_COUNT)) % WORD_LIMIT)
         (λ there me. EndedObject shows n v slots (steps.LastDown (lasts.Popped c)) c there
         (takes_block (steps.LastDown (lasts.Popped c)) (cell_told (steps.LastDown (lasts.Popped c)) there)) me) }
     ensures added { (shows : B → ℕ × contents) (n limit id : ℕ) (v : view) (slots : List (ℕ × Option B)) (c : ℕ)
         → v.active ≡ true → 0 < v.thread → c < n → EndsAdded n v.log c
         → Allows (Kept shows n limit) n id (v, slots) (spot n (words.Of fields.Shared c))
-        (λ there. (there + (2 ^ 64 - 4)) % 2 ^ 64)
+        (λ there. (there + (WORD_LIMIT - ONE_COUNT)) % WORD_LIMIT)
         (λ there me. EndedObject shows n v slots (steps.LastDown (lasts.Popped c)) c there
         (takes_block (steps.LastDown (lasts.Popped c)) (cell_told (steps.LastDown (lasts.Popped c)) there)) me) }
     ensures left { (shows : B → ℕ × contents) (n limit id : ℕ) (v : view) (slots : List (ℕ × Option B)) (c : ℕ)
         → v.active ≡ true → 0 < v.thread → c < n → EndsLeft n v.log c
         → Allows (Kept shows n limit) n id (v, slots) (spot n (words.Of fields.Shared c))
-        (λ there. (there + (2 ^ 64 - 4)) % 2 ^ 64)
+        (λ there. (there + (WORD_LIMIT - ONE_COUNT)) % WORD_LIMIT)
         (λ there me. EndedObject shows n v slots (steps.LastDown (lasts.Popped c)) c there
         (takes_block (steps.LastDown (lasts.Popped c)) (cell_told (steps.LastDown (lasts.Popped c)) there)) me) }
     ensures shut { (shows : B → ℕ × contents) (n limit id : ℕ) (v : view) (slots : List (ℕ × Option B)) (c : ℕ)
         → v.active ≡ true → 0 < v.thread → c < n → EndsShut n v.log c
         → Allows (Kept shows n limit) n id (v, slots) (spot n (words.Of fields.Shared c))
-        (λ there. (there + (2 ^ 64 - 4)) % 2 ^ 64)
+        (λ there. (there + (WORD_LIMIT - ONE_COUNT)) % WORD_LIMIT)
         (λ there me. EndedObject shows n v slots (steps.LastDown lasts.Hand) c there
         (takes_block (steps.LastDown lasts.Hand) (cell_told (steps.LastDown lasts.Hand) there)) me) }
     ensures nobodys { (shows : B → ℕ × contents) (n limit id : ℕ) (v : view) (slots : List (ℕ × Option B)) (c : ℕ)
         → v.active ≡ true → 0 < v.thread → c < n → EndsNobodys n v.log c
         → Allows (Kept shows n limit) n id (v, slots) (spot n (words.Of fields.Shared c))
-        (λ there. (there + (2 ^ 64 - 4)) % 2 ^ 64)
+        (λ there. (there + (WORD_LIMIT - ONE_COUNT)) % WORD_LIMIT)
         (λ there me. EndedObject shows n v slots (steps.LastDown lasts.Hand) c there
         (takes_block (steps.LastDown lasts.Hand) (cell_told (steps.LastDown lasts.Hand) there)) me) }
 {}
@@ -245,7 +249,8 @@ pub fn queued_references_end<B>()
 pub fn objects_are_offered<B>()
     ensures { (shows : B → ℕ × contents) (n limit id : ℕ) (v : view) (slots : List (ℕ × Option B)) (c : ℕ)
         → v.active ≡ true → 0 < v.thread → c < n → Offers n v.log c
-        → Allows (Kept shows n limit) n id (v, slots) (spot n (words.Of fields.Shared c)) (λ there. bit_or there 2)
+        → Allows (Kept shows n limit) n id (v, slots) (spot n (words.Of fields.Shared c))
+        (λ there. bit_or there QUEUED_BITS)
         (λ there me. me ≡ (with_told (told.Stepped (steps.Offer c) there moves.Nothing) v, slots)) }
 {}
 
@@ -268,18 +273,19 @@ pub fn objects_are_merged<B>()
     ensures add { (shows : B → ℕ × contents) (n limit id : ℕ) (v : view) (slots : List (ℕ × Option B)) (c local : ℕ)
         → v.active ≡ true → 0 < v.thread → c < n → AddsLocal n v.log c local
         → Allows (Kept shows n limit) n id (v, slots) (spot n (words.Of fields.Shared c))
-        (λ there. (there + (local * 4 + 1)) % 2 ^ 64)
+        (λ there. (there + (local * ONE_COUNT + 1)) % WORD_LIMIT)
         (λ there me. (me ≡ (
-          with_told (told.Stepped (steps.MergeAdd c) ((there + (local * 4 + 1)) % 2 ^ 64) moves.Nothing)
+          with_told (told.Stepped (steps.MergeAdd c) ((there + (local * ONE_COUNT + 1)) % WORD_LIMIT) moves.Nothing)
               v,
           slots,
-        )) × CountsSome ((there + (local * 4 + 1)) % 2 ^ 64)) }
+        )) × CountsSome ((there + (local * ONE_COUNT + 1)) % WORD_LIMIT)) }
     ensures yields { (shows : B → ℕ × contents) (n limit id : ℕ) (v : view) (slots : List (ℕ × Option B)) (c local : ℕ)
         → v.active ≡ true → 0 < v.thread → c < n → MayYield n v.log c local
         → Allows (Kept shows n limit) n id (v, slots) (spot n (words.Of fields.Shared c))
-        (λ there. (there + (local * 4 + 1)) % 2 ^ 64)
-        (λ there me. EndedObject shows n v slots (steps.MergeAdd c) c ((there + (local * 4 + 1)) % 2 ^ 64)
-        (takes_block (steps.MergeAdd c) (cell_told (steps.MergeAdd c) ((there + (local * 4 + 1)) % 2 ^ 64))) me) }
+        (λ there. (there + (local * ONE_COUNT + 1)) % WORD_LIMIT)
+        (λ there me. EndedObject shows n v slots (steps.MergeAdd c) c ((there + (local * ONE_COUNT + 1)) % WORD_LIMIT)
+        (takes_block (steps.MergeAdd c)
+        (cell_told (steps.MergeAdd c) ((there + (local * ONE_COUNT + 1)) % WORD_LIMIT))) me) }
 {}
 
 /// An asked reference goes into the merge queue of the thread that was found as the owner, or meets a closed word.

@@ -38,6 +38,10 @@ times q frame = sum_by (λ x. one (names q x)) frame
 abbrev pub entry_times : ℕ → List ℕ → ℕ
 entry_times q entries = sum_by (λ x. one (x == q)) entries
 
+-- A word of the table has 64 bits: its number is below this one, and an atomic addition is taken modulo it.
+abbrev pub WORD_LIMIT : ℕ
+WORD_LIMIT = 2 ^ 64
+
 -- the cell's bit, 0 or 1, in words of 32 cells each
 abbrev pub bit_of : List ℕ → ℕ → ℕ
 bit_of words c = bit_at (slice_index_or words (c / 32) 0) (c % 32)

@@ -1,10 +1,13 @@
 //! The laws of runs, each as the contract of a function with nothing to do: what holds of every world that a list of
 //! enabled events reaches, for any number of threads and every interleaving.
 
-ghost use Rattle.std.specs.Prelude.{◌<◌, ◌≤◌, ◌^◌, ℕ, ℤ, pos, negsuc, ◌≤ℤ◌, ◌<ℤ◌, List, length, sum_by};
+ghost use Rattle.std.specs.Prelude.{◌<◌, ◌≤◌, ℕ, List, length, sum_by};
+ghost use Rattle.brc_words.specs.declared.limits.TheConstants.{MOST_ENTRIES};
+ghost use Rattle.brc_words.specs.Shared.{CountFits};
 ghost use Rattle.law_world.specs.declared.event.Event.{Event as event};
 ghost use Rattle.law_world.specs.Since.{HistoriesSince};
 ghost use Rattle.law_world.specs.declared.edition.Edition.{Edition as edition};
+ghost use Rattle.law_world.specs.Lists.{WORD_LIMIT};
 ghost use Rattle.law_world.specs.Heap.{Heap, opening, opening_in, cell_at, entries_at, AreOptions};
 ghost use Rattle.law_world.specs.Steps.{enabled};
 ghost use Rattle.law_world.specs.Runs.{IsRun, IsReached};
@@ -37,7 +40,7 @@ pub fn worlds_are_sound()
 /// Every number of a reached world fits its word: shared counts, the births of all threads together, entries.
 pub fn numbers_fit()
     ensures counts { (h : Heap) → IsReached h → (c : ℕ)
-        → (negsuc 1099511627775 ≤ℤ (cell_at h c).count) × ((cell_at h c).count <ℤ pos 1099511627776) }
-    ensures births { (h : Heap) → IsReached h → sum_by (λ row. row.allocs) h.rows < 2 ^ 64 }
-    ensures entries { (h : Heap) → IsReached h → (c : ℕ) → length (entries_at h c) ≤ 1048576 }
+        → CountFits (cell_at h c).count }
+    ensures births { (h : Heap) → IsReached h → sum_by (λ row. row.allocs) h.rows < WORD_LIMIT }
+    ensures entries { (h : Heap) → IsReached h → (c : ℕ) → length (entries_at h c) ≤ MOST_ENTRIES }
 {}

@@ -2,6 +2,7 @@
 
 mod client;
 mod comparing;
+mod counted;
 mod entering;
 mod full;
 mod limits;

@@ -37,8 +37,10 @@ fn gathers(rt: &impl Wait, desk: &Shared, retired: Retired<Global>) -> RootCount
 }
 
 impl Client {
-    /// The next thread of the heap. It is tried again while another call has the root.
+    /// The next thread of the heap. It is tried again while another call has the root, and once more where memory was
+    /// missing.
     pub(crate) fn register(rt: &impl Wait, alloc: Global, desk: Shared) -> Result<Client, Fault> {
+        let mut was_missing = false;
         for _ in rt.forever() {
             match desk.register(alloc) {
                 Ok((mutator, number)) => {
@@ -49,6 +51,7 @@ impl Client {
                     });
                 }
                 Err(Fault::Busy) => thread::yield_now(),
+                Err(Fault::OutOfMemory) if !was_missing => was_missing = true,
                 Err(fault) => return Err(fault),
             }
         }

@@ -11,7 +11,7 @@ mod crew;
 mod refusals;
 mod sessions;
 
-use brc_heap::{Options, Report, Shared, Stays, write_report};
+use brc_heap::{Fault, Options, Report, Shared, Stays, write_report};
 use crew::{all_live, opens_all};
 use refusals::{clears, shows_refusals};
 use std::alloc::Global;
@@ -29,8 +29,17 @@ fn shows(rt: &HostRuntime, closed: Result<Report<Global>, Stays>) -> io::Result<
     }
 }
 
+/// A heap. Where memory was missing it is asked for once more.
+fn opened(alloc: Global) -> Result<Shared, Fault> {
+    match Shared::new(alloc, Options::DEFAULT) {
+        Ok(shared) => Ok(shared),
+        Err(Fault::OutOfMemory) => Shared::new(alloc, Options::DEFAULT),
+        Err(fault) => Err(fault),
+    }
+}
+
 fn main(rt: HostRuntime) -> io::Result<()> {
-    let Ok(shared) = Shared::new(rt.alloc(), Options::DEFAULT) else {
+    let Ok(shared) = opened(rt.alloc()) else {
         return println!(rt; "no heap can be had");
     };
     let Some(shared) = shows_refusals(&rt, rt.alloc(), shared)? else {

@@ -83,12 +83,8 @@ fn of_new_key<A: Allocator>(
     match put {
         Ok(None) => Ok(()),
         Ok(Some(_old)) => panic!(rt; "the key was there"),
-        Err(
-            HandedBack {
-                fault,
-                value: (key_back, back),
-            },
-        ) => {
+        Err(handed) => {
+            let (fault, (key_back, back)) = handed.parts();
             assert!(rt; key_back == Key::Int(key));
             Err(HandedBack { fault, value: back })
         }

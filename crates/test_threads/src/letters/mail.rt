@@ -3,7 +3,7 @@
 ghost use Rattle.std.specs.Prelude.{⊤};
 ghost use Rattle.brc_heap.specs.Words.{IsUnlocked, Keeps, Owns};
 
-use brc_heap::{Frame, Handle, Key, Mutator, dict_put, int_of, new_int, new_mailbox, send};
+use brc_heap::{Frame, Handle, Key, KeyRef, Mutator, dict_put, int_of, new_int, new_mailbox, send};
 use brc_loops::{Duty, Stop, Waited, fetch_until, recv_until};
 use std::alloc::Global;
 use std::sync::Wait;
@@ -230,7 +230,7 @@ impl Mailing {
             done: &self.opened,
             of: 1,
         };
-        match fetch_until(rt, frame, globals, &Key::Int(MAILBOX), &opened, TURNS) {
+        match fetch_until(rt, frame, globals, KeyRef::Int(MAILBOX), &opened, TURNS) {
             Waited::Got(mailbox) => {
                 let counted = self.mails_by(rt, frame, &mailbox, role);
                 frame.release(mailbox);

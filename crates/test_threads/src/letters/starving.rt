@@ -7,7 +7,9 @@ ghost use Rattle.test_tools.specs.Calls.{EndsBare, IsBare, Parts};
 use crate::letters::registering::SIZES;
 use brc_count::Frame;
 use brc_count::biased::HasTable;
-use brc_heap::{Fault, Handle, Handles, Heap, Key, Mutator, close_or_end, dict_put, none, send};
+use brc_heap::{
+    Fault, Handle, Handles, Heap, Key, KeyRef, Mutator, close_or_end, dict_put, none, send,
+};
 use brc_loops::{
     Life, Never, Nothing, Waited, end_all, fetch_until, gather_all, gather_answers, recv_until,
     rest_more, run_all,
@@ -70,7 +72,7 @@ fn waits<'h, H: HasTable<&'h LocalHeap>>(
 {
     let waited = match awaited {
         Awaited::Letter => recv_until(rt, frame, object, &Never, 1),
-        Awaited::Value => fetch_until(rt, frame, object, &Key::Int(1), &Never, 1),
+        Awaited::Value => fetch_until(rt, frame, object, KeyRef::Int(1), &Never, 1),
     };
     match waited {
         Waited::Got(value) => {

@@ -14,6 +14,7 @@ returns-in-Some c = record {
         (record {
           released = c.release.ensures.released;
           spent = c.release.ensures.spent;
+          bounded = c.release.ensures.bounded;
           refused = c.release.ensures.refused;
           unchanged = c.release.ensures.unchanged;
         });

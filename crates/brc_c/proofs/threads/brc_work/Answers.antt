@@ -10,6 +10,7 @@ returns-in-Some c = record {
       (record {
         handles = c.work.ensures.handles;
         few = c.work.ensures.few;
+        turned = c.work.ensures.turns;
         done = c.work.ensures.done;
         keeps = c.work.ensures.keeps;
       });

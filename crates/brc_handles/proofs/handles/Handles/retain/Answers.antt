@@ -1,13 +1,39 @@
-use Rattle.std.proofs.Common.{◌≡◌, Some}
+use Rattle.std.proofs.Common.{◌≡◌, Some, arith}
 use Rattle.brc_handles.specs.Handles.{slot}
+use Rattle.brc_handles.proofs.Places.{pushed_to}
+use Rattle.brc_handles.proofs.Gained.{given_each, given_stands}
 use Rattle.brc_handles.proofs.handles.Handles.retain.Goals as goal
 
-pub returns-in-Ok-clause-more : goal.returns-in-Ok-clause-more
-returns-in-Ok-clause-more g c = record {
+pub returns-clause-stands : goal.returns-clause-stands
+returns-clause-stands g c = λ others stands.
+    let comes = pushed_to c.args.self.now c.self.inside.slots.items c.reserve.new.self.items
+    c.push_reserved.new.self.items c.in_ok-given.given c.self.view_is c.reserve.ensures.items
+    c.push_reserved.ensures.items in
+    given_stands others c.args.frame.now c.retain.new.self c.args.self.now c.push_reserved.new.self.items
+    c.in_ok-given.given c.in_ok-given.ensures.gains c.in_ok-given.ensures.unlocked comes stands
+
+pub returns-clause-each : goal.returns-clause-each
+returns-clause-each g c =
+    let comes = pushed_to c.args.self.now c.self.inside.slots.items c.reserve.new.self.items
+    c.push_reserved.new.self.items c.in_ok-given.given c.self.view_is c.reserve.ensures.items
+    c.push_reserved.ensures.items in
+    given_each c.args.frame.now c.retain.new.self c.args.self.now c.push_reserved.new.self.items
+    c.in_ok-given.given c.in_ok-given.ensures.gains c.requires.each comes
+
+pub returns-clause-count : goal.returns-clause-count
+returns-clause-count g c =
+    let comes = pushed_to c.args.self.now c.self.inside.slots.items c.reserve.new.self.items
+    c.push_reserved.new.self.items c.in_ok-given.given c.self.view_is c.reserve.ensures.items
+    c.push_reserved.ensures.items in
+    omega (arith, comes.count, c.in_ok-given.ensures.gains.len)
+
+pub returns-clause-more : goal.returns-clause-more
+returns-clause-more g c = record {
   given = c.in_ok-given.given;
-  pushed = c.in-Ok.ensures.pushed;
+  pushed = cc (c.self.view_is, c.reserve.ensures.items, c.push_reserved.ensures.items);
   counted = λ h cell is has.
-      let found : Some c.in-Some.handle.now ≡ slot c.args.self.now c.args.index = c.in-Some.ensures
+      let found : Some c.in-Some.handle.now ≡ slot c.args.self.now c.args.index
+      = cc (c.in-Some.ensures, c.self.view_is, c.reserve.ensures.items)
       in let same : h ≡ c.in-Some.handle.now = cc (found, is)
-      in rw (c.in-Ok.ensures.kept.0, same) (c.in_ok-given.ensures.given cell (rw same at has));
+      in rw same (c.in_ok-given.ensures.given cell (rw same at has));
 }

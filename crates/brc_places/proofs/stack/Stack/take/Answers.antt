@@ -1,5 +1,16 @@
+use Rattle.std.proofs.Common.{◌≡◌, ◌-◌, ◌∙◌, ℕ, ap, length, slice_set}
 use Rattle.brc_handles.proofs.Gained.{stands_on}
+use Rattle.brc_places.proofs.Full.{filled_but_last}
 use Rattle.brc_places.proofs.stack.Stack.take.Goals as goal
+
+pub invariant_of-self-in-Ok : goal.invariant_of-self-in-Ok
+invariant_of-self-in-Ok g c =
+    let took = c.in-Ok.ensures.took in
+    let drops = c.drop_last.ensures.drops in
+    let len : c.len-len.result ≡ length c.self.inside.handles = rw c.self.view_is c.len-len.ensures in
+    filled_but_last c.self.inside.handles c.take_at.new.handles c.drop_last.new.handles took.answer drops.last
+    c.self.invariant
+    (took.left ∙ ap (λ (n : ℕ). slice_set c.self.inside.handles (n - 1) took.answer) len) drops.popped
 
 pub returns-in-Ok-clause-stands : goal.returns-in-Ok-clause-stands
 returns-in-Ok-clause-stands g c = rw (← c.self.view_is) (

@@ -1,0 +1,11 @@
+use Rattle.std.proofs.Common.{◌≡◌}
+use Rattle.brc_count.specs.Frames.{IsUnlocked}
+use Rattle.brc_handles.specs.Handles.{Holds}
+use Rattle.test_frames.proofs.tests.counted.fills_what_is_ready.Given as goal
+
+abbrev pub invariant-loop : goal.invariant-loop
+invariant-loop g l = record {
+  heap : l.frame.heap ≡ l.fn.frame.heap;
+  holds : Holds 0 l.frame l.kept;
+  unlocked : IsUnlocked l.frame;
+}
