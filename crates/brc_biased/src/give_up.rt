@@ -1,6 +1,6 @@
 //! Counting down: a reference in a place of the frame goes, or the last entry of a dead block.
 
-ghost use Rattle.std.specs.Prelude.{◌≡◌, ◌≢◌, ◌<◌, ◌-◌, ◌∷◌, ℕ, List, IfSome, IsTrue, IsFalse, true, false, None, []};
+ghost use Rattle.std.specs.Prelude.{◌≡◌, ◌≢◌, ◌<◌, ◌-◌, ◌∷◌, ℕ, List, IfSome, IfNone, OnSome, IsTrue, true, false, None, []};
 ghost use Rattle.brc_table.specs.law.world.declared.row.Hand.TheVariants as hands;
 ghost use Rattle.brc_table.specs.law.rule.Logs.{entries_in};
 ghost use Rattle.brc_table.specs.law.world.declared.event.Step.TheVariants as steps;
@@ -27,36 +27,48 @@ use brc_words::FIRST_MORTAL;
 use std::alloc::Allocator;
 
 impl<H: HasTable<A>, A: Allocator> Counter<H, A> {
-    #[tactic(auto, using(crate::proofs::Owning::owns_less))]
-    /// Gives a reference up that is one of several which the thread counts, in one event; so the object lives on. Else
-    /// it does nothing, and returns false: the object is immortal, or this is the thread's only count of it, or the
-    /// thread doesn't count it on the local word.
+    /// The thread's count of a mortal object, if it is more than one: then a reference to it goes in one event
+    /// (`give_up_counted`). None of an immortal object, of the thread's only count, or if the thread doesn't count it on
+    /// the local word.
     #[inline(always)]
-    pub fn give_up_counted(&mut self, drop: Dropped, cell: u32) -> bool
-        requires inside { cell < self.old.heap.cells }
-        requires holds { MayDrop self.old.heap.cells self.old.seat.log drop cell }
-
-        ensures heap { self.new.heap ≡ self.old.heap }
-        ensures seat { Continues self.old.seat self.new.seat }
-        ensures counts { IsTrue result → CountsMore self.old.heap.cells self.old.seat.log cell }
-        ensures other { IsFalse result → ¬ CountsMore self.old.heap.cells self.old.seat.log cell }
-        ensures unchanged { IsFalse result → self.new ≡ self.old }
-
-        // Of a reference that went, what `give_up` says of one that ended no object.
-        ensures told { IsTrue result → self.new.seat.log ≡ told.Stepped (steps.LocalDown drop)
-            (counts_seen self.old.heap.cells self.old.seat.log cell - 1) moves.Nothing ∷ self.old.seat.log }
-        ensures bounded { IsBounded self.old.seat.log self.new.seat.log }
-        ensures block { IsTrue result → IsTakenBlock self.old.heap.cells cell None self.old.seat self.new.seat }
-        ensures knows { IsTrue result → KnowsPart self.old.heap.cells self.new.seat.log
-            (released false drop cell [] (known_seen self.old.heap.cells self.old.seat.log)) }
-        ensures stands { IsTrue result → MayCountDown self.old.heap.cells self.new.seat.log hands.Free }
-        ensures keeps { FillsNoPlace self.old.heap.cells self.old.seat.log self.new.seat.log }
+    pub fn several(&self, cell: u32) -> Option<u32>
+        requires inside { cell < self.now.heap.cells }
+        ensures counts { IfSome result (λ count. counts_seen self.now.heap.cells self.now.seat.log cell ≡ count) }
+        ensures more { OnSome result (CountsMore self.now.heap.cells self.now.seat.log cell) }
+        ensures other { IfNone result (¬ CountsMore self.now.heap.cells self.now.seat.log cell) }
     {
         let count = self.counts[cell as usize];
         if cell < FIRST_MORTAL || count < 2 {
-            return false;
+            None
+        } else {
+            Some(count)
         }
-        // The thread's own memory comes first, as in `give_up`.
+    }
+
+    #[tactic(auto, using(crate::proofs::Owning::owns_less))]
+    /// Gives a reference up that is one of several which the thread counts, in one event; so the object lives on. The
+    /// count is what `several` has said. So whoever calls can put its own memory in order between the two: what is
+    /// loaded after the word's store waits for it.
+    #[inline(always)]
+    pub fn give_up_counted(&mut self, drop: Dropped, cell: u32, count: u32)
+        requires inside { cell < self.old.heap.cells }
+        requires holds { MayDrop self.old.heap.cells self.old.seat.log drop cell }
+        requires more { CountsMore self.old.heap.cells self.old.seat.log cell }
+        requires counts { counts_seen self.old.heap.cells self.old.seat.log cell ≡ count }
+
+        ensures heap { self.new.heap ≡ self.old.heap }
+        ensures seat { Continues self.old.seat self.new.seat }
+
+        // What `give_up` says of a reference that ended no object.
+        ensures told { self.new.seat.log ≡ told.Stepped (steps.LocalDown drop) (count - 1) moves.Nothing
+            ∷ self.old.seat.log }
+        ensures bounded { IsBounded self.old.seat.log self.new.seat.log }
+        ensures block { IsTakenBlock self.old.heap.cells cell None self.old.seat self.new.seat }
+        ensures knows { KnowsPart self.old.heap.cells self.new.seat.log
+            (released false drop cell [] (known_seen self.old.heap.cells self.old.seat.log)) }
+        ensures stands { MayCountDown self.old.heap.cells self.new.seat.log hands.Free }
+        ensures keeps { FillsNoPlace self.old.heap.cells self.old.seat.log self.new.seat.log }
+    {
         self.counts[cell as usize] = count - 1;
         match release_own(
             self.heap.table(),
@@ -66,7 +78,7 @@ impl<H: HasTable<A>, A: Allocator> Counter<H, A> {
             cell,
             count,
         ) {
-            None => true,
+            None => (),
             Some(_ended) => unreachable!(),
         }
     }

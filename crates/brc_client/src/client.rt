@@ -47,6 +47,22 @@ impl Model for Client {
     ghost invariant = { λ c. IsClient c.mutator c.handles };
 }
 
+/// The handle into its own place, which is empty.
+#[inline(always)]
+fn lay(handles: &mut Handles<Global>, given: Handle<Global>)
+    requires inside { given.place < 65536 }
+    requires places { length handles.old ≡ 65536 }
+    requires empty { slot handles.old given.place ≡ None }
+    requires apart { IsApart given handles.old }
+    ensures set { handles.new ≡ slice_set handles.old given.place (Some given) }
+    ensures comes { ComesIn handles.old handles.new given }
+{
+    match handles.put(given.place() as usize, given) {
+        None => (),
+        Some(_gone) => unreachable!(),
+    }
+}
+
 /// The handle into its own place, which is empty, and its number.
 #[inline(always)]
 pub(crate) fn insert(handles: &mut Handles<Global>, numbers: &Numbers, given: Handle<Global>) -> u64
@@ -59,10 +75,8 @@ pub(crate) fn insert(handles: &mut Handles<Global>, numbers: &Numbers, given: Ha
     ensures number { result ≡ number_at numbers.now given.place }
 {
     let place = given.place() as usize;
-    match handles.put(place, given) {
-        None => numbers.number(place),
-        Some(_gone) => unreachable!(),
-    }
+    lay(handles, given);
+    numbers.number(place)
 }
 
 /// The handle that the number names. Foreign, then Stale, if it names none.
@@ -185,10 +199,35 @@ impl Client {
         ensures unchanged { OnErr result (KeepsNumbers self.old self.new) }
     {
         // With a place ready nothing is called here, so no register is saved.
-        if self.mutator.has_spare() {
-            self.retain_one(number)
-        } else {
-            self.retain_late(number)
+        match self.mutator.spare_place() {
+            Some(place) => self.retain_into(number, place as usize),
+            None => self.retain_late(number),
+        }
+    }
+
+    /// As `retain`, where the next place is known.
+    #[tactic(auto, using(crate::proofs::Placed::owned, crate::proofs::Placed::vacant, crate::proofs::Placed::apart, crate::proofs::Placed::gained, crate::proofs::Placed::keeps, crate::proofs::Named::names_kept, crate::proofs::Named::names_given))]
+    #[inline(always)]
+    fn retain_into(&mut self, number: u64, place: usize) -> Result<u64, Status>
+        requires next { self.old.frame.next ≡ place }
+        requires inside { place < 65536 }
+        ensures more { IfOk result (λ more. OfNamed self.old number
+            (λ object. Adds (Retained self.old.frame object.place) self.old self.new more)) }
+        ensures refused { IfErr result (RefusedOf (λ k fault. Retained self.old.frame k self.new.frame (Err fault))
+            self.old self.new number) }
+        ensures names { IfOk result (Names self.new) }
+        ensures keeps { KeepsNames self.old self.new }
+        ensures unchanged { OnErr result (KeepsNumbers self.old self.new) }
+    {
+        let handle = find(&self.handles, &self.numbers, number)?;
+        // The number comes first: what is loaded after the object's word is stored waits for that.
+        let more = self.numbers.number(place);
+        match self.mutator.frame().retain(handle) {
+            Ok(given) => {
+                lay(&mut self.handles, given);
+                Ok(more)
+            }
+            Err(fault) => Err(Status::Fault(fault)),
         }
     }
 

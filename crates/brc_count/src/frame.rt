@@ -1,7 +1,7 @@
 //! A frame: the references of one thread that is there.
 
 ghost use Rattle.std.specs.Prelude.{◌≡◌, ◌+◌, ◌-◌, ◌<◌, ◌≤◌, ℕ, Some, None, IsTrue, IsFalse, [], length, replicate};
-ghost use Rattle.std.specs.Prelude.{◌⊎◌, IfOk, IfErr, OnOk, OnErr, true, false};
+ghost use Rattle.std.specs.Prelude.{◌⊎◌, IfOk, IfErr, OnOk, OnErr, IfSome, IfNone, OnSome, true, false};
 ghost use Rattle.brc_words.specs.declared.limits.TheConstants.{FIRST_MORTAL, GLOBALS, MOST_THREADS};
 ghost use Rattle.brc_words.specs.declared.limits.TheConstants.{MOST_REGISTRATIONS};
 ghost use Rattle.brc_words.specs.declared.fault.Fault.TheVariants.{OutOfMemory};
@@ -169,13 +169,14 @@ impl<H: HasTable<A>, A: Allocator> Frame<H, A> {
         self.holdings.places.len()
     }
 
-    /// Whether the next place is ready: it is below 65,536, and its memory is there.
+    /// The place of the next handle, if it is ready: it is below 65,536, and its memory is there.
     #[inline(always)]
-    pub fn has_spare(&self) -> bool
-        ensures spare { IsTrue result → HasSpare self.now }
-        ensures none { IsFalse result → ¬ HasSpare self.now }
+    pub fn spare_place(&self) -> Option<u32>
+        ensures place { IfSome result (λ place. place ≡ self.now.next) }
+        ensures spare { OnSome result (HasSpare self.now) }
+        ensures none { IfNone result (¬ HasSpare self.now) }
     {
-        self.holdings.has_spare()
+        self.holdings.spare_place()
     }
 
     /// One handle more to the same object, in one event (PEP 703, "Biased Reference Counting"). FrameFull where there

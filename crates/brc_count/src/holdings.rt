@@ -1,6 +1,6 @@
 //! What one thread holds of the heap: references in places, popped entries of its merge queue, and dead blocks.
 
-ghost use Rattle.std.specs.Prelude.{◌≡◌, ◌≢◌, ◌+◌, ◌-◌, ◌<◌, ◌≤◌, ℕ, [], replicate, IfOk, IfErr, OnOk, IfSome, Some};
+ghost use Rattle.std.specs.Prelude.{◌≡◌, ◌≢◌, ◌+◌, ◌-◌, ◌<◌, ◌≤◌, ℕ, [], replicate, IfOk, IfErr, OnOk, IfSome, IfNone, OnSome, Some};
 ghost use Rattle.std.specs.Prelude.{None, true, false, IsTrue, IsFalse, ◌⊎◌, length};
 ghost use Rattle.brc_words.specs.declared.limits.TheConstants.{MOST_PLACES};
 ghost use Rattle.brc_table.specs.law.world.declared.event.Step.TheVariants as steps;
@@ -132,14 +132,19 @@ impl<H: HasTable<A>, A: Allocator> Holdings<H, A> {
         self.places.len() >= MOST_PLACES as usize
     }
 
-    /// Whether the next place can be filled as it is: it is below 65,536, and its memory is there.
+    /// The next place, if it can be filled as it is: it is below 65,536, and its memory is there.
     #[inline(always)]
-    pub(crate) fn has_spare(&self) -> bool
-        ensures spare { IsTrue result → HasSpare self.now }
-        ensures none { IsFalse result → ¬ HasSpare self.now }
+    pub(crate) fn spare_place(&self) -> Option<u32>
+        ensures place { IfSome result (λ place. place ≡ self.now.next) }
+        ensures spare { OnSome result (HasSpare self.now) }
+        ensures none { IfNone result (¬ HasSpare self.now) }
     {
-        self.places.vacant_key() < MOST_PLACES as usize
-            && self.places.capacity() > self.places.len()
+        let place = self.places.vacant_key();
+        if place < MOST_PLACES as usize && self.places.capacity() > self.places.len() {
+            Some(place as u32)
+        } else {
+            None
+        }
     }
 
     /// Has memory ready for the next place; false where it, or a place below 65,536, can't be had. With fewer handles
@@ -245,10 +250,13 @@ impl<H: HasTable<A>, A: Allocator> Holdings<H, A> {
             unreachable!()
         };
         let cell = held.cell;
-        if !self.counter.give_up_counted(Dropped::Frame(place), cell) {
+        let Some(count) = self.counter.several(cell) else {
             return false;
-        }
+        };
+        // As in `release`, the place is empty before the object's word is stored.
         let _gone = self.places.try_remove(place as usize);
+        self.counter
+            .give_up_counted(Dropped::Frame(place), cell, count);
         true
     }
 }

@@ -1,7 +1,7 @@
 //! A mutator: what a thread of the runtime works with.
 
 ghost use Rattle.std.specs.Prelude.{◌≡◌, ◌<◌, ◌≤◌, ◌-◌, [], ◌⊎◌, length, true, false, IsTrue, IsFalse, IfOk, IfErr};
-ghost use Rattle.std.specs.Prelude.{OnOk, OnErr};
+ghost use Rattle.std.specs.Prelude.{OnOk, OnErr, IfSome, IfNone, OnSome};
 ghost use Rattle.brc_words.specs.declared.limits.TheConstants.{GLOBALS};
 ghost use Rattle.brc_count.specs.law.world.declared.event.Source.TheVariants as sources;
 ghost use Rattle.brc_count.specs.law.living.Living.{OwnLog};
@@ -60,13 +60,14 @@ impl<H: HasTable<A>, A: Allocator> Mutator<H, A> {
         self.frame.ledger()
     }
 
-    /// Whether the frame's next place is ready: it is below 65,536, and its memory is there.
+    /// The place of the frame's next handle, if it is ready: it is below 65,536, and its memory is there.
     #[inline(always)]
-    pub fn has_spare(&self) -> bool
-        ensures spare { IsTrue result → HasSpare self.now }
-        ensures none { IsFalse result → ¬ HasSpare self.now }
+    pub fn spare_place(&self) -> Option<u32>
+        ensures place { IfSome result (λ place. place ≡ self.now.next) }
+        ensures spare { OnSome result (HasSpare self.now) }
+        ensures none { IfNone result (¬ HasSpare self.now) }
     {
-        self.frame.has_spare()
+        self.frame.spare_place()
     }
 
     /// Whether it has no handle, and no dead block to take apart.

@@ -152,7 +152,7 @@ fn fills_what_is_ready<H: HasTable<A>, A: Allocator>(
     ensures heap { frame.new.heap ≡ frame.old.heap }
 {
     for _ in 0..1_000 {
-        if !frame.has_spare() {
+        if frame.spare_place().is_none() {
             same(rt, keeps_none(rt, frame, kept), Err(Fault::OutOfMemory));
             return;
         }
@@ -172,7 +172,7 @@ fn is_ready_in_time<'h, H: HasTable<&'h LocalHeap>>(
     ensures { EndsBare frame.old frame.new }
 {
     let mut kept = Handles::new(memories.ample);
-    assert!(rt; !frame.has_spare());
+    assert!(rt; frame.spare_place().is_none());
     same(rt, keeps_none(rt, frame, &mut kept), Ok(()));
     let _taken = Pieces::take_all(alloc, memories.scarce).expect(rt, "a heap that is never full");
     fills_what_is_ready(rt, frame, &mut kept);
