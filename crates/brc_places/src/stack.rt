@@ -241,6 +241,7 @@ impl<A: Allocator> Stack<A> {
 
         ensures swapped { OnOk result (Swapped self.old self.new (length self.old - 1) (length self.old - 2)) }
         ensures refused { IfErr result (λ fault. fault ≡ faults.NoSuchPlace) }
+        ensures enough { OnOk result (2 ≤ length self.old) }
         ensures few { OnErr result (length self.old < 2) }
         ensures unchanged { OnErr result (self.new ≡ self.old) }
     {
