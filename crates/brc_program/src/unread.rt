@@ -333,8 +333,17 @@ fn unread_word(alloc: Global, words: &[String], error: &Error) -> Option<Unread>
         Misfit::WithValue => text.lines().next()?,
         _ => text,
     };
-    let word = meant_word(words, said.as_bytes(), misfit)?;
-    Some(Unread::Word(misfit, word))
+    if let Some(word) = meant_word(words, said.as_bytes(), misfit) {
+        return Some(Unread::Word(misfit, word));
+    }
+    // What `clap` knows as no command is one elsewhere: then it isn't taken here.
+    match misfit {
+        Misfit::NoCommand => {
+            let word = meant_word(words, said.as_bytes(), Misfit::NotTaken)?;
+            Some(Unread::Word(Misfit::NotTaken, word))
+        }
+        _ => None,
+    }
 }
 
 /// Why the words ask for nothing, if one word of them can be named for it. Want of memory names none.
