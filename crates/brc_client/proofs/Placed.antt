@@ -5,8 +5,10 @@ use Rattle.std.specs.Option.{IfSome}
 use Rattle.std.specs.declared.alloc.Global.{Global}
 use Rattle.std.proofs.lemmas.Bool.{cases_eq, cases_order}
 use Rattle.std.proofs.lemmas.Grind.{common_steps}
-use Rattle.brc_count.specs.Frames.{FrameSeen, HandleSeen, IsUnlocked, Owns}
+use Rattle.brc_count.specs.law.world.declared.event.Source.TheVariants as sources
+use Rattle.brc_count.specs.Frames.{FrameSeen, HandleSeen, GivenHandle, IsUnlocked, Owns, place_seen}
 use Rattle.brc_count.specs.Owned.{Keeps, Gains, Loses}
+use Rattle.brc_count.proofs.Owning.{filled_with}
 use Rattle.brc_handles.specs.Handles.{slot, filled, IsApart, IsBare, ComesIn, ComesOut}
 use Rattle.brc_handles.specs.Standing.{KeepsStanding}
 use Rattle.brc_handles.proofs.Places.{bare_of}
@@ -95,6 +97,17 @@ vacant old new hs given client gains = none_unless (slot hs given.place)
 pub apart : (old new : FrameSeen Global) (hs : List (Option HandleSeen)) (given : HandleSeen) → IsClient old hs
     → Gains old new given → IsApart given hs
 apart old new hs given client gains = λ k. each gains.apart (slot hs k) (client.stands.holds.owned k)
+
+-- one handle more to the object of a number lies in the place that was next
+pub next_is : (old new : FrameSeen Global) (hs : List (Option HandleSeen)) (numbers : NumbersSeen) (number : ℕ)
+    (h given : HandleSeen) → IsClient old hs → NamesIn hs numbers number h
+    → ((c : ℕ) → place_seen old.heap.cells old.seat.log h.place ≡ Some c
+    → GivenHandle old new (sources.Frame h.place) c given)
+    → given.place ≡ old.next
+next_is old new hs numbers number h given client names gives =
+    let owns = owned old hs numbers number h client names in
+    let (c, is) = filled_with (place_seen old.heap.cells old.seat.log h.place) owns.filled in
+    (gives c is).place
 
 -- each handle that is there, by its place
 each_there : {P : HandleSeen → Type 0} (o : Option HandleSeen) → ((h : HandleSeen) → o ≡ Some h → P h) → IfSome o P
