@@ -231,10 +231,11 @@ impl Client {
         }
     }
 
-    /// As `retain`.
+    /// As `retain`, by a call.
     #[tactic(auto, using(crate::proofs::Placed::owned, crate::proofs::Placed::vacant, crate::proofs::Placed::apart, crate::proofs::Placed::gained, crate::proofs::Placed::keeps, crate::proofs::Named::names_kept, crate::proofs::Named::names_given))]
-    #[inline(always)]
-    fn retain_one(&mut self, number: u64) -> Result<u64, Status>
+    #[cold]
+    #[inline(never)]
+    fn retain_growing(&mut self, number: u64) -> Result<u64, Status>
         ensures more { IfOk result (λ more. OfNamed self.old number
             (λ object. Adds (Retained self.old.frame object.place) self.old self.new more)) }
         ensures refused { IfErr result (RefusedOf (λ k fault. Retained self.old.frame k self.new.frame (Err fault))
@@ -248,21 +249,6 @@ impl Client {
             Ok(given) => Ok(insert(&mut self.handles, &self.numbers, given)),
             Err(fault) => Err(Status::Fault(fault)),
         }
-    }
-
-    /// As `retain`, by a call.
-    #[cold]
-    #[inline(never)]
-    fn retain_growing(&mut self, number: u64) -> Result<u64, Status>
-        ensures more { IfOk result (λ more. OfNamed self.old number
-            (λ object. Adds (Retained self.old.frame object.place) self.old self.new more)) }
-        ensures refused { IfErr result (RefusedOf (λ k fault. Retained self.old.frame k self.new.frame (Err fault))
-            self.old self.new number) }
-        ensures names { IfOk result (Names self.new) }
-        ensures keeps { KeepsNames self.old self.new }
-        ensures unchanged { OnErr result (KeepsNumbers self.old self.new) }
-    {
-        self.retain_one(number)
     }
 
     /// As `retain`, by a call. What this returns into is set to zero here, and not where no call is made.

@@ -1,7 +1,7 @@
 use Rattle.std.proofs.Common.{refl}
 use Rattle.brc_client.proofs.Placed.{vacant}
 use Rattle.brc_client.specs.Calls.{OnObject}
-use Rattle.brc_client.proofs.client.Client.retain_one.Goals as goal
+use Rattle.brc_client.proofs.client.Client.retain_growing.Goals as goal
 
 pub returns-in-Ok-clause-more : goal.returns-in-Ok-clause-more
 returns-in-Ok-clause-more c =
