@@ -9,7 +9,7 @@ use crate::operations::{On, Operation, strewn};
 use brc_count::biased::HasTable;
 use brc_count::block::KeyRef;
 use brc_count::{Frame, Handle};
-use brc_dicts::{dict_find, dict_find_by, dict_put};
+use brc_things::{dict_find, dict_find_by, dict_put};
 use brc_loops::{Passing, Source, pass_on, repeat};
 use brc_things::{new_dict, new_int};
 use brc_words::{Key, Text};

@@ -10,7 +10,7 @@ use crate::operations::{Integers, On, Operation};
 use crate::request::Case;
 use brc_count::biased::HasTable;
 use brc_count::{Frame, Handle};
-use brc_dicts::dict_del;
+use brc_things::dict_del;
 use brc_loops::{Source, Task, repeat};
 use brc_words::{GLOBALS, Key};
 use std::alloc::Allocator;

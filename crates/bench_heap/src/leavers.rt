@@ -9,7 +9,7 @@ use crate::operations::{Integers, On, Operation};
 use crate::timing::{Span, Times, refused, this_moment};
 use brc_count::biased::HasTable;
 use brc_count::{Frame, Handle};
-use brc_dicts::dict_put;
+use brc_things::dict_put;
 use brc_loops::{Source, repeat};
 use brc_thread::{Heap, Root};
 use brc_words::{GLOBALS, Key};

@@ -6,7 +6,7 @@ ghost use Rattle.brc_count.specs.Frames.{Owns};
 use crate::operations::{Integers, Operation};
 use brc_count::biased::HasTable;
 use brc_count::{Frame, Handle};
-use brc_lists::{recv, send};
+use brc_things::{recv, send};
 use brc_loops::{Awaited, Look, Source, wait_for};
 use brc_words::Fault;
 use std::alloc::Allocator;

@@ -1,7 +1,7 @@
 //! Whether a run came to what it should.
 
 use crate::plan::Plan;
-use brc_run_text::RunEnded;
+use brc_run::RunEnded;
 use std::alloc::{AllocError, Global};
 
 /// What the sections print, and the ledger of the report.

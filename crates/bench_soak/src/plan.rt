@@ -1,6 +1,6 @@
 //! What a run is to do, drawn at random, and what it comes to.
 
-use brc_run_text::RunOptions;
+use brc_run::RunOptions;
 use rand::RngExt;
 use rand_core::Rng;
 

@@ -3,7 +3,7 @@
 use crate::checking::is_as_planned;
 use crate::plan::Plan;
 use crate::script::script_of;
-use brc_run_text::{Gate, run_script};
+use brc_run::{Gate, run_script};
 use rand_core::SeedableRng;
 use rand_pcg::Pcg32;
 use std::alloc::Global;

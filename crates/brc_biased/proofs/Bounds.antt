@@ -1,9 +1,9 @@
 -- Each list of a release has at most `MOST_EVENTS` events and one lost exchange.
 use Rattle.std.proofs.Common.{ℕ, ◌+◌, ◌≤◌, Bool, List, Option, ap, arith}
 use Rattle.brc_table.specs.block.declared.payload.Payload.{Payload}
-use Rattle.brc_table.specs.law.world.declared.event.Dropped.{Dropped}
-use Rattle.brc_table.specs.law.world.declared.event.Step.{Step}
-use Rattle.brc_table.specs.law.rule.declared.told.LogItem.{LogItem}
+use Rattle.brc_table.specs.law.declared.world.event.Dropped.{Dropped}
+use Rattle.brc_table.specs.law.declared.world.event.Step.{Step}
+use Rattle.brc_table.specs.law.declared.rule.told.LogItem.{LogItem}
 use Rattle.brc_biased.specs.Bounded.{steps_in, losses_in, IsBounded}
 use Rattle.brc_biased.specs.Released.{EndsByStep, EndedOwn, SeenZero, MergedAtZero, Asked}
 use Rattle.brc_biased.specs.Released.{AskedNobodys, AskedQueued, AskedShut, Asks, AskedLate, AskTurned, GoesShared}

@@ -4,14 +4,14 @@ use Rattle.std.proofs.Common.{Option, Some, None, IfSome, refl, sym, ◌∙◌, 
 use Rattle.std.proofs.lemmas.Bool.{eq-eqb, cases_eq, cases_lt}
 use Rattle.std.proofs.lemmas.List.{length-set, get_or-set_same, get_or_past}
 use Rattle.brc_table.specs.block.declared.payload.Payload.{Payload}
-use Rattle.brc_table.specs.law.world.declared.event.Dropped.{Dropped}
-use Rattle.brc_table.specs.law.world.declared.event.Dropped.TheVariants as drops
+use Rattle.brc_table.specs.law.declared.world.event.Dropped.{Dropped}
+use Rattle.brc_table.specs.law.declared.world.event.Dropped.TheVariants as drops
 use Rattle.brc_table.specs.law.world.Lists.{names, front_of, place_at, vacated}
 use Rattle.brc_table.specs.law.world.Steps.{frame_without}
 use Rattle.brc_table.proofs.law.world.Framing.{place_at-vacated_else}
 use Rattle.brc_table.specs.law.known.Items.{Part}
 use Rattle.brc_table.specs.law.known.Taken.{Blocks, listed_at, cut, cut_by}
-use Rattle.brc_table.specs.law.rule.declared.told.LogItem.{LogItem}
+use Rattle.brc_table.specs.law.declared.rule.told.LogItem.{LogItem}
 use Rattle.brc_table.specs.law.rule.Seen.{part_seen, taken_seen}
 use Rattle.brc_table.specs.Knowing.{known_seen, Knows, KeepsNotes}
 use Rattle.brc_biased.specs.Standing.{FillsNoPlace}

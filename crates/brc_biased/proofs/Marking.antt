@@ -4,9 +4,9 @@ use Rattle.std.proofs.Common.{set, Option, Some, None, IfSome, refl, sym, ◌∙
 use Rattle.std.proofs.lemmas.Bool.{cases_eq, eq-eqb, ne_eqb}
 use Rattle.std.proofs.lemmas.List.{length-set, length-replicate}
 use Rattle.brc_table.specs.block.declared.payload.Payload.{Payload}
-use Rattle.brc_table.specs.law.world.declared.event.Dropped.{Dropped}
-use Rattle.brc_table.specs.law.world.declared.event.Dropped.TheVariants as drops
-use Rattle.brc_table.specs.law.world.declared.row.Hand.TheVariants as hands
+use Rattle.brc_table.specs.law.declared.world.event.Dropped.{Dropped}
+use Rattle.brc_table.specs.law.declared.world.event.Dropped.TheVariants as drops
+use Rattle.brc_table.specs.law.declared.world.row.Hand.TheVariants as hands
 use Rattle.brc_table.specs.law.world.Lists.{is_marked, front_of}
 use Rattle.brc_table.specs.law.world.Steps.{is_free_step, takes_block, worklist_with}
 use Rattle.brc_table.proofs.law.world.Changes.{read_here, read_there}
@@ -14,7 +14,7 @@ use Rattle.brc_table.specs.law.known.Items.{Item, Stepped, Loaded, Lost, Part, p
 use Rattle.brc_table.specs.law.known.Items.{cell_told, has_found}
 use Rattle.brc_table.specs.law.known.Items.{has_without}
 use Rattle.brc_table.specs.law.known.Going_On.{handing, settling, taking}
-use Rattle.brc_table.specs.law.rule.declared.told.LogItem.{LogItem}
+use Rattle.brc_table.specs.law.declared.rule.told.LogItem.{LogItem}
 use Rattle.brc_table.specs.law.rule.Logs.{log_items, entries_in}
 use Rattle.brc_table.specs.law.rule.Seen.{part_seen}
 use Rattle.brc_table.specs.Knowing.{known_seen, entries_of}

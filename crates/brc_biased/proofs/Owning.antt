@@ -12,7 +12,7 @@ use Rattle.brc_table.specs.law.world.Heap.{words_for}
 use Rattle.brc_table.specs.law.world.Lists.{bit_of, word_at, with_bit}
 use Rattle.brc_table.proofs.law.world.Bitwise.{with_bit_here, with_bit_else}
 use Rattle.brc_table.proofs.law.world.Bitwise.{length-with_bit}
-use Rattle.brc_table.specs.law.rule.declared.told.LogItem.{LogItem}
+use Rattle.brc_table.specs.law.declared.rule.told.LogItem.{LogItem}
 use Rattle.brc_table.specs.law.world.Steps.{is_active}
 use Rattle.brc_table.specs.law.rule.Seen.{part_seen, counts_seen}
 use Rattle.brc_biased.specs.Counter.{CountsFit, AreOwned, first_count}

@@ -1,16 +1,16 @@
 -- By the events of a release, and by those of a popped entry, a thread only lets go.
 use Rattle.std.proofs.Common.{◌≡◌, ℕ, ◌-◌, ◌/◌, ◌&&◌, Bool, true, List, ◌∷◌, Option, Some, None, refl, sym, ap, subst}
 use Rattle.brc_table.specs.block.declared.payload.Payload.{Payload}
-use Rattle.brc_table.specs.law.world.declared.event.Dropped.{Dropped}
-use Rattle.brc_table.specs.law.world.declared.event.LastDropped.TheVariants as lasts
-use Rattle.brc_table.specs.law.world.declared.event.Step.{Step}
-use Rattle.brc_table.specs.law.world.declared.event.Step.TheVariants.{LocalDown, SeeZero, Untie, MergeZero, SharedDown, Ask}
-use Rattle.brc_table.specs.law.world.declared.event.Step.TheVariants.{LastDown, Enqueue, MergeAdd, Nudge}
-use Rattle.brc_table.specs.law.known.declared.word.Field.TheVariants.{Owner, Local, Shared}
-use Rattle.brc_table.specs.law.known.declared.word.Word.TheVariants.{Of}
-use Rattle.brc_table.specs.law.rule.declared.told.Moved.TheVariants.{Nothing}
-use Rattle.brc_table.specs.law.rule.declared.told.LogItem.{LogItem}
-use Rattle.brc_table.specs.law.rule.declared.told.LogItem.TheVariants.{Stepped, Loaded, Lost}
+use Rattle.brc_table.specs.law.declared.world.event.Dropped.{Dropped}
+use Rattle.brc_table.specs.law.declared.world.event.LastDropped.TheVariants as lasts
+use Rattle.brc_table.specs.law.declared.world.event.Step.{Step}
+use Rattle.brc_table.specs.law.declared.world.event.Step.TheVariants.{LocalDown, SeeZero, Untie, MergeZero, SharedDown, Ask}
+use Rattle.brc_table.specs.law.declared.world.event.Step.TheVariants.{LastDown, Enqueue, MergeAdd, Nudge}
+use Rattle.brc_table.specs.law.declared.known.word.Field.TheVariants.{Owner, Local, Shared}
+use Rattle.brc_table.specs.law.declared.known.word.Word.TheVariants.{Of}
+use Rattle.brc_table.specs.law.declared.rule.told.Moved.TheVariants.{Nothing}
+use Rattle.brc_table.specs.law.declared.rule.told.LogItem.{LogItem}
+use Rattle.brc_table.specs.law.declared.rule.told.LogItem.TheVariants.{Stepped, Loaded, Lost}
 use Rattle.brc_table.specs.law.rule.Seen.{counts_seen}
 use Rattle.brc_table.specs.Moving.{found_in}
 use Rattle.brc_table.specs.law.living.Quiet.{only_lets_go, is_quiet, Quietly, NoItem, OneMore}

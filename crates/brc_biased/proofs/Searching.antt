@@ -8,13 +8,13 @@ use Rattle.std.proofs.lemmas.List.{append_assoc}
 use Rattle.std.proofs.lemmas.Nat.Bits.{bit_at-lt, bit_at-zero}
 use Rattle.brc_words.specs.declared.limits.TheConstants.{FIRST_MORTAL}
 use Rattle.brc_table.specs.law.world.Lists.{names}
-use Rattle.brc_table.specs.law.known.declared.word.Word.TheVariants.{FreeWord}
+use Rattle.brc_table.specs.law.declared.known.word.Word.TheVariants.{FreeWord}
 use Rattle.brc_table.specs.law.known.Items.{Part}
 use Rattle.brc_table.specs.law.known.Going_On.{Known}
 use Rattle.brc_table.specs.law.known.Risen.{drop_in}
 use Rattle.brc_table.proofs.law.known.Risen_Law.{risen_named}
-use Rattle.brc_table.specs.law.rule.declared.told.LogItem.{LogItem}
-use Rattle.brc_table.specs.law.rule.declared.told.LogItem.TheVariants.{Loaded, Lost}
+use Rattle.brc_table.specs.law.declared.rule.told.LogItem.{LogItem}
+use Rattle.brc_table.specs.law.declared.rule.told.LogItem.TheVariants.{Loaded, Lost}
 use Rattle.brc_table.specs.law.rule.Logs.{log_items}
 use Rattle.brc_table.specs.law.rule.Seen.{part_seen}
 use Rattle.brc_table.specs.Knowing.{known_seen, KeepsNotes}

@@ -1,8 +1,8 @@
 -- How long a release is.
 use Rattle.std.specs.Prelude.{ℕ, suc, ◌+◌, ◌≤◌, List, [], ◌∷◌}
 use Rattle.brc_words.specs.declared.limits.TheConstants.{MOST_EVENTS}
-use Rattle.brc_table.specs.law.rule.declared.told.LogItem.{LogItem}
-use Rattle.brc_table.specs.law.rule.declared.told.LogItem.TheVariants.{Stepped, Loaded, Lost}
+use Rattle.brc_table.specs.law.declared.rule.told.LogItem.{LogItem}
+use Rattle.brc_table.specs.law.declared.rule.told.LogItem.TheVariants.{Stepped, Loaded, Lost}
 
 -- how many events are in a log
 abbrev pub steps_in : List LogItem → ℕ

@@ -4,7 +4,7 @@ use Rattle.brc_words.specs.declared.limits.TheConstants.{FIRST_MORTAL, IMMORTAL_
 use Rattle.brc_table.specs.law.world.Heap.{words_for}
 use Rattle.brc_table.specs.law.world.Lists.{bit_of}
 use Rattle.brc_table.specs.law.world.Steps.{is_active}
-use Rattle.brc_table.specs.law.rule.declared.told.LogItem.{LogItem}
+use Rattle.brc_table.specs.law.declared.rule.told.LogItem.{LogItem}
 use Rattle.brc_table.specs.law.rule.Seen.{part_seen, counts_seen}
 use Rattle.brc_table.specs.Seated.{TableSeen, SeatSeen}
 

@@ -4,19 +4,19 @@ use Rattle.std.specs.Prelude.{None, IfSome}
 use Rattle.brc_words.specs.declared.limits.TheConstants.{FIRST_MORTAL}
 use Rattle.brc_words.specs.declared.look.TheConstants.{MERGED_BITS, NO_COUNT, ONE_COUNT}
 use Rattle.brc_table.specs.block.declared.payload.Payload.{Payload}
-use Rattle.brc_table.specs.law.world.declared.event.Dropped.{Dropped}
-use Rattle.brc_table.specs.law.world.declared.event.LastDropped.TheVariants as lasts
-use Rattle.brc_table.specs.law.world.declared.event.Step.{Step}
-use Rattle.brc_table.specs.law.world.declared.event.Step.TheVariants.{LocalDown, SeeZero, Untie, MergeZero, SharedDown, Ask}
-use Rattle.brc_table.specs.law.world.declared.event.Step.TheVariants.{LastDown, Enqueue, MergeAdd, Nudge, Offer}
+use Rattle.brc_table.specs.law.declared.world.event.Dropped.{Dropped}
+use Rattle.brc_table.specs.law.declared.world.event.LastDropped.TheVariants as lasts
+use Rattle.brc_table.specs.law.declared.world.event.Step.{Step}
+use Rattle.brc_table.specs.law.declared.world.event.Step.TheVariants.{LocalDown, SeeZero, Untie, MergeZero, SharedDown, Ask}
+use Rattle.brc_table.specs.law.declared.world.event.Step.TheVariants.{LastDown, Enqueue, MergeAdd, Nudge, Offer}
 use Rattle.brc_table.specs.law.world.Steps.{takes_block}
-use Rattle.brc_table.specs.law.known.declared.word.Field.TheVariants.{Owner, Local, Shared}
-use Rattle.brc_table.specs.law.known.declared.word.Word.TheVariants.{Of}
+use Rattle.brc_table.specs.law.declared.known.word.Field.TheVariants.{Owner, Local, Shared}
+use Rattle.brc_table.specs.law.declared.known.word.Word.TheVariants.{Of}
 use Rattle.brc_table.specs.law.known.Items.{cell_told, is_shut_word}
 use Rattle.brc_table.specs.law.known.Taken.{listed_at}
-use Rattle.brc_table.specs.law.rule.declared.told.Moved.TheVariants.{Nothing}
-use Rattle.brc_table.specs.law.rule.declared.told.LogItem.{LogItem}
-use Rattle.brc_table.specs.law.rule.declared.told.LogItem.TheVariants.{Stepped, Loaded, Lost}
+use Rattle.brc_table.specs.law.declared.rule.told.Moved.TheVariants.{Nothing}
+use Rattle.brc_table.specs.law.declared.rule.told.LogItem.{LogItem}
+use Rattle.brc_table.specs.law.declared.rule.told.LogItem.TheVariants.{Stepped, Loaded, Lost}
 use Rattle.brc_table.specs.law.rule.Seen.{counts_seen, taken_seen}
 use Rattle.brc_table.specs.law.steps.Taking.{AreCells}
 use Rattle.brc_table.specs.Knowing.{entries_of}

@@ -6,12 +6,12 @@ use Rattle.std.specs.Prelude.{◌≡◌, ◌≤◌, ◌<◌, ◌==◌, ◌&&◌,
 use Rattle.std.specs.Prelude.{◌++◌}
 use Rattle.std.specs.Int.{bit_at}
 use Rattle.brc_words.specs.declared.limits.TheConstants.{FIRST_MORTAL}
-use Rattle.brc_table.specs.law.world.declared.event.Step.TheVariants.{Claim}
-use Rattle.brc_table.specs.law.known.declared.word.Word.{Word}
-use Rattle.brc_table.specs.law.known.declared.word.Word.TheVariants.{FreeWord}
-use Rattle.brc_table.specs.law.rule.declared.told.Moved.TheVariants.{Nothing}
-use Rattle.brc_table.specs.law.rule.declared.told.LogItem.{LogItem}
-use Rattle.brc_table.specs.law.rule.declared.told.LogItem.TheVariants.{Stepped, Loaded, Lost}
+use Rattle.brc_table.specs.law.declared.world.event.Step.TheVariants.{Claim}
+use Rattle.brc_table.specs.law.declared.known.word.Word.{Word}
+use Rattle.brc_table.specs.law.declared.known.word.Word.TheVariants.{FreeWord}
+use Rattle.brc_table.specs.law.declared.rule.told.Moved.TheVariants.{Nothing}
+use Rattle.brc_table.specs.law.declared.rule.told.LogItem.{LogItem}
+use Rattle.brc_table.specs.law.declared.rule.told.LogItem.TheVariants.{Stepped, Loaded, Lost}
 
 -- the cell's free word, with the cell's bit 0
 abbrev pub lacks_cell : ℕ → Word → ℕ → Bool

@@ -1,16 +1,16 @@
 -- Where a thread stands in a release, and what one leaves as it was.
 use Rattle.std.specs.Prelude.{◌≡◌, ℕ, ◌==◌, if◌then◌else◌, Bool, true, false, List, Some, None, is_some}
-use Rattle.brc_table.specs.law.world.declared.event.Dropped.{Dropped}
-use Rattle.brc_table.specs.law.world.declared.event.Dropped.TheVariants as drops
-use Rattle.brc_table.specs.law.world.declared.row.Hand.{Hand}
-use Rattle.brc_table.specs.law.world.declared.row.Hand.TheVariants as hands
-use Rattle.brc_table.specs.law.world.declared.row.Stage.{Stage}
-use Rattle.brc_table.specs.law.world.declared.row.Stage.TheVariants as stages
+use Rattle.brc_table.specs.law.declared.world.event.Dropped.{Dropped}
+use Rattle.brc_table.specs.law.declared.world.event.Dropped.TheVariants as drops
+use Rattle.brc_table.specs.law.declared.world.row.Hand.{Hand}
+use Rattle.brc_table.specs.law.declared.world.row.Hand.TheVariants as hands
+use Rattle.brc_table.specs.law.declared.world.row.Stage.{Stage}
+use Rattle.brc_table.specs.law.declared.world.row.Stage.TheVariants as stages
 use Rattle.brc_table.specs.law.world.Lists.{place_at, is_marked, front_of}
 use Rattle.brc_table.specs.law.known.Going_On.{Known, handing, giving_up, taking}
 use Rattle.brc_table.specs.law.known.Risen.{drop_in}
 use Rattle.brc_table.specs.law.known.Taken.{Blocks, listed_at}
-use Rattle.brc_table.specs.law.rule.declared.told.LogItem.{LogItem}
+use Rattle.brc_table.specs.law.declared.rule.told.LogItem.{LogItem}
 use Rattle.brc_table.specs.law.rule.Seen.{part_seen, counts_seen, risen_seen, taken_seen}
 
 -- a thread that is closing only closes; before that and after it references may go

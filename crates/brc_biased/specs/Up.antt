@@ -1,14 +1,14 @@
 -- Counting up: what a caller owes, and which event it is.
 use Rattle.std.specs.Prelude.{◌≡◌, ◌%◌, ◌==◌, not, ◌<◌, ℕ, Bool, true, List, ◌∷◌, Some}
 use Rattle.brc_words.specs.declared.look.TheConstants.{ONE_COUNT}
-use Rattle.brc_table.specs.law.world.declared.event.Source.{Source}
-use Rattle.brc_table.specs.law.world.declared.event.Step.TheVariants.{LocalUp, SharedUp}
+use Rattle.brc_table.specs.law.declared.world.event.Source.{Source}
+use Rattle.brc_table.specs.law.declared.world.event.Step.TheVariants.{LocalUp, SharedUp}
 use Rattle.brc_table.specs.law.known.Items.{meant}
 use Rattle.brc_table.specs.law.known.Going_On.{Known}
 use Rattle.brc_table.specs.law.known.Locked.{locked_of}
-use Rattle.brc_table.specs.law.rule.declared.told.Moved.TheVariants.{Nothing}
-use Rattle.brc_table.specs.law.rule.declared.told.LogItem.{LogItem}
-use Rattle.brc_table.specs.law.rule.declared.told.LogItem.TheVariants.{Stepped}
+use Rattle.brc_table.specs.law.declared.rule.told.Moved.TheVariants.{Nothing}
+use Rattle.brc_table.specs.law.declared.rule.told.LogItem.{LogItem}
+use Rattle.brc_table.specs.law.declared.rule.told.LogItem.TheVariants.{Stepped}
 use Rattle.brc_table.specs.law.rule.Logs.{log_items}
 use Rattle.brc_table.specs.law.rule.Seen.{part_seen, counts_seen, taken_seen, own_may}
 

@@ -2,8 +2,8 @@
 //! by now, is counted down here. A closed queue word says so too: an owner hands over what it owns before it closes.
 
 ghost use Rattle.std.specs.Prelude.{◌≡◌, ◌<◌, ◌≤◌};
-ghost use Rattle.brc_table.specs.law.world.declared.row.Hand.TheVariants as hands;
-ghost use Rattle.brc_table.specs.law.world.declared.row.Phase.TheVariants as phases;
+ghost use Rattle.brc_table.specs.law.declared.world.row.Hand.TheVariants as hands;
+ghost use Rattle.brc_table.specs.law.declared.world.row.Phase.TheVariants as phases;
 ghost use Rattle.brc_table.specs.law.rule.Seen.{counts_seen};
 ghost use Rattle.brc_table.specs.Knowing.{known_seen, entries_of};
 ghost use Rattle.brc_table.specs.Moving.{is_there};

@@ -3,14 +3,14 @@
 ghost use Rattle.std.specs.Prelude.{◌≡◌, ◌<◌, ◌≤◌, ◌==◌, ◌∷◌, ℕ, if◌then◌else◌, IfSome, true};
 ghost use Rattle.brc_words.specs.declared.limits.TheConstants.{FIRST_MORTAL};
 ghost use Rattle.brc_table.specs.law.world.Steps.{is_active};
-ghost use Rattle.brc_table.specs.law.world.declared.row.Hand.TheVariants as hands;
+ghost use Rattle.brc_table.specs.law.declared.world.row.Hand.TheVariants as hands;
 ghost use Rattle.brc_table.specs.law.rule.Logs.{entries_in};
 ghost use Rattle.brc_table.specs.law.rule.Seen.{part_seen, counts_seen};
 ghost use Rattle.brc_table.specs.law.world.Heap.{words_for};
-ghost use Rattle.brc_table.specs.law.world.declared.event.Step.TheVariants as steps;
+ghost use Rattle.brc_table.specs.law.declared.world.event.Step.TheVariants as steps;
 ghost use Rattle.brc_table.specs.law.known.Going_On.{popping, closing, reopening, taking};
-ghost use Rattle.brc_table.specs.law.rule.declared.told.Moved.TheVariants as moves;
-ghost use Rattle.brc_table.specs.law.rule.declared.told.LogItem.TheVariants as told;
+ghost use Rattle.brc_table.specs.law.declared.rule.told.Moved.TheVariants as moves;
+ghost use Rattle.brc_table.specs.law.declared.rule.told.LogItem.TheVariants as told;
 ghost use Rattle.brc_table.specs.law.steps.Owing.{MayStep, MayClose};
 ghost use Rattle.brc_table.specs.law.steps.Taking.{AreQueued};
 ghost use Rattle.brc_table.specs.Knowing.{known_seen, entries_of, KeepsNotes};

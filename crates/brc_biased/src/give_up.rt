@@ -1,11 +1,11 @@
 //! Counting down: a reference in a place of the frame goes, or the last entry of a dead block.
 
 ghost use Rattle.std.specs.Prelude.{◌≡◌, ◌≢◌, ◌<◌, ◌-◌, ◌∷◌, ℕ, List, IfSome, IfNone, OnSome, IsTrue, true, false, None, []};
-ghost use Rattle.brc_table.specs.law.world.declared.row.Hand.TheVariants as hands;
+ghost use Rattle.brc_table.specs.law.declared.world.row.Hand.TheVariants as hands;
 ghost use Rattle.brc_table.specs.law.rule.Logs.{entries_in};
-ghost use Rattle.brc_table.specs.law.world.declared.event.Step.TheVariants as steps;
-ghost use Rattle.brc_table.specs.law.rule.declared.told.Moved.TheVariants as moves;
-ghost use Rattle.brc_table.specs.law.rule.declared.told.LogItem.TheVariants as told;
+ghost use Rattle.brc_table.specs.law.declared.world.event.Step.TheVariants as steps;
+ghost use Rattle.brc_table.specs.law.declared.rule.told.Moved.TheVariants as moves;
+ghost use Rattle.brc_table.specs.law.declared.rule.told.LogItem.TheVariants as told;
 ghost use Rattle.brc_table.specs.law.rule.Seen.{counts_seen, risen_seen};
 ghost use Rattle.brc_table.specs.Knowing.{known_seen, entries_of};
 ghost use Rattle.brc_table.specs.Moving.{is_there};

@@ -4,10 +4,10 @@ ghost use Rattle.std.specs.Prelude.{◌≡◌, ◌<◌, ◌%◌, ◌≢◌, ◌=
 ghost use Rattle.brc_words.specs.declared.look.TheConstants.{MERGED_BITS, ONE_COUNT};
 ghost use Rattle.brc_table.specs.law.world.Lists.{bit_of};
 ghost use Rattle.brc_table.specs.law.world.Steps.{is_active};
-ghost use Rattle.brc_table.specs.law.world.declared.event.LastDropped.TheVariants as lasts;
-ghost use Rattle.brc_table.specs.law.world.declared.event.Step.TheVariants as steps;
-ghost use Rattle.brc_table.specs.law.world.declared.row.Hand.TheVariants as hands;
-ghost use Rattle.brc_table.specs.law.known.declared.word.Field.TheVariants as fields;
+ghost use Rattle.brc_table.specs.law.declared.world.event.LastDropped.TheVariants as lasts;
+ghost use Rattle.brc_table.specs.law.declared.world.event.Step.TheVariants as steps;
+ghost use Rattle.brc_table.specs.law.declared.world.row.Hand.TheVariants as hands;
+ghost use Rattle.brc_table.specs.law.declared.known.word.Field.TheVariants as fields;
 ghost use Rattle.brc_table.specs.law.known.Going_On.{settling, taking};
 ghost use Rattle.brc_table.specs.law.rule.Logs.{entries_in};
 ghost use Rattle.brc_table.specs.law.rule.Noted.{noted};

@@ -2,8 +2,8 @@
 
 ghost use Rattle.std.specs.Prelude.{◌≡◌, ◌<◌, ◌≤◌, true};
 ghost use Rattle.brc_words.specs.declared.limits.TheConstants.{FIRST_MORTAL};
-ghost use Rattle.brc_table.specs.law.world.declared.event.LastDropped.TheVariants as lasts;
-ghost use Rattle.brc_table.specs.law.world.declared.event.Step.TheVariants as steps;
+ghost use Rattle.brc_table.specs.law.declared.world.event.LastDropped.TheVariants as lasts;
+ghost use Rattle.brc_table.specs.law.declared.world.event.Step.TheVariants as steps;
 ghost use Rattle.brc_table.specs.law.rule.Seen.{counts_seen, risen_seen};
 ghost use Rattle.brc_table.specs.Knowing.{known_seen, entries_of};
 ghost use Rattle.brc_table.specs.Moving.{is_there};

@@ -2,11 +2,11 @@
 
 ghost use Rattle.std.specs.Prelude.{◌≡◌, ◌+◌, ◌<◌, ◌≤◌, ◌∷◌, IsTrue, true};
 ghost use Rattle.brc_words.specs.declared.limits.TheConstants.{FIRST_MORTAL};
-ghost use Rattle.brc_table.specs.law.world.declared.event.Dropped.TheVariants as drops;
-ghost use Rattle.brc_table.specs.law.world.declared.event.Step.TheVariants as steps;
+ghost use Rattle.brc_table.specs.law.declared.world.event.Dropped.TheVariants as drops;
+ghost use Rattle.brc_table.specs.law.declared.world.event.Step.TheVariants as steps;
 ghost use Rattle.brc_table.specs.law.known.Going_On.{filling};
-ghost use Rattle.brc_table.specs.law.rule.declared.told.Moved.TheVariants as moves;
-ghost use Rattle.brc_table.specs.law.rule.declared.told.LogItem.TheVariants as told;
+ghost use Rattle.brc_table.specs.law.declared.rule.told.Moved.TheVariants as moves;
+ghost use Rattle.brc_table.specs.law.declared.rule.told.LogItem.TheVariants as told;
 ghost use Rattle.brc_table.specs.law.rule.Seen.{counts_seen, risen_seen, contents_locked};
 ghost use Rattle.brc_table.specs.Knowing.{known_seen, KeepsNotes};
 ghost use Rattle.brc_table.specs.Seated.{IsSameSeat};

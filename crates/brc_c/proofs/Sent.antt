@@ -21,7 +21,7 @@ use Rattle.brc_count.proofs.block.worklist.Worklist.TheLaws.TheKnot.{send-Node, 
 use Rattle.brc_count.specs.table.contracts.seats.ThreadSeat as ThreadSeat
 use Rattle.atomic_table.proofs.shared.Seat.TheSendSync as seat
 use Rattle.brc_thread.proofs.Sent.{retired_send}
-use Rattle.brc_shared.proofs.Sent.{shared_send}
+use Rattle.brc_heap.proofs.Sent.{shared_send}
 use Rattle.brc_client.specs.contracts.client.Client as Client
 use Rattle.brc_client.specs.contracts.owner.Owner as Owner
 use Rattle.brc_client.specs.contracts.owner.Closed as Closed

@@ -6,11 +6,11 @@ use Rattle.std.specs.declared.alloc.Global.{Global}
 use Rattle.brc_words.specs.declared.fault.Fault.{Fault}
 use Rattle.brc_words.specs.declared.key.Key.{Key}
 use Rattle.brc_words.specs.declared.key.Key.TheVariants as keys
-use Rattle.brc_count.specs.law.rule.declared.contents.Contents.TheVariants as contents
+use Rattle.brc_count.specs.law.declared.rule.contents.Contents.TheVariants as contents
 use Rattle.brc_count.specs.declared.handed.HandedBack.{HandedBack}
 use Rattle.brc_count.specs.Frames.{FrameSeen, HandleSeen}
 use Rattle.brc_count.specs.Making.{Made}
-use Rattle.brc_dicts.specs.Calls.{DictPut, DictFind, DictDel}
+use Rattle.brc_things.specs.Dict_Calls.{DictPut, DictFind, DictDel}
 use Rattle.brc_places.specs.declared.place_makers.Make.TheVariants as making
 use Rattle.brc_places.specs.Calls.{HandleOr, RefusedText, MadeBy}
 use Rattle.brc_client.specs.declared.status.Status.{Status}

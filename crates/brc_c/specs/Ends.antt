@@ -5,7 +5,7 @@ use Rattle.brc_words.specs.declared.fault.Fault.TheVariants as faults
 use Rattle.brc_count.specs.declared.ledger.Ledger.{Ledger}
 use Rattle.brc_count.specs.law.world.Heap.{AreOptions}
 use Rattle.brc_count.specs.table.Seated.{TableSeen}
-use Rattle.brc_shared.specs.declared.shared.RootCounts.{RootCounts}
+use Rattle.brc_heap.specs.declared.shared.RootCounts.{RootCounts}
 use Rattle.brc_client.specs.declared.status.Status.{Status}
 use Rattle.brc_client.specs.declared.status.Status.TheVariants as statuses
 use Rattle.brc_client.specs.declared.thread.Stage.{Stage}

@@ -5,7 +5,7 @@ use Rattle.std.specs.Option.{IfSome}
 use Rattle.std.specs.declared.alloc.Global.{Global}
 use Rattle.std.proofs.lemmas.Bool.{cases_eq, cases_order}
 use Rattle.std.proofs.lemmas.Grind.{common_steps}
-use Rattle.brc_count.specs.law.world.declared.event.Source.TheVariants as sources
+use Rattle.brc_count.specs.law.declared.world.event.Source.TheVariants as sources
 use Rattle.brc_count.specs.Frames.{FrameSeen, HandleSeen, GivenHandle, IsUnlocked, Owns, place_seen}
 use Rattle.brc_count.specs.Owned.{Keeps, Gains, Loses}
 use Rattle.brc_count.proofs.Owning.{filled_with}

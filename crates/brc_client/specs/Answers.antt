@@ -12,7 +12,7 @@ use Rattle.brc_count.specs.biased.Bounded.{IsBounded}
 use Rattle.brc_count.specs.Locking.{cell_in}
 use Rattle.brc_count.specs.Polling.{Polled}
 use Rattle.brc_things.specs.Makers.{truth_cell}
-use Rattle.brc_dicts.specs.Calls.{DictPair}
+use Rattle.brc_things.specs.Dict_Calls.{DictPair}
 use Rattle.brc_handles.specs.Handles.{filled, IsBare}
 use Rattle.brc_client.specs.declared.status.Status.{Status}
 use Rattle.brc_client.specs.Clients.{ClientSeen, Names, NamesNone, KeepsNumbers, KeepsNames, SpendsName, SpendsEach}

@@ -9,9 +9,9 @@ use Rattle.brc_count.specs.table.Seated.{TableSeen}
 use Rattle.brc_count.specs.Frames.{ledger_seen}
 use Rattle.brc_handles.specs.Handles.{filled, IsBare}
 use Rattle.brc_thread.specs.Threads.{ledger_of}
-use Rattle.brc_shared.specs.declared.shared.RootCounts.{RootCounts}
-use Rattle.brc_shared.specs.declared.shared.NotClosed.TheVariants as reasons
-use Rattle.brc_shared.specs.Shared.{CountsOf, RegistersHere, ClosesAs, HasGatheredAll, IsOpenBy}
+use Rattle.brc_heap.specs.declared.shared.RootCounts.{RootCounts}
+use Rattle.brc_heap.specs.declared.shared.NotClosed.TheVariants as reasons
+use Rattle.brc_heap.specs.Shared.{CountsOf, RegistersHere, ClosesAs, HasGatheredAll, IsOpenBy}
 use Rattle.brc_client.specs.declared.status.Status.{Status}
 use Rattle.brc_client.specs.declared.status.Status.TheVariants as statuses
 use Rattle.brc_client.specs.declared.thread.Stage.{Stage}

@@ -16,7 +16,7 @@ use crate::numbers::{Numbers, PLACES};
 use crate::status::Status;
 use brc_count::{Frame, Handle, Ledger};
 use brc_handles::Handles;
-use brc_shared::Shared;
+use brc_heap::Shared;
 use brc_thread::{Leaving, Mutator};
 use std::alloc::{AllocError, Global};
 use std::marker::Model;

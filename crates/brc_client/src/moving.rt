@@ -2,7 +2,7 @@
 
 ghost use Rattle.std.specs.Prelude.{◌≡◌, ◌<◌, Ok, Err, Some, None, IfOk, IfErr, IfSome, OnOk, OnErr, MatchOption};
 ghost use Rattle.brc_handles.specs.Handles.{slot};
-ghost use Rattle.brc_dicts.specs.Calls.{DictPair};
+ghost use Rattle.brc_things.specs.Dict_Calls.{DictPair};
 ghost use Rattle.brc_places.specs.Calls.{MadeBy, GaveBy, TookBy};
 ghost use Rattle.brc_client.specs.Numbers.{number_at};
 ghost use Rattle.brc_client.specs.Clients.{Names, KeepsNumbers, KeepsNames, SpendsName};
@@ -11,7 +11,7 @@ ghost use Rattle.brc_client.specs.Calls.{OfNamed, ByHeap, RefusedOf, Adds, WithK
 use crate::client::{Client, find, insert};
 use crate::numbers::Numbers;
 use crate::status::Status;
-use brc_dicts::try_dict_pair;
+use brc_things::try_dict_pair;
 use brc_handles::Handles;
 use brc_places::{GiveBy, Make, TakeBy, make_by, try_give_by, try_take_at};
 use brc_words::Key;

@@ -13,7 +13,7 @@ use crate::status::Status;
 use crate::thread::{Thread, register};
 use brc_heap::write_report;
 use brc_report::Report;
-use brc_shared::{NotClosed, RootCounts, Shared, Stays};
+use brc_heap::{NotClosed, RootCounts, Shared, Stays};
 use brc_thread::Options;
 use brc_words::Fault;
 use std::alloc::Global;

@@ -12,7 +12,7 @@ use crate::numbers::{Numbers, PLACES};
 use crate::status::Status;
 use brc_count::Ledger;
 use brc_handles::Handles;
-use brc_shared::Shared;
+use brc_heap::Shared;
 use brc_thread::{Leaving, Retired};
 use brc_words::Fault;
 use std::alloc::Global;

@@ -4,21 +4,21 @@ use Rattle.std.proofs.Common.{true, false, refl, sym, subst, inl, inr, arith, le
 use Rattle.std.proofs.lemmas.List.Sums.{sum_by-cons, count_by-le-length}
 use Rattle.brc_words.specs.declared.limits.TheConstants.{FIRST_MORTAL, MOST_CELLS, MOST_ENTRIES, MOST_PLACES}
 use Rattle.brc_words.specs.declared.limits.TheConstants.{MOST_THREADS, MOST_REGISTRATIONS}
-use Rattle.law_world.proofs.Sizes.{reached_births, reached_entries}
-use Rattle.law_world.proofs.Reached.{reached_sound, reached_headline}
-use Rattle.law_world.proofs.Headlines.{sums_fit, past_fits}
-use Rattle.law_world.proofs.Lifetimes.{by_whom}
-use Rattle.law_world.proofs.Asking.{may_parts}
-use Rattle.law_world.proofs.Reusing.{fresh, reused, registers}
-use Rattle.law_world.specs.declared.event.Event.{Event}
-use Rattle.law_world.specs.declared.event.Step.TheVariants.{Register}
-use Rattle.law_world.specs.Steps.{enabled, root_may, thread_may}
+use Rattle.law.proofs.world.Sizes.{reached_births, reached_entries}
+use Rattle.law.proofs.world.Reached.{reached_sound, reached_headline}
+use Rattle.law.proofs.world.Headlines.{sums_fit, past_fits}
+use Rattle.law.proofs.world.Lifetimes.{by_whom}
+use Rattle.law.proofs.world.Asking.{may_parts}
+use Rattle.law.proofs.world.Reusing.{fresh, reused, registers}
+use Rattle.law.specs.declared.world.event.Event.{Event}
+use Rattle.law.specs.declared.world.event.Step.TheVariants.{Register}
+use Rattle.law.specs.world.Steps.{enabled, root_may, thread_may}
 use Rattle.std.proofs.lemmas.Bool.{true≢false}
-use Rattle.law_world.specs.declared.cell.Cell.{Cell}
-use Rattle.law_world.specs.Lists.{one}
-use Rattle.law_world.specs.Heap.{Heap, cell_at, row_at, entries_at, frame_at}
-use Rattle.law_world.specs.Holding.{lives, lives_at, total_of, holders_of}
-use Rattle.law_world.specs.Runs.{IsReached}
+use Rattle.law.specs.declared.world.cell.Cell.{Cell}
+use Rattle.law.specs.world.Lists.{one}
+use Rattle.law.specs.world.Heap.{Heap, cell_at, row_at, entries_at, frame_at}
+use Rattle.law.specs.world.Holding.{lives, lives_at, total_of, holders_of}
+use Rattle.law.specs.world.Runs.{IsReached}
 
 -- two sums with equal terms
 sum_by-same : {X : Type 0} (f g : X → ℕ) → ((x : X) → f x ≡ g x) → (xs : List X) → sum_by f xs ≡ sum_by g xs

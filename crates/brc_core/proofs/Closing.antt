@@ -1,9 +1,9 @@
 -- In every reached world a thread that closes its words has seen to its objects.
 use Rattle.std.proofs.Common.{refl}
-use Rattle.law_world.specs.Heap.{Heap}
-use Rattle.law_world.specs.Runs.{IsReached}
-use Rattle.law_world.proofs.Leaving.{closing_leaves}
-use Rattle.law_world.proofs.Reached.{reached_sound}
+use Rattle.law.specs.world.Heap.{Heap}
+use Rattle.law.specs.world.Runs.{IsReached}
+use Rattle.law.proofs.world.Leaving.{closing_leaves}
+use Rattle.law.proofs.world.Reached.{reached_sound}
 use Rattle.brc_state.specs.Closers.{ClosersHaveLeft}
 
 pub reached_closers : (h : Heap) → IsReached h → ClosersHaveLeft h

@@ -7,10 +7,10 @@ use Rattle.brc_core.specs.declared.holders.HolderPart.TheVariants as parts
 use Rattle.brc_core.specs.Holders.{below, in_part, in_frames, in_entries}
 use Rattle.brc_model.specs.declared.holder.Holder.{Holder}
 use Rattle.brc_model.specs.declared.holder.Holder.TheVariants as holders
-use Rattle.law_world.specs.Lists.{names, bit_of}
-use Rattle.law_world.specs.Heap.{Heap, entries_at, frame_at, no_row}
-use Rattle.law_world.specs.Holding.{each, if_so, carries, holders_of}
-use Rattle.law_world.specs.Sound.{IsShaped}
+use Rattle.law.specs.world.Lists.{names, bit_of}
+use Rattle.law.specs.world.Heap.{Heap, entries_at, frame_at, no_row}
+use Rattle.law.specs.world.Holding.{each, if_so, carries, holders_of}
+use Rattle.law.specs.world.Sound.{IsShaped}
 
 -- one number more
 pub below-more : (f : ℕ → List Holder) (n : ℕ) → below f (n + 1) ≡ below f n ++ f n

@@ -1,10 +1,10 @@
 -- The opening world is reached, and so is the world after an event that is enabled in a reached one.
 use Rattle.std.proofs.Common.{◌≡◌, ℕ, true, [], ◌∷◌, ap, subst, sym, refl}
-use Rattle.law_world.specs.declared.edition.Edition.{Edition}
-use Rattle.law_world.specs.declared.event.Event.{Event}
-use Rattle.law_world.specs.Heap.{Heap, opening_in, AreOptions}
-use Rattle.law_world.specs.Steps.{enabled, after}
-use Rattle.law_world.specs.Runs.{IsReached}
+use Rattle.law.specs.declared.world.edition.Edition.{Edition}
+use Rattle.law.specs.declared.world.event.Event.{Event}
+use Rattle.law.specs.world.Heap.{Heap, opening_in, AreOptions}
+use Rattle.law.specs.world.Steps.{enabled, after}
+use Rattle.law.specs.world.Runs.{IsReached}
 
 pub reached_opening : (edition : Edition) (cells limit : ℕ) → AreOptions cells limit
     → IsReached (opening_in edition cells limit)

@@ -4,11 +4,11 @@ use Rattle.std.proofs.Common.{Ok, Err, OnOk, sym, subst, ap, ◌∙◌}
 use Rattle.std.proofs.lemmas.List.{take_more, reverse-append, take_all}
 use Rattle.std.proofs.lemmas.Option.{slice_get-get_or}
 use Rattle.brc_core.specs.Replays.{IsFirstNotEnabled}
-use Rattle.law_world.specs.declared.edition.Edition.{Edition}
-use Rattle.law_world.specs.declared.event.Event.{Event}
-use Rattle.law_world.specs.Heap.{Heap, opening_in, AreOptions}
-use Rattle.law_world.specs.Steps.{enabled, after}
-use Rattle.law_world.specs.Runs.{IsRun, IsReached, world_after}
+use Rattle.law.specs.declared.world.edition.Edition.{Edition}
+use Rattle.law.specs.declared.world.event.Event.{Event}
+use Rattle.law.specs.world.Heap.{Heap, opening_in, AreOptions}
+use Rattle.law.specs.world.Steps.{enabled, after}
+use Rattle.law.specs.world.Runs.{IsRun, IsReached, world_after}
 
 -- what follows from two facts of a value
 pub both_ok : {T E P Q R : Type 0} (r : Result T E) → (P → Q → R) → OnOk r P → OnOk r Q → OnOk r R

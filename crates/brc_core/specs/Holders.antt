@@ -4,9 +4,9 @@ use Rattle.brc_core.specs.declared.holders.HolderPart.{HolderPart}
 use Rattle.brc_core.specs.declared.holders.HolderPart.TheVariants as parts
 use Rattle.brc_model.specs.declared.holder.Holder.{Holder}
 use Rattle.brc_model.specs.declared.holder.Holder.TheVariants as holders
-use Rattle.law_world.specs.Lists.{names, place_at, bit_of}
-use Rattle.law_world.specs.Heap.{Heap, entries_at, row_at, frame_at, popped_at, queue_at}
-use Rattle.law_world.specs.Holding.{if_so, carries}
+use Rattle.law.specs.world.Lists.{names, place_at, bit_of}
+use Rattle.law.specs.world.Heap.{Heap, entries_at, row_at, frame_at, popped_at, queue_at}
+use Rattle.law.specs.world.Holding.{if_so, carries}
 
 -- how many places the part has
 abbrev pub count_in : Heap → HolderPart → ℕ

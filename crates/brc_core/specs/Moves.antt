@@ -1,7 +1,7 @@
 -- What an event is to the holder map of the world.
-use Rattle.law_world.specs.declared.event.Event.{Event}
-use Rattle.law_world.specs.Heap.{Heap}
-use Rattle.law_moves.specs.Moves.{MakesMoves, map_of, moves_by}
+use Rattle.law.specs.declared.world.event.Event.{Event}
+use Rattle.law.specs.world.Heap.{Heap}
+use Rattle.law.specs.moves.Moves.{MakesMoves, map_of, moves_by}
 
 -- the event's moves lead from the one world's map to the other's, each allowed where it is made
 abbrev pub MovesOn : Heap → Event → Heap → Type 0

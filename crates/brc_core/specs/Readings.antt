@@ -5,12 +5,12 @@ use Rattle.brc_core.specs.declared.readers.Status.{Status}
 use Rattle.brc_core.specs.declared.readers.Status.TheVariants as statuses
 use Rattle.brc_core.specs.declared.totals.Ledger.{Ledger}
 use Rattle.brc_model.specs.declared.holder.Holder.{Holder}
-use Rattle.law_world.specs.declared.row.Row.{Row}
-use Rattle.law_world.specs.declared.row.Stage.{Stage}
-use Rattle.law_world.specs.declared.row.Stage.TheVariants as stages
-use Rattle.law_world.specs.Heap.{Heap, cell_at, row_at, is_immortal, is_registered, is_gathered}
-use Rattle.law_world.specs.Holding.{lives_at, holders_of}
-use Rattle.law_world.specs.Steps.{is_merged}
+use Rattle.law.specs.declared.world.row.Row.{Row}
+use Rattle.law.specs.declared.world.row.Stage.{Stage}
+use Rattle.law.specs.declared.world.row.Stage.TheVariants as stages
+use Rattle.law.specs.world.Heap.{Heap, cell_at, row_at, is_immortal, is_registered, is_gathered}
+use Rattle.law.specs.world.Holding.{lives_at, holders_of}
+use Rattle.law.specs.world.Steps.{is_merged}
 
 -- this, where the test holds
 abbrev pub only_if : {A : Type 0} → Bool → A → Option A

@@ -5,12 +5,12 @@ use Rattle.brc_core.specs.declared.replaying.ReplayFault.TheVariants as faults
 use Rattle.brc_words.specs.declared.fault.Fault.{Fault}
 use Rattle.brc_words.specs.declared.fault.Fault.TheVariants as words
 use Rattle.brc_words.specs.declared.fault.Reason.TheVariants as reasons
-use Rattle.law_world.specs.declared.event.Event.{Event}
-use Rattle.law_world.specs.declared.edition.Edition.{Edition}
-use Rattle.law_world.specs.declared.edition.Edition.TheVariants as editions
-use Rattle.law_world.specs.Heap.{Heap, opening_in, AreOptions}
-use Rattle.law_world.specs.Steps.{enabled}
-use Rattle.law_world.specs.Runs.{IsRun, world_after}
+use Rattle.law.specs.declared.world.event.Event.{Event}
+use Rattle.law.specs.declared.world.edition.Edition.{Edition}
+use Rattle.law.specs.declared.world.edition.Edition.TheVariants as editions
+use Rattle.law.specs.world.Heap.{Heap, opening_in, AreOptions}
+use Rattle.law.specs.world.Steps.{enabled}
+use Rattle.law.specs.world.Runs.{IsRun, world_after}
 
 -- an event stands at this index that isn't enabled there, and those before it are a run
 pub record IsFirstNotEnabled (start : Heap) (events : List Event) (at : ℕ) : Type 0 where

@@ -5,13 +5,13 @@
 ghost use Rattle.std.specs.Prelude.{◌≡◌, ◌++◌, length, IfOk, IfErr, OnOk};
 ghost use Rattle.brc_core.specs.Holders.{count_in, holds, holder_in, in_part, in_frames, in_entries};
 ghost use Rattle.brc_core.specs.Readings.{mortal_holders};
-ghost use Rattle.law_world.specs.Holding.{carries, if_so, holders_of};
-ghost use Rattle.law_world.specs.Lists.{names};
+ghost use Rattle.law.specs.world.Holding.{carries, if_so, holders_of};
+ghost use Rattle.law.specs.world.Lists.{names};
 
 use crate::world::World;
 use brc_model::Holder;
 use brc_words::Fault;
-use law_world::{Hand, Role};
+use law::world::{Hand, Role};
 use std::alloc::{AllocError, Allocator};
 
 /// A part of the world in which holders stand, at places that are numbered from 0.

@@ -14,7 +14,7 @@ mod world;
 
 // What callers write and read.
 pub use brc_state::Refusal;
-pub use law_world::{
+pub use law::world::{
     Cell, Change, Dropped, Edition, Event, Hand, LastDropped, Phase, Source, Step,
 };
 pub use readers::Status;

@@ -2,13 +2,13 @@
 
 ghost use Rattle.std.specs.Prelude.{◌≡◌, ◌-◌, ◌==◌, nat_lt, length, slice_get};
 ghost use Rattle.brc_core.specs.Readings.{only_if, status_at, has_object, counts_locally};
-ghost use Rattle.law_world.specs.Lists.{bit_of, place_at, is_marked, is_bare, is_blank, is_unmarked};
-ghost use Rattle.law_world.specs.Heap.{cell_at, entries_at, row_at, frame_at, popped_at, worklist_at, queue_at};
-ghost use Rattle.law_world.specs.Heap.{is_registered};
+ghost use Rattle.law.specs.world.Lists.{bit_of, place_at, is_marked, is_bare, is_blank, is_unmarked};
+ghost use Rattle.law.specs.world.Heap.{cell_at, entries_at, row_at, frame_at, popped_at, worklist_at, queue_at};
+ghost use Rattle.law.specs.world.Heap.{is_registered};
 
 use crate::world::World;
 use brc_words::{Kind, Owner, State};
-use law_world::{Cell, Edition, Hand, Row, Stage, is_immortal};
+use law::world::{Cell, Edition, Hand, Row, Stage, is_immortal};
 use std::alloc::Allocator;
 
 /// How far a thread's life is.

@@ -2,14 +2,14 @@
 
 ghost use Rattle.std.specs.Prelude.{◌≡◌, ◌↔◌, Err, IfOk, IfErr, OnOk, reverse};
 ghost use Rattle.brc_core.specs.Replays.{IsRight, IsRightIn, line_of, fault_of};
-ghost use Rattle.law_world.specs.Heap.{AreOptions, opening, opening_in};
-ghost use Rattle.law_world.specs.Runs.{IsRun, world_after};
-ghost use Rattle.law_world.specs.Holding.{Headline, Histories};
-ghost use Rattle.law_world.specs.Since.{HistoriesSince};
+ghost use Rattle.law.specs.world.Heap.{AreOptions, opening, opening_in};
+ghost use Rattle.law.specs.world.Runs.{IsRun, world_after};
+ghost use Rattle.law.specs.world.Holding.{Headline, Histories};
+ghost use Rattle.law.specs.world.Since.{HistoriesSince};
 
 use crate::world::{StepFault, World};
 use brc_words::{Fault, Reason};
-use law_world::{Edition, Event};
+use law::world::{Edition, Event};
 use std::alloc::Allocator;
 
 /// Why a replay gives no world.

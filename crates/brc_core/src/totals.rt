@@ -2,13 +2,13 @@
 
 ghost use Rattle.std.specs.Prelude.{◌≡◌, ◌+◌, ◌<◌, ◌^◌, pos, length, drop, sum_by, count_by, IfSome};
 ghost use Rattle.brc_core.specs.Readings.{only_if, ledger_of, ledgers_of, past_of};
-ghost use Rattle.law_world.specs.Heap.{cell_at, row_at, is_registered};
-ghost use Rattle.law_world.specs.Holding.{lives, lives_at, total_of, holders_of, live_count};
+ghost use Rattle.law.specs.world.Heap.{cell_at, row_at, is_registered};
+ghost use Rattle.law.specs.world.Holding.{lives, lives_at, total_of, holders_of, live_count};
 ghost use Rattle.brc_words.specs.Shared.{CountFits};
 
 use crate::world::World;
 use brc_words::{FIRST_MORTAL, Owner, State};
-use law_world::{Cell, Row, is_immortal};
+use law::world::{Cell, Row, is_immortal};
 use std::alloc::Allocator;
 
 /// How many objects a thread has made, and how many blocks it has given back.

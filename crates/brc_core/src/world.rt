@@ -2,14 +2,14 @@
 
 ghost use Rattle.std.specs.Prelude.{◌≡◌, ◌↔◌, ◌⊎◌, true, false, None, Err, IfOk, IfErr, OnOk, OnErr};
 ghost use Rattle.brc_core.specs.Moves.{MovesOn};
-ghost use Rattle.law_world.specs.Heap.{AreOptions, opening, opening_in};
-ghost use Rattle.law_world.specs.Steps.{enabled, after};
+ghost use Rattle.law.specs.world.Heap.{AreOptions, opening, opening_in};
+ghost use Rattle.law.specs.world.Steps.{enabled, after};
 ghost use Rattle.brc_state.specs.Memory.{needs_memory};
 ghost use Rattle.brc_state.specs.Refusals.{refusal_of};
 
 use brc_state::{Refusal, Tables, are_options};
 use brc_words::Fault;
-use law_world::{Edition, Event, Step};
+use law::world::{Edition, Event, Step};
 use std::alloc::Allocator;
 use std::marker::Model;
 
@@ -20,8 +20,8 @@ pub struct World<A: Allocator + Copy> {
 }
 
 impl<A: Allocator + Copy> Model for World<A> {
-    ghost use Rattle.law_world.specs.Heap.{Heap};
-    ghost use Rattle.law_world.specs.Runs.{IsReached};
+    ghost use Rattle.law.specs.world.Heap.{Heap};
+    ghost use Rattle.law.specs.world.Runs.{IsReached};
 
     ghost Value = { Heap };
 

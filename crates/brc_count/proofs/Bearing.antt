@@ -9,15 +9,15 @@ use Rattle.brc_table.specs.block.declared.payload.Payload.TheVariants as payload
 use Rattle.brc_table.specs.block.Payload.{kind_of}
 use Rattle.brc_table.specs.law.rule.Logs.{kind_in}
 use Rattle.brc_table.specs.Shown.{contents_of}
-use Rattle.brc_table.specs.law.world.declared.event.Dropped.TheVariants as drops
-use Rattle.brc_table.specs.law.world.declared.row.Hand.TheVariants as hands
-use Rattle.brc_table.specs.law.world.declared.row.Phase.TheVariants as phases
+use Rattle.brc_table.specs.law.declared.world.event.Dropped.TheVariants as drops
+use Rattle.brc_table.specs.law.declared.world.row.Hand.TheVariants as hands
+use Rattle.brc_table.specs.law.declared.world.row.Phase.TheVariants as phases
 use Rattle.brc_table.specs.law.world.Lists.{names, place_at, filled}
 use Rattle.brc_table.proofs.law.world.Framing.{place_at-filled_here, place_at-filled_else}
 use Rattle.brc_table.specs.law.known.Items.{Part, put}
 use Rattle.brc_table.specs.law.known.Going_On.{filling, bearing, handing}
 use Rattle.brc_table.specs.law.known.Taken.{Blocks, listed_at}
-use Rattle.brc_table.specs.law.rule.declared.told.LogItem.{LogItem}
+use Rattle.brc_table.specs.law.declared.rule.told.LogItem.{LogItem}
 use Rattle.brc_table.specs.law.rule.Seen.{part_seen, risen_seen, taken_seen}
 use Rattle.brc_table.specs.Knowing.{known_seen, KeepsNotes}
 use Rattle.brc_table.specs.Seated.{TableSeen, SeatSeen}

@@ -1,15 +1,15 @@
 -- How the log of a thread begins that the root registers.
 use Rattle.std.proofs.Common.{◌≡◌, ◌<◌, ℕ, zero, suc, Bool, true, false, List, [], replicate, refl, ◌∙◌, ap}
-use Rattle.brc_table.specs.law.world.declared.row.Stage.TheVariants as stages
-use Rattle.brc_table.specs.law.world.declared.event.Step.TheVariants.{Register}
+use Rattle.brc_table.specs.law.declared.world.row.Stage.TheVariants as stages
+use Rattle.brc_table.specs.law.declared.world.event.Step.TheVariants.{Register}
 use Rattle.brc_table.specs.law.world.Heap.{words_for}
 use Rattle.brc_table.specs.law.world.Lists.{is_blank}
-use Rattle.brc_table.specs.law.rule.declared.told.Moved.TheVariants.{Nothing}
-use Rattle.brc_table.specs.law.rule.declared.told.LogItem.{LogItem}
-use Rattle.brc_table.specs.law.rule.declared.told.LogItem.TheVariants.{Stepped}
+use Rattle.brc_table.specs.law.declared.rule.told.Moved.TheVariants.{Nothing}
+use Rattle.brc_table.specs.law.declared.rule.told.LogItem.{LogItem}
+use Rattle.brc_table.specs.law.declared.rule.told.LogItem.TheVariants.{Stepped}
 use Rattle.brc_table.specs.law.world.Steps.{is_active}
 use Rattle.brc_table.specs.law.rule.Seen.{part_seen, counts_seen}
-use Rattle.brc_table.specs.law.rule.declared.view.View.{View}
+use Rattle.brc_table.specs.law.declared.rule.view.View.{View}
 use Rattle.brc_table.specs.law.rule.Logs.{begins}
 use Rattle.brc_table.specs.law.steps.Joining.{is_again, starting, next_thread}
 use Rattle.brc_table.specs.Seated.{TableSeen, IsSameSeat}

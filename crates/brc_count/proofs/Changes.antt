@@ -5,10 +5,10 @@ use Rattle.std.proofs.Common.{sym, ◌∙◌, ap, subst, replicate}
 use Rattle.std.proofs.lemmas.Bool.{eq-eqb, cases_eq, cases_lt, lt-ltb}
 use Rattle.std.proofs.lemmas.List.{length-set, get_or-set_same, get_or_past, get_or-replicate, length-replicate}
 use Rattle.std.specs.Int.{bit_at}
-use Rattle.brc_table.specs.law.world.declared.event.Step.TheVariants.{Register}
-use Rattle.brc_table.specs.law.rule.declared.told.Moved.TheVariants.{Nothing}
-use Rattle.brc_table.specs.law.rule.declared.told.LogItem.{LogItem}
-use Rattle.brc_table.specs.law.rule.declared.told.LogItem.TheVariants.{Stepped}
+use Rattle.brc_table.specs.law.declared.world.event.Step.TheVariants.{Register}
+use Rattle.brc_table.specs.law.declared.rule.told.Moved.TheVariants.{Nothing}
+use Rattle.brc_table.specs.law.declared.rule.told.LogItem.{LogItem}
+use Rattle.brc_table.specs.law.declared.rule.told.LogItem.TheVariants.{Stepped}
 use Rattle.brc_count.specs.Closing.{IsFirst, FirstNew, FirstAgain}
 use Rattle.brc_table.specs.law.world.Heap.{words_for}
 use Rattle.std.proofs.lemmas.Nat.Bits.{bit_at-zero}
@@ -18,13 +18,13 @@ use Rattle.atomic_table.specs.Table.{rest}
 use Rattle.brc_table.specs.block.declared.payload.Payload.{Payload}
 use Rattle.brc_table.specs.block.Payload.{entries_of}
 use Rattle.brc_table.specs.block.Blocks.{PopsEntry}
-use Rattle.brc_table.specs.law.world.declared.event.Dropped.TheVariants as drops
-use Rattle.brc_table.specs.law.world.declared.event.Source.{Source}
-use Rattle.brc_table.specs.law.world.declared.event.Step.{Step}
-use Rattle.brc_table.specs.law.world.declared.event.Step.TheVariants.{LocalUp, Free}
-use Rattle.brc_table.specs.law.world.declared.row.Hand.TheVariants as hands
-use Rattle.brc_table.specs.law.world.declared.row.Stage.{Stage}
-use Rattle.brc_table.specs.law.world.declared.row.Stage.TheVariants as stages
+use Rattle.brc_table.specs.law.declared.world.event.Dropped.TheVariants as drops
+use Rattle.brc_table.specs.law.declared.world.event.Source.{Source}
+use Rattle.brc_table.specs.law.declared.world.event.Step.{Step}
+use Rattle.brc_table.specs.law.declared.world.event.Step.TheVariants.{LocalUp, Free}
+use Rattle.brc_table.specs.law.declared.world.row.Hand.TheVariants as hands
+use Rattle.brc_table.specs.law.declared.world.row.Stage.{Stage}
+use Rattle.brc_table.specs.law.declared.world.row.Stage.TheVariants as stages
 use Rattle.brc_table.specs.law.world.Lists.{used_words, names, place_at, filled, vacated, front_of, last_of, is_marked, word_at}
 use Rattle.brc_table.specs.law.world.Steps.{is_active, stage_ok, lock_ok, locked_cell}
 use Rattle.brc_table.proofs.law.world.Bitwise.{blank_word}
@@ -47,7 +47,7 @@ use Rattle.brc_biased.specs.Up.{KnowsPart, Raising}
 use Rattle.brc_biased.proofs.Marking.{marks_wide}
 use Rattle.brc_count.specs.declared.held.PlaceEntry.{PlaceEntry}
 use Rattle.brc_count.specs.declared.ledger.Ledger.{Ledger}
-use Rattle.brc_table.specs.law.rule.declared.contents.Contents.TheVariants as contents
+use Rattle.brc_table.specs.law.declared.rule.contents.Contents.TheVariants as contents
 use Rattle.brc_count.specs.Frames.{place_seen, locked_place, lock_seen, cell_held, block_listed, slot_out, slots_out}
 use Rattle.brc_count.specs.Frames.{pushed, Buried, Holding, FrameSeen, KeepsHandles, Turned, Turns, OneMore}
 use Rattle.brc_count.proofs.Buried.{listed_here, unlisted_front, nothing_buried, after_cut, after_free, after_given}

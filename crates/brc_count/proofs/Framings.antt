@@ -2,8 +2,8 @@
 use Rattle.std.proofs.Common.{◌≡◌, ℕ, true, refl, ap, ◌∙◌}
 use Rattle.brc_table.specs.law.world.Steps.{is_active, is_left}
 use Rattle.brc_table.specs.law.world.Lists.{is_blank}
-use Rattle.brc_table.specs.law.world.declared.row.Stage.{Stage}
-use Rattle.brc_table.specs.law.world.declared.row.Stage.TheVariants as stages
+use Rattle.brc_table.specs.law.declared.world.row.Stage.{Stage}
+use Rattle.brc_table.specs.law.declared.world.row.Stage.TheVariants as stages
 use Rattle.brc_biased.specs.Standing.{may_give_up}
 use Rattle.brc_table.specs.law.rule.Seen.{part_seen}
 use Rattle.brc_count.specs.Frames.{FrameSeen, Framing, KeepsRest, IsActive, IsUnlocked, MayGiveUp, popped_seen}

@@ -10,8 +10,8 @@ use Rattle.brc_table.specs.block.Payload.{kind_of, keys_of}
 use Rattle.brc_table.specs.block.declared.payload.Payload.{Payload}
 use Rattle.brc_table.specs.block.declared.payload.Payload.TheVariants as payloads
 use Rattle.brc_table.proofs.block.Columns.{map-remove}
-use Rattle.brc_table.specs.law.rule.declared.contents.PlainKey.{PlainKey}
-use Rattle.brc_table.specs.law.rule.declared.contents.Contents.{Contents}
+use Rattle.brc_table.specs.law.declared.rule.contents.PlainKey.{PlainKey}
+use Rattle.brc_table.specs.law.declared.rule.contents.Contents.{Contents}
 use Rattle.brc_table.specs.law.rule.Keys.{keys_in, OneKeyMore, KeyPut}
 use Rattle.brc_table.specs.Shown.{contents_of, plain_key}
 

@@ -7,9 +7,9 @@ use Rattle.std.proofs.lemmas.List.{get_or_past}
 use Rattle.std.proofs.lemmas.List.Sums.{sum_by-cons, get_or-le-sum_by}
 use Rattle.slab.specs.Slab.{Slab, slab_len}
 use Rattle.brc_table.specs.block.declared.payload.Payload.{Payload}
-use Rattle.brc_table.specs.law.world.declared.event.Step.TheVariants.{Close, Reopen}
-use Rattle.brc_table.specs.law.world.declared.row.Stage.{Stage}
-use Rattle.brc_table.specs.law.world.declared.row.Stage.TheVariants as stages
+use Rattle.brc_table.specs.law.declared.world.event.Step.TheVariants.{Close, Reopen}
+use Rattle.brc_table.specs.law.declared.world.row.Stage.{Stage}
+use Rattle.brc_table.specs.law.declared.world.row.Stage.TheVariants as stages
 use Rattle.brc_table.specs.law.world.Heap.{words_for}
 use Rattle.brc_table.specs.law.world.Lists.{place_at, is_marked, is_bare, is_unmarked, is_blank, filled_places, marked_cells}
 use Rattle.brc_table.specs.law.world.Steps.{stage_ok, closes_next, closed_more, opened_more, is_left, is_active, may_begin_closing}

@@ -3,16 +3,16 @@ use Rattle.std.proofs.Common.{◌≡◌, ◌≢◌, ◌≤◌, ℕ, Bool, true, 
 use Rattle.std.proofs.Common.{None, is_some, refl, sym, ◌∙◌, ap, subst, slice_get}
 use Rattle.std.proofs.lemmas.Bool.{cases_lt}
 use Rattle.brc_words.specs.declared.limits.TheConstants.{FIRST_MORTAL, MOST_ENTRIES}
-use Rattle.brc_table.specs.law.world.declared.event.Source.{Source}
-use Rattle.brc_table.specs.law.world.declared.event.Source.TheVariants as sources
-use Rattle.brc_table.specs.law.world.declared.event.Step.TheVariants.{LocalUp, SharedUp}
+use Rattle.brc_table.specs.law.declared.world.event.Source.{Source}
+use Rattle.brc_table.specs.law.declared.world.event.Source.TheVariants as sources
+use Rattle.brc_table.specs.law.declared.world.event.Step.TheVariants.{LocalUp, SharedUp}
 use Rattle.brc_table.specs.law.world.Steps.{locked_cell, entry_of}
 use Rattle.brc_table.specs.law.known.Items.{Part, part_by, meant}
 use Rattle.brc_table.specs.law.known.Taken.{Blocks, listed_at, taken_by}
-use Rattle.brc_table.specs.law.rule.declared.contents.Contents.TheVariants as contents
-use Rattle.brc_table.specs.law.rule.declared.told.Moved.TheVariants.{Nothing}
-use Rattle.brc_table.specs.law.rule.declared.told.LogItem.{LogItem}
-use Rattle.brc_table.specs.law.rule.declared.told.LogItem.TheVariants.{Stepped}
+use Rattle.brc_table.specs.law.declared.rule.contents.Contents.TheVariants as contents
+use Rattle.brc_table.specs.law.declared.rule.told.Moved.TheVariants.{Nothing}
+use Rattle.brc_table.specs.law.declared.rule.told.LogItem.{LogItem}
+use Rattle.brc_table.specs.law.declared.rule.told.LogItem.TheVariants.{Stepped}
 use Rattle.brc_table.specs.law.rule.Logs.{entries_in}
 use Rattle.brc_table.specs.law.rule.Seen.{part_seen, counts_seen, taken_seen, contents_locked}
 use Rattle.brc_table.specs.law.steps.Taking.{AreCells}

@@ -10,21 +10,21 @@ use Rattle.atomic_table.specs.Table.{rest}
 use Rattle.brc_words.specs.Kinds.{is_container}
 use Rattle.brc_words.specs.declared.limits.TheConstants.{MOST_PLACES}
 use Rattle.brc_table.specs.block.declared.payload.Payload.{Payload}
-use Rattle.brc_table.specs.law.world.declared.event.Change.{Change}
-use Rattle.brc_table.specs.law.world.declared.event.Change.TheVariants as changes
-use Rattle.brc_table.specs.law.world.declared.event.Dropped.TheVariants as drops
-use Rattle.brc_table.specs.law.world.declared.event.Step.TheVariants.{Lock, Unlock}
-use Rattle.brc_table.specs.law.world.declared.row.Hand.TheVariants as hands
-use Rattle.brc_table.specs.law.world.declared.row.Stage.{Stage}
-use Rattle.brc_table.specs.law.world.declared.row.Stage.TheVariants as stages
+use Rattle.brc_table.specs.law.declared.world.event.Change.{Change}
+use Rattle.brc_table.specs.law.declared.world.event.Change.TheVariants as changes
+use Rattle.brc_table.specs.law.declared.world.event.Dropped.TheVariants as drops
+use Rattle.brc_table.specs.law.declared.world.event.Step.TheVariants.{Lock, Unlock}
+use Rattle.brc_table.specs.law.declared.world.row.Hand.TheVariants as hands
+use Rattle.brc_table.specs.law.declared.world.row.Stage.{Stage}
+use Rattle.brc_table.specs.law.declared.world.row.Stage.TheVariants as stages
 use Rattle.brc_table.specs.law.world.Lists.{names, number_in, place_at, filled, vacated}
 use Rattle.brc_table.specs.law.world.Steps.{is_active, is_keep, stage_ok, locked_cell, change_ok, frame_changed, entries_changed}
 use Rattle.brc_table.proofs.law.world.Framing.{place_at-filled_here, place_at-filled_else, place_at-vacated_else}
 use Rattle.brc_table.specs.law.known.Items.{Part, put}
 use Rattle.brc_table.specs.law.known.Going_On.{locking, unlocking}
 use Rattle.brc_table.specs.law.known.Taken.{Blocks, listed_at}
-use Rattle.brc_table.specs.law.rule.declared.contents.Contents.{Contents}
-use Rattle.brc_table.specs.law.rule.declared.contents.Contents.TheVariants as contents
+use Rattle.brc_table.specs.law.declared.rule.contents.Contents.{Contents}
+use Rattle.brc_table.specs.law.declared.rule.contents.Contents.TheVariants as contents
 use Rattle.brc_table.specs.law.rule.Keys.{keys_in, KeysGo}
 use Rattle.brc_table.specs.law.rule.Logs.{entries_in, kind_in}
 use Rattle.brc_table.specs.law.rule.Seen.{part_seen, taken_seen, contents_locked}

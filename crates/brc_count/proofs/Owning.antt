@@ -1,6 +1,6 @@
 -- Which handles a frame owns after a call, from what the call does to its places.
 use Rattle.std.proofs.Common.{◌≡◌, ◌≢◌, ℕ, ◌+◌, ◌<◌, true, Option, Some, None, is_some, refl, sym, ◌∙◌, ap}
-use Rattle.brc_table.specs.law.world.declared.event.Source.{Source}
+use Rattle.brc_table.specs.law.declared.world.event.Source.{Source}
 use Rattle.brc_count.specs.Frames.{FrameSeen, HandleSeen, Owns, GivenHandle, ReleasedOf}
 use Rattle.brc_count.specs.Locking.{cell_in, KeepsThread, KeepsFrame, ChangesPlace}
 use Rattle.brc_count.specs.Owned.{Keeps, Gains, Loses}

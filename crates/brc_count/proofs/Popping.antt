@@ -15,11 +15,11 @@ use Rattle.brc_table.specs.block.declared.payload.Payload.{Payload}
 use Rattle.brc_table.specs.law.world.Heap.{words_for}
 use Rattle.brc_table.specs.law.world.Lists.{names, place_at, bit_of, word_at, without_bit, is_blank, used_words}
 use Rattle.brc_table.proofs.law.world.Bitwise.{bit_inside}
-use Rattle.brc_table.specs.law.world.declared.event.Dropped.TheVariants as drops
+use Rattle.brc_table.specs.law.declared.world.event.Dropped.TheVariants as drops
 use Rattle.brc_table.specs.law.known.Items.{Part, popped_told}
 use Rattle.brc_table.specs.law.known.Going_On.{popping, closing, reopening, settling, taking}
 use Rattle.brc_table.specs.law.known.Taken.{taken_on}
-use Rattle.brc_table.specs.law.rule.declared.told.LogItem.{LogItem}
+use Rattle.brc_table.specs.law.declared.rule.told.LogItem.{LogItem}
 use Rattle.brc_table.specs.law.rule.Seen.{part_seen, taken_seen}
 use Rattle.brc_table.specs.law.steps.Taking.{AreQueued}
 use Rattle.brc_table.specs.Knowing.{known_seen, entries_of as entries_answered, KeepsNotes}

@@ -2,12 +2,12 @@
 use Rattle.std.proofs.Common.{◌≡◌, ℕ, ◌+◌, ◌*◌, ◌/◌, true, min, ◌∷◌, Option, Some, None, is_some, refl, sym, ◌∙◌}
 use Rattle.std.proofs.Common.{ap, subst}
 use Rattle.std.proofs.lemmas.Bool.{true≢false}
-use Rattle.brc_table.specs.law.world.declared.event.Dropped.TheVariants as drops
-use Rattle.brc_table.specs.law.world.declared.event.Step.TheVariants.{Free, Drain, Wake}
+use Rattle.brc_table.specs.law.declared.world.event.Dropped.TheVariants as drops
+use Rattle.brc_table.specs.law.declared.world.event.Step.TheVariants.{Free, Drain, Wake}
 use Rattle.brc_table.specs.law.world.Heap.{words_for}
-use Rattle.brc_table.specs.law.rule.declared.told.Moved.TheVariants.{Nothing}
-use Rattle.brc_table.specs.law.rule.declared.told.LogItem.{LogItem}
-use Rattle.brc_table.specs.law.rule.declared.told.LogItem.TheVariants.{Stepped}
+use Rattle.brc_table.specs.law.declared.rule.told.Moved.TheVariants.{Nothing}
+use Rattle.brc_table.specs.law.declared.rule.told.LogItem.{LogItem}
+use Rattle.brc_table.specs.law.declared.rule.told.LogItem.TheVariants.{Stepped}
 use Rattle.brc_table.specs.law.living.Quiet.{is_quiet, Quietly, NoItem, OneMore}
 use Rattle.brc_table.specs.law.living.Living.{OwnLog}
 use Rattle.brc_table.proofs.law.living.Earlier.{own_before}

@@ -1,6 +1,6 @@
 -- Objects of a frame that nobody asked where its claims begin.
 use Rattle.std.proofs.Common.{◌≡◌, ◌∙◌, false, subst}
-use Rattle.brc_table.specs.law.rule.declared.contents.Contents.{Contents}
+use Rattle.brc_table.specs.law.declared.rule.contents.Contents.{Contents}
 use Rattle.brc_biased.specs.Seeking.{ClaimsFirst, ClaimsAround}
 use Rattle.brc_biased.proofs.Searching.{claims_first}
 use Rattle.brc_count.specs.Frames.{FrameSeen, HandleSeen, first_word}

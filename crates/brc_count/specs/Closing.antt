@@ -1,17 +1,17 @@
 -- How a thread leaves: it hands over what it counts, closes all its queue words, counts the entries down that were in
 -- them, and takes its dead blocks apart. And how the log of a registration begins.
 use Rattle.std.specs.Prelude.{◌≡◌, ℕ, ◌+◌, ◌-◌, ◌==◌, ◌<◌, if◌then◌else◌, true, false, List, [], ◌∷◌, Option}
-use Rattle.brc_table.specs.law.world.declared.event.LastDropped.TheVariants as lasts
-use Rattle.brc_table.specs.law.world.declared.event.Step.TheVariants.{Close, Reopen, Register, LastDown}
-use Rattle.brc_table.specs.law.world.declared.row.Stage.{Stage}
-use Rattle.brc_table.specs.law.world.declared.row.Stage.TheVariants as stages
+use Rattle.brc_table.specs.law.declared.world.event.LastDropped.TheVariants as lasts
+use Rattle.brc_table.specs.law.declared.world.event.Step.TheVariants.{Close, Reopen, Register, LastDown}
+use Rattle.brc_table.specs.law.declared.world.row.Stage.{Stage}
+use Rattle.brc_table.specs.law.declared.world.row.Stage.TheVariants as stages
 use Rattle.brc_table.specs.law.world.Lists.{bit_of, is_blank}
 use Rattle.brc_table.specs.law.world.Heap.{words_for}
 use Rattle.brc_table.specs.law.world.Steps.{closed_more, opened_more}
-use Rattle.brc_table.specs.law.rule.declared.told.Moved.TheVariants.{Nothing}
-use Rattle.brc_table.specs.law.rule.declared.told.LogItem.{LogItem}
-use Rattle.brc_table.specs.law.rule.declared.told.LogItem.TheVariants.{Stepped}
-use Rattle.brc_table.specs.law.rule.declared.view.View.{View}
+use Rattle.brc_table.specs.law.declared.rule.told.Moved.TheVariants.{Nothing}
+use Rattle.brc_table.specs.law.declared.rule.told.LogItem.{LogItem}
+use Rattle.brc_table.specs.law.declared.rule.told.LogItem.TheVariants.{Stepped}
+use Rattle.brc_table.specs.law.declared.rule.view.View.{View}
 use Rattle.brc_table.specs.law.steps.Joining.{is_again, starting}
 use Rattle.brc_words.specs.declared.limits.TheConstants.{FIRST_MORTAL}
 use Rattle.brc_table.specs.block.declared.payload.Payload.{Payload}

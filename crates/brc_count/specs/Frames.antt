@@ -8,19 +8,19 @@ use Rattle.brc_words.specs.declared.fault.Fault.TheVariants.{OutOfMemory, FrameF
 use Rattle.brc_table.specs.block.declared.payload.Payload.{Payload}
 use Rattle.brc_table.specs.block.Payload.{entries_of}
 use Rattle.brc_table.specs.block.Blocks.{PopsEntry}
-use Rattle.brc_table.specs.law.world.declared.event.Dropped.TheVariants as drops
-use Rattle.brc_table.specs.law.world.declared.event.Source.{Source}
-use Rattle.brc_table.specs.law.world.declared.event.Step.TheVariants.{LocalUp, LocalDown, Free}
-use Rattle.brc_table.specs.law.world.declared.row.Hand.TheVariants as hands
+use Rattle.brc_table.specs.law.declared.world.event.Dropped.TheVariants as drops
+use Rattle.brc_table.specs.law.declared.world.event.Source.{Source}
+use Rattle.brc_table.specs.law.declared.world.event.Step.TheVariants.{LocalUp, LocalDown, Free}
+use Rattle.brc_table.specs.law.declared.world.row.Hand.TheVariants as hands
 use Rattle.std.specs.Int.{bit_at}
 use Rattle.brc_table.specs.law.world.Heap.{words_for}
 use Rattle.brc_table.specs.law.world.Lists.{place_at, is_marked, word_at, is_blank}
 use Rattle.brc_table.specs.law.world.Steps.{is_active, is_left, locked_cell, lock_ok}
 use Rattle.brc_table.specs.law.known.Items.{meant}
 use Rattle.brc_table.specs.law.known.Taken.{Blocks, listed_at}
-use Rattle.brc_table.specs.law.rule.declared.told.Moved.TheVariants.{Nothing}
-use Rattle.brc_table.specs.law.rule.declared.told.LogItem.{LogItem}
-use Rattle.brc_table.specs.law.rule.declared.told.LogItem.TheVariants.{Stepped}
+use Rattle.brc_table.specs.law.declared.rule.told.Moved.TheVariants.{Nothing}
+use Rattle.brc_table.specs.law.declared.rule.told.LogItem.{LogItem}
+use Rattle.brc_table.specs.law.declared.rule.told.LogItem.TheVariants.{Stepped}
 use Rattle.brc_table.specs.law.rule.Logs.{entries_in}
 use Rattle.brc_table.specs.law.rule.Seen.{part_seen, counts_seen, risen_seen, taken_seen}
 use Rattle.brc_table.specs.law.steps.Taking.{AreCells}

@@ -2,16 +2,16 @@
 use Rattle.std.specs.Prelude.{◌≡◌, ◌≢◌, ◌<◌, ◌≤◌, ℕ, true, List, ◌∷◌, length, Option, Some, None, is_some}
 use Rattle.brc_words.specs.declared.limits.TheConstants.{MOST_ENTRIES}
 use Rattle.brc_table.specs.block.declared.payload.Payload.{Payload}
-use Rattle.brc_table.specs.law.world.declared.event.Change.{Change}
-use Rattle.brc_table.specs.law.world.declared.event.Step.TheVariants.{Lock, Unlock}
-use Rattle.brc_table.specs.law.known.declared.word.Field.TheVariants.{Mutex}
-use Rattle.brc_table.specs.law.known.declared.word.Word.TheVariants.{Of}
+use Rattle.brc_table.specs.law.declared.world.event.Change.{Change}
+use Rattle.brc_table.specs.law.declared.world.event.Step.TheVariants.{Lock, Unlock}
+use Rattle.brc_table.specs.law.declared.known.word.Field.TheVariants.{Mutex}
+use Rattle.brc_table.specs.law.declared.known.word.Word.TheVariants.{Of}
 use Rattle.brc_table.specs.law.known.Taken.{listed_at}
-use Rattle.brc_table.specs.law.rule.declared.contents.PlainKey.{PlainKey}
-use Rattle.brc_table.specs.law.rule.declared.contents.Contents.{Contents}
-use Rattle.brc_table.specs.law.rule.declared.told.Moved.TheVariants as moves
-use Rattle.brc_table.specs.law.rule.declared.told.LogItem.{LogItem}
-use Rattle.brc_table.specs.law.rule.declared.told.LogItem.TheVariants.{Stepped, Lost}
+use Rattle.brc_table.specs.law.declared.rule.contents.PlainKey.{PlainKey}
+use Rattle.brc_table.specs.law.declared.rule.contents.Contents.{Contents}
+use Rattle.brc_table.specs.law.declared.rule.told.Moved.TheVariants as moves
+use Rattle.brc_table.specs.law.declared.rule.told.LogItem.{LogItem}
+use Rattle.brc_table.specs.law.declared.rule.told.LogItem.TheVariants.{Stepped, Lost}
 use Rattle.brc_table.specs.law.rule.Keys.{keys_in}
 use Rattle.brc_table.specs.law.rule.Logs.{entries_in}
 use Rattle.brc_table.specs.law.rule.Seen.{part_seen, taken_seen, contents_locked}

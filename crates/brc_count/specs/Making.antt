@@ -5,12 +5,12 @@ use Rattle.brc_words.specs.declared.fault.Fault.{Fault}
 use Rattle.brc_words.specs.declared.fault.Fault.TheVariants.{OutOfMemory, HeapFull, FrameFull, LedgerFull}
 use Rattle.brc_words.specs.declared.limits.TheConstants.{FIRST_MORTAL, MOST_PLACES, MOST_BIRTHS}
 use Rattle.brc_words.specs.declared.look.TheConstants.{NO_COUNT}
-use Rattle.brc_table.specs.law.world.declared.event.Step.TheVariants.{InitLocal, InitShared, Birth}
-use Rattle.brc_table.specs.law.rule.declared.contents.Contents.{Contents}
+use Rattle.brc_table.specs.law.declared.world.event.Step.TheVariants.{InitLocal, InitShared, Birth}
+use Rattle.brc_table.specs.law.declared.rule.contents.Contents.{Contents}
 use Rattle.brc_table.specs.law.rule.Logs.{kind_in}
-use Rattle.brc_table.specs.law.rule.declared.told.Moved.TheVariants.{Nothing, Put}
-use Rattle.brc_table.specs.law.rule.declared.told.LogItem.{LogItem}
-use Rattle.brc_table.specs.law.rule.declared.told.LogItem.TheVariants.{Stepped}
+use Rattle.brc_table.specs.law.declared.rule.told.Moved.TheVariants.{Nothing, Put}
+use Rattle.brc_table.specs.law.declared.rule.told.LogItem.{LogItem}
+use Rattle.brc_table.specs.law.declared.rule.told.LogItem.TheVariants.{Stepped}
 use Rattle.brc_table.specs.Seated.{Continues}
 use Rattle.brc_biased.specs.Seeking.{PassesOver, ClaimsAround}
 use Rattle.brc_count.specs.Frames.{FrameSeen, HandleSeen, KeepsRest, KeepsHandles, IsAsBefore, IsFull, place_seen}

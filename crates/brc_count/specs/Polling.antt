@@ -2,10 +2,10 @@
 use Rattle.std.specs.Prelude.{◌≡◌, ℕ, min, ◌+◌, ◌*◌, ◌/◌, ◌∷◌, Option}
 use Rattle.std.specs.Int.{bit_at}
 use Rattle.brc_table.specs.block.declared.payload.Payload.{Payload}
-use Rattle.brc_table.specs.law.world.declared.event.Step.TheVariants.{Drain, Wake}
+use Rattle.brc_table.specs.law.declared.world.event.Step.TheVariants.{Drain, Wake}
 use Rattle.brc_table.specs.law.world.Heap.{words_for}
-use Rattle.brc_table.specs.law.rule.declared.told.Moved.TheVariants.{Nothing}
-use Rattle.brc_table.specs.law.rule.declared.told.LogItem.TheVariants.{Stepped}
+use Rattle.brc_table.specs.law.declared.rule.told.Moved.TheVariants.{Nothing}
+use Rattle.brc_table.specs.law.declared.rule.told.LogItem.TheVariants.{Stepped}
 use Rattle.brc_biased.specs.Released.{Settled}
 use Rattle.brc_count.specs.Frames.{FrameSeen, pushed}
 

@@ -4,7 +4,7 @@
 ghost use Rattle.std.specs.Prelude.{◌≡◌, ◌+◌, ◌<◌, ◌≤◌, ◌==◌, if◌then◌else◌, ℕ, [], List, true};
 ghost use Rattle.brc_table.specs.law.world.Heap.{words_for};
 ghost use Rattle.brc_table.specs.law.world.Lists.{is_blank};
-ghost use Rattle.brc_table.specs.law.rule.declared.told.LogItem.{LogItem};
+ghost use Rattle.brc_table.specs.law.declared.rule.told.LogItem.{LogItem};
 ghost use Rattle.brc_table.specs.law.rule.Seen.{part_seen};
 ghost use Rattle.brc_table.specs.law.world.Steps.{is_left};
 ghost use Rattle.brc_table.specs.law.steps.Joining.{HasLeft};
@@ -12,7 +12,7 @@ ghost use Rattle.brc_table.specs.Seated.{IsSameSeat, view_of};
 ghost use Rattle.brc_count.specs.Frames.{IsUnlocked, IsActive, popped_seen};
 ghost use Rattle.brc_words.specs.declared.limits.TheConstants.{FIRST_MORTAL};
 ghost use Rattle.brc_table.specs.law.rule.Seen.{counts_seen};
-ghost use Rattle.brc_table.specs.law.world.declared.row.Stage.TheVariants as stages;
+ghost use Rattle.brc_table.specs.law.declared.world.row.Stage.TheVariants as stages;
 ghost use Rattle.brc_count.specs.Closing.{ClosesWords, HandsOne, HandsEach, ReopensWords, stage_with, stage_opened};
 
 use crate::holdings::Holdings;

@@ -5,7 +5,7 @@ ghost use Rattle.std.specs.Prelude.{◌⊎◌, IfOk, IfErr, OnOk, OnErr, IfSome,
 ghost use Rattle.brc_words.specs.declared.limits.TheConstants.{FIRST_MORTAL, GLOBALS, MOST_THREADS};
 ghost use Rattle.brc_words.specs.declared.limits.TheConstants.{MOST_REGISTRATIONS};
 ghost use Rattle.brc_words.specs.declared.fault.Fault.TheVariants.{OutOfMemory};
-ghost use Rattle.brc_table.specs.law.world.declared.event.Source.TheVariants as sources;
+ghost use Rattle.brc_table.specs.law.declared.world.event.Source.TheVariants as sources;
 ghost use Rattle.brc_table.specs.law.world.Heap.{words_for};
 ghost use Rattle.brc_biased.specs.Bounded.{IsBounded};
 ghost use Rattle.brc_biased.specs.Counter.{CountsMore};

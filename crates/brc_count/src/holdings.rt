@@ -3,7 +3,7 @@
 ghost use Rattle.std.specs.Prelude.{◌≡◌, ◌≢◌, ◌+◌, ◌-◌, ◌<◌, ◌≤◌, ℕ, [], replicate, IfOk, IfErr, OnOk, IfSome, IfNone, OnSome, Some};
 ghost use Rattle.std.specs.Prelude.{None, true, false, IsTrue, IsFalse, ◌⊎◌, length};
 ghost use Rattle.brc_words.specs.declared.limits.TheConstants.{MOST_PLACES};
-ghost use Rattle.brc_table.specs.law.world.declared.event.Step.TheVariants as steps;
+ghost use Rattle.brc_table.specs.law.declared.world.event.Step.TheVariants as steps;
 ghost use Rattle.brc_table.specs.law.world.Heap.{words_for};
 ghost use Rattle.brc_table.specs.law.world.Steps.{is_active, lock_ok};
 ghost use Rattle.brc_table.specs.law.known.Items.{meant};

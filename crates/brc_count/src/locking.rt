@@ -9,8 +9,8 @@ ghost use Rattle.std.specs.Prelude.{slice_get, slice_set, IfOk, IfErr, IfSome, I
 ghost use Rattle.slab.specs.Slab.{get, slab_len, Updates};
 ghost use Rattle.brc_words.specs.Kinds.{is_container};
 ghost use Rattle.brc_words.specs.declared.limits.TheConstants.{MOST_ENTRIES, MOST_PLACES};
-ghost use Rattle.brc_table.specs.law.world.declared.event.Change.TheVariants as changes;
-ghost use Rattle.brc_table.specs.law.world.declared.event.Source.TheVariants as sources;
+ghost use Rattle.brc_table.specs.law.declared.world.event.Change.TheVariants as changes;
+ghost use Rattle.brc_table.specs.law.declared.world.event.Source.TheVariants as sources;
 ghost use Rattle.brc_table.specs.law.rule.Keys.{keys_in, KeyPut};
 ghost use Rattle.brc_table.specs.law.rule.Logs.{entries_in, kind_in};
 ghost use Rattle.brc_table.specs.Shown.{contents_of};

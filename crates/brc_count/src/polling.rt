@@ -4,12 +4,12 @@ ghost use Rattle.std.specs.Prelude.{◌≡◌, ◌≢◌, min, ◌+◌, ◌*◌,
 ghost use Rattle.std.specs.Prelude.{IsTrue, IsFalse, ◌≤◌, IfSome, IfNone};
 ghost use Rattle.std.specs.Int.{bit_at};
 ghost use Rattle.brc_words.specs.declared.limits.TheConstants.{MOST_CELLS};
-ghost use Rattle.brc_table.specs.law.world.declared.event.Step.TheVariants as steps;
+ghost use Rattle.brc_table.specs.law.declared.world.event.Step.TheVariants as steps;
 ghost use Rattle.brc_table.specs.law.world.Heap.{words_for};
 ghost use Rattle.brc_table.specs.law.world.Lists.{bit_of, word_at, without_bit, is_blank};
 ghost use Rattle.brc_table.specs.law.known.Items.{popped_told};
-ghost use Rattle.brc_table.specs.law.rule.declared.told.Moved.TheVariants as moves;
-ghost use Rattle.brc_table.specs.law.rule.declared.told.LogItem.TheVariants as told;
+ghost use Rattle.brc_table.specs.law.declared.rule.told.Moved.TheVariants as moves;
+ghost use Rattle.brc_table.specs.law.declared.rule.told.LogItem.TheVariants as told;
 ghost use Rattle.brc_table.specs.law.living.Living.{OwnLog};
 ghost use Rattle.brc_count.specs.Frames.{IsActive, MayGiveUp, IsUnlocked, KeepsHandles, popped_seen};
 ghost use Rattle.brc_table.specs.law.world.Steps.{is_left};

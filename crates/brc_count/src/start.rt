@@ -5,7 +5,7 @@
 //! asked to begin with a part of the heap of its own, and near the cells that it claimed and freed last.
 
 ghost use Rattle.std.specs.Prelude.{◌≡◌, false};
-ghost use Rattle.brc_table.specs.law.rule.declared.contents.Contents.{Contents as contents_data};
+ghost use Rattle.brc_table.specs.law.declared.rule.contents.Contents.{Contents as contents_data};
 ghost use Rattle.brc_biased.specs.Seeking.{ClaimsFirst};
 ghost use Rattle.brc_count.specs.Frames.{FrameSeen, HandleSeen, first_word, word_asked};
 ghost use Rattle.brc_count.specs.Making.{Made};

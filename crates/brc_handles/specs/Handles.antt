@@ -1,7 +1,7 @@
 -- Many handles in one: which of them are there, and that a frame holds them.
 use Rattle.std.specs.Prelude.{◌≡◌, ◌≢◌, ◌+◌, ℕ, List, [], ◌∷◌, ◌++◌, Option, Some, None, IfSome, ◌⊎◌}
 use Rattle.std.proofs.Common.{get_or}
-use Rattle.brc_count.specs.law.world.declared.event.Source.TheVariants as sources
+use Rattle.brc_count.specs.law.declared.world.event.Source.TheVariants as sources
 use Rattle.brc_count.specs.Frames.{FrameSeen, HandleSeen, Owns, GivenHandle, place_seen}
 
 -- the handle in a place of the list, if one is there

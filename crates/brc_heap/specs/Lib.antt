@@ -1,1 +1,6 @@
 pub mod Words
+pub mod Contents
+pub mod Closing
+pub mod Ending
+pub mod Desk
+pub mod Shared

@@ -1,6 +1,6 @@
 //! Frames and mutators of a client, whose way to the heap is a reference or a count.
 
-use brc_shared::Shared;
+use crate::Shared;
 use brc_thread::Heap;
 use std::alloc::Global;
 

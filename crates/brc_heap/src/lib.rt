@@ -13,12 +13,19 @@
 #![tactic(auto)]
 
 mod asking;
+mod closing;
+mod collecting;
+mod desk;
+mod ending;
 mod fixed;
+mod inner;
+mod shared;
 
 pub use asking::{same_object, truth_of};
 
 // the heap and its threads
-pub use brc_close::{CloseFault, NoReport, close, close_or_end};
+pub use closing::{CloseFault, close};
+pub use ending::{NoReport, close_or_end};
 pub use brc_count::Ledger;
 pub use brc_count::table::Rest;
 pub use brc_report::{Cells, Content, Remain, Report, check_report, write_report};
@@ -26,7 +33,7 @@ pub use brc_thread::{Heap, Options, Resting, Retired, Root, give_back, take_apar
 pub use fixed::{Leaving, Mutator};
 
 // a heap by a count, and its threads
-pub use brc_shared::{NotClosed, RootCounts, Shared, Stays};
+pub use shared::{NotClosed, RootCounts, Shared, Stays};
 pub use fixed::SharedMutator;
 
 // references
@@ -39,12 +46,12 @@ pub use brc_things::{new_dict, new_int, new_list, new_mailbox, new_text, none, t
 
 // what they are and hold
 pub use brc_count::block::KeyRef;
-pub use brc_dicts::{
+pub use brc_things::{
     dict_del, dict_del_by, dict_find, dict_find_by, dict_key, dict_key_by, dict_pair, dict_put,
     dict_set, try_dict_del, try_dict_del_by, try_dict_find, try_dict_find_by, try_dict_key,
     try_dict_key_by, try_dict_pair, try_dict_put, try_dict_set,
 };
-pub use brc_lists::{
+pub use brc_things::{
     list_get, list_pop, list_push, list_set, list_take, recv, send, try_list_get, try_list_pop,
     try_list_push, try_list_set, try_list_take, try_recv, try_send,
 };

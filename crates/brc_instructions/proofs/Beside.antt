@@ -1,7 +1,7 @@
 -- What the frame owns beside the value of a put.
 use Rattle.std.proofs.Common.{◌≢◌, Option, Some, None}
 use Rattle.brc_count.specs.Frames.{FrameSeen, HandleSeen, Owns}
-use Rattle.brc_dicts.specs.Putting.{OwnsPut}
+use Rattle.brc_things.specs.Putting.{OwnsPut}
 
 module _ {A : Type 0} where
   -- a put into a dictionary leaves it all but the value

@@ -5,8 +5,8 @@ use Rattle.brc_words.specs.declared.fault.Fault.{Fault}
 use Rattle.brc_words.specs.declared.fault.Fault.TheVariants as faults
 use Rattle.brc_words.specs.declared.key.Key.{Key}
 use Rattle.brc_words.specs.declared.limits.TheConstants.{MOST_PLACES, MOST_BIRTHS}
-use Rattle.brc_count.specs.law.rule.declared.contents.Contents.{Contents}
-use Rattle.brc_count.specs.law.rule.declared.told.LogItem.{LogItem}
+use Rattle.brc_count.specs.law.declared.rule.contents.Contents.{Contents}
+use Rattle.brc_count.specs.law.declared.rule.told.LogItem.{LogItem}
 use Rattle.brc_count.specs.declared.handed.HandedBack.{HandedBack}
 use Rattle.brc_count.specs.Frames.{FrameSeen, HandleSeen, Owns, Refused, IsAsBefore, ledger_seen}
 use Rattle.brc_count.specs.Locking.{cell_in}
@@ -15,10 +15,10 @@ use Rattle.brc_things.specs.Makers.{RefusedTo}
 use Rattle.brc_things.specs.Called.{Late}
 use Rattle.brc_things.specs.Changing.{PlainCall, RefusedPlainly, RefusedCall, RefusedEntry, RefusedPlace}
 use Rattle.brc_things.specs.Looking.{RefusedLook, RefusedCopy, LenOf, IntOf, TextOf}
-use Rattle.brc_lists.specs.Calls.{PutsValue, SwapsValue, TakesEntry, SharesEntry}
-use Rattle.brc_dicts.specs.Calls.{DictPut}
-use Rattle.brc_dicts.specs.Plain.{plain_put}
-use Rattle.brc_dicts.specs.Putting.{RefusedPair}
+use Rattle.brc_things.specs.List_Calls.{PutsValue, SwapsValue, TakesEntry, SharesEntry}
+use Rattle.brc_things.specs.Dict_Calls.{DictPut}
+use Rattle.brc_things.specs.Plain_Dicts.{plain_put}
+use Rattle.brc_things.specs.Putting.{RefusedPair}
 use Rattle.brc_count.specs.law.living.Later.{IsLater}
 use Rattle.brc_count.specs.law.living.Quiet.{Quietly}
 use Rattle.brc_count.proofs.law.living.Earlier.{later_same, later_both, quietly_later}

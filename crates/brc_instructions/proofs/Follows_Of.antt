@@ -6,8 +6,8 @@ use Rattle.brc_words.specs.declared.fault.Fault.{Fault}
 use Rattle.brc_words.specs.declared.fault.Fault.TheVariants as faults
 use Rattle.brc_words.specs.declared.key.Key.{Key}
 use Rattle.brc_script.specs.declared.instruction.Instruction.TheVariants as instructions
-use Rattle.brc_count.specs.law.rule.declared.contents.Contents.{Contents}
-use Rattle.brc_count.specs.law.rule.declared.contents.Contents.TheVariants as contents
+use Rattle.brc_count.specs.law.declared.rule.contents.Contents.{Contents}
+use Rattle.brc_count.specs.law.declared.rule.contents.Contents.TheVariants as contents
 use Rattle.brc_count.specs.declared.handed.HandedBack.{HandedBack}
 use Rattle.brc_count.specs.Frames.{FrameSeen, HandleSeen, Owns, IsAsBefore, ReleasedOf, place_seen}
 use Rattle.brc_count.specs.Locking.{Busy, cell_in}
@@ -16,10 +16,10 @@ use Rattle.brc_things.specs.Makers.{Answered, RefusedTo, small_cell}
 use Rattle.brc_handles.specs.Handles.{slot, OwnsEach, IsApart}
 use Rattle.brc_things.specs.Called.{Late}
 use Rattle.brc_things.specs.Changing.{PlainCall, RefusedCall, RefusedEntry, RefusedPlace}
-use Rattle.brc_lists.specs.Calls.{PutsValue, SwapsValue, TakesEntry, SharesEntry}
-use Rattle.brc_dicts.specs.Calls.{DictPut}
-use Rattle.brc_dicts.specs.Plain.{plain_put}
-use Rattle.brc_dicts.specs.Putting.{RefusedPair}
+use Rattle.brc_things.specs.List_Calls.{PutsValue, SwapsValue, TakesEntry, SharesEntry}
+use Rattle.brc_things.specs.Dict_Calls.{DictPut}
+use Rattle.brc_things.specs.Plain_Dicts.{plain_put}
+use Rattle.brc_things.specs.Putting.{RefusedPair}
 use Rattle.brc_meaning.specs.declared.reference.Reference.{Reference}
 use Rattle.brc_meaning.specs.declared.object.Object.{Object}
 use Rattle.brc_meaning.specs.declared.state.State.{State}

@@ -9,12 +9,12 @@ use Rattle.brc_plain.specs.Outcomes.{or_fault, leaving}
 use Rattle.brc_plain.specs.Lists as lists
 use Rattle.brc_plain.specs.Queues as queues
 use Rattle.brc_plain.specs.Dicts as dicts
-use Rattle.brc_count.specs.law.rule.declared.contents.Contents.{Contents}
-use Rattle.brc_count.specs.law.rule.declared.contents.Contents.TheVariants as contents
+use Rattle.brc_count.specs.law.declared.rule.contents.Contents.{Contents}
+use Rattle.brc_count.specs.law.declared.rule.contents.Contents.TheVariants as contents
 use Rattle.brc_things.specs.Changing.{PlainCall}
-use Rattle.brc_lists.specs.Plain.{left_in, on_list, on_mailbox, plain_push, plain_pop, plain_get, plain_set, plain_send}
-use Rattle.brc_lists.specs.Plain.{plain_receive}
-use Rattle.brc_dicts.specs.Plain.{pairs_of, leaving_dict, plain_put, plain_find, plain_del}
+use Rattle.brc_things.specs.Plain_Lists.{left_in, on_list, on_mailbox, plain_push, plain_pop, plain_get, plain_set, plain_send}
+use Rattle.brc_things.specs.Plain_Lists.{plain_receive}
+use Rattle.brc_things.specs.Plain_Dicts.{pairs_of, leaving_dict, plain_put, plain_find, plain_del}
 use Rattle.brc_instructions.specs.Causes.{WantsNoRoom}
 
 -- the call is never refused so

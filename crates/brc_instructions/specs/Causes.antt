@@ -3,7 +3,7 @@ use Rattle.std.specs.Prelude.{◌≡◌, ◌≤◌, ℕ, Bool, true, false, List
 use Rattle.brc_words.specs.declared.fault.Fault.{Fault}
 use Rattle.brc_words.specs.declared.fault.Fault.TheVariants as faults
 use Rattle.brc_words.specs.declared.limits.TheConstants.{MOST_PLACES, MOST_BIRTHS}
-use Rattle.brc_count.specs.law.rule.declared.told.LogItem.{LogItem}
+use Rattle.brc_count.specs.law.declared.rule.told.LogItem.{LogItem}
 use Rattle.brc_count.specs.biased.Seeking.{PassesOver}
 use Rattle.brc_count.specs.Frames.{FrameSeen, ledger_seen}
 use Rattle.brc_count.specs.law.living.Later.{IsLater}

@@ -8,10 +8,10 @@ use Rattle.brc_count.specs.block.Payload.{entries_of}
 use Rattle.brc_count.proofs.block.Columns.{map-remove}
 use Rattle.brc_count.specs.block.declared.payload.Payload.{Payload}
 use Rattle.brc_count.specs.block.declared.payload.Payload.TheVariants as payloads
-use Rattle.brc_count.specs.law.rule.declared.contents.PlainKey.{PlainKey}
-use Rattle.brc_count.specs.law.rule.declared.contents.Contents.{Contents}
-use Rattle.brc_count.specs.law.rule.declared.contents.Contents.TheVariants.{Nothing, Truth, Int, Text, «List» as Cells, Dict}
-use Rattle.brc_count.specs.law.rule.declared.contents.Contents.TheVariants.{Mailbox}
+use Rattle.brc_count.specs.law.declared.rule.contents.PlainKey.{PlainKey}
+use Rattle.brc_count.specs.law.declared.rule.contents.Contents.{Contents}
+use Rattle.brc_count.specs.law.declared.rule.contents.Contents.TheVariants.{Nothing, Truth, Int, Text, «List» as Cells, Dict}
+use Rattle.brc_count.specs.law.declared.rule.contents.Contents.TheVariants.{Mailbox}
 use Rattle.brc_count.specs.law.rule.Keys.{keys_in, KeyPut}
 use Rattle.brc_count.specs.law.rule.Logs.{entries_in}
 use Rattle.brc_count.specs.table.Shown.{contents_of, plain_key}

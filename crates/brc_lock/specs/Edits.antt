@@ -3,9 +3,9 @@ use Rattle.std.specs.Prelude.{◌≢◌, ℕ, ◌++◌, List, [], ◌∷◌, Opt
 use Rattle.std.specs.List.{All}
 use Rattle.brc_words.specs.declared.key.Key.{Key}
 use Rattle.brc_count.specs.table.Shown.{plain_key}
-use Rattle.brc_count.specs.law.rule.declared.contents.PlainKey.{PlainKey}
-use Rattle.brc_count.specs.law.rule.declared.contents.Contents.{Contents}
-use Rattle.brc_count.specs.law.rule.declared.contents.Contents.TheVariants.{«List» as Cells, Dict, Mailbox}
+use Rattle.brc_count.specs.law.declared.rule.contents.PlainKey.{PlainKey}
+use Rattle.brc_count.specs.law.declared.rule.contents.Contents.{Contents}
+use Rattle.brc_count.specs.law.declared.rule.contents.Contents.TheVariants.{«List» as Cells, Dict, Mailbox}
 
 -- another cell beside the key of a pair
 abbrev pub with_value : List (PlainKey × ℕ) → ℕ → ℕ → List (PlainKey × ℕ)

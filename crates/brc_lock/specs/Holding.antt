@@ -5,11 +5,11 @@ use Rattle.brc_words.specs.declared.fault.Fault.{Fault}
 use Rattle.brc_words.specs.declared.fault.Fault.TheVariants as faults
 use Rattle.brc_count.specs.block.declared.payload.Payload.{Payload}
 use Rattle.brc_count.specs.block.Payload.{spare_of}
-use Rattle.brc_count.specs.law.world.declared.event.Change.{Change}
-use Rattle.brc_count.specs.law.world.declared.event.Step.TheVariants.{Unlock}
-use Rattle.brc_count.specs.law.rule.declared.contents.Contents.{Contents}
-use Rattle.brc_count.specs.law.rule.declared.told.Moved.TheVariants as moves
-use Rattle.brc_count.specs.law.rule.declared.told.LogItem.TheVariants.{Stepped}
+use Rattle.brc_count.specs.law.declared.world.event.Change.{Change}
+use Rattle.brc_count.specs.law.declared.world.event.Step.TheVariants.{Unlock}
+use Rattle.brc_count.specs.law.declared.rule.contents.Contents.{Contents}
+use Rattle.brc_count.specs.law.declared.rule.told.Moved.TheVariants as moves
+use Rattle.brc_count.specs.law.declared.rule.told.LogItem.TheVariants.{Stepped}
 use Rattle.brc_count.specs.law.rule.Logs.{entries_in}
 use Rattle.brc_count.specs.table.Shown.{contents_of}
 use Rattle.brc_count.specs.Frames.{FrameSeen, HandleSeen, IsUnlocked}

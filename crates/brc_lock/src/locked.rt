@@ -3,8 +3,8 @@
 ghost use Rattle.std.specs.Prelude.{◌≡◌, ◌≢◌, ◌<◌, ◌+◌, ◌≤◌, ℕ, Some, None, true, length, slice_get, IfOk, IfErr};
 ghost use Rattle.brc_words.specs.Kinds.{is_container};
 ghost use Rattle.brc_words.specs.declared.limits.TheConstants.{MOST_PLACES};
-ghost use Rattle.brc_count.specs.law.world.declared.event.Change.TheVariants as changes;
-ghost use Rattle.brc_count.specs.law.world.declared.event.Source.TheVariants as sources;
+ghost use Rattle.brc_count.specs.law.declared.world.event.Change.TheVariants as changes;
+ghost use Rattle.brc_count.specs.law.declared.world.event.Source.TheVariants as sources;
 ghost use Rattle.brc_count.specs.law.rule.Logs.{kind_in, entries_in};
 ghost use Rattle.brc_count.specs.table.Shown.{contents_of};
 ghost use Rattle.brc_count.specs.Frames.{Owns, GivenHandle, Refused, IsAsBefore, IsUnlocked};

@@ -5,7 +5,7 @@ use Rattle.std.specs.List.{list_any}
 use Rattle.brc_words.specs.declared.limits.TheConstants.{MOST_INPUT}
 use Rattle.brc_script.specs.declared.limits.TheConstants.{MOST_SECTIONS}
 use Rattle.brc_script.specs.Walks.{lines_of}
-use Rattle.brc_excerpt.specs.declared.excerpt.TheConstants.{MOST_SHOWN}
+use Rattle.brc_text.specs.declared.excerpt.TheConstants.{MOST_SHOWN}
 use Rattle.brc_mistakes.specs.declared.line_opening.Opening.{Opening}
 use Rattle.brc_mistakes.specs.declared.line_opening.Opening.TheVariants as openings
 use Rattle.brc_mistakes.specs.declared.operand.Operand.{Operand}

@@ -1,7 +1,7 @@
 -- What is written of a mistake.
 use Rattle.std.specs.Prelude.{ℕ, List, [], ◌∷◌, ◌++◌, codes, decimal, Option, Some, None}
 use Rattle.std.specs.List.{flat_map}
-use Rattle.brc_excerpt.specs.Excerpts.{quoted}
+use Rattle.brc_text.specs.Excerpts.{quoted}
 use Rattle.brc_mistakes.specs.declared.line_opening.Opening.{Opening}
 use Rattle.brc_mistakes.specs.declared.operand.Operand.{Operand}
 use Rattle.brc_mistakes.specs.declared.operand.Operand.TheVariants as operands

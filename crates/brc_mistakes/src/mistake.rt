@@ -2,7 +2,7 @@
 
 use crate::line_opening::Opening;
 use crate::operand::Operand;
-use brc_excerpt::Excerpt;
+use brc_text::Excerpt;
 
 /// What is wrong with a script, or with a line of it.
 #[derive(Clone, Copy, Debug, PartialEq, Eq)]

@@ -18,7 +18,7 @@ use crate::line_opening::Opening;
 use crate::mistake::Mistake;
 use crate::text_lines::{first_line, first_of};
 use crate::words::opening_of;
-use brc_excerpt::Excerpt;
+use brc_text::Excerpt;
 use brc_script::MOST_SECTIONS;
 
 // ---- what a line begins with

@@ -14,7 +14,7 @@ use crate::line_opening::{Opening, opening_from};
 use crate::mistake::Mistake;
 use crate::nearness::nearest_to;
 use crate::operand::Operand;
-use brc_excerpt::Excerpt;
+use brc_text::Excerpt;
 
 /// No line names more.
 const MOST_OPERANDS: usize = 3;

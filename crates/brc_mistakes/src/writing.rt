@@ -3,13 +3,13 @@
 ghost use Rattle.std.specs.Prelude.{[], ◌∷◌, ◌++◌, codes, decimal};
 ghost use Rattle.brc_text.specs.Puts.{PutsText};
 ghost use Rattle.brc_text.specs.Parts.{joined};
-ghost use Rattle.brc_excerpt.specs.Excerpts.{quoted};
+ghost use Rattle.brc_text.specs.Excerpts.{quoted};
 ghost use Rattle.brc_mistakes.specs.Openings.{word_of};
 ghost use Rattle.brc_mistakes.specs.Texts.{together, nearest_text, mistake_text};
 
 use crate::line_opening::Opening;
 use crate::mistake::Mistake;
-use brc_excerpt::{Excerpt, put_quoted};
+use brc_text::{Excerpt, put_quoted};
 use brc_text::{put_bytes, put_parts};
 use brc_words::Fault;
 use itoa::Buffer;

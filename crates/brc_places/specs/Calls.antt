@@ -5,15 +5,15 @@ use Rattle.brc_words.specs.declared.fault.Fault.{Fault}
 use Rattle.brc_words.specs.declared.fault.Fault.TheVariants as faults
 use Rattle.brc_words.specs.declared.limits.TheConstants.{GLOBALS}
 use Rattle.brc_count.specs.block.Lent_Keys.{key_lent}
-use Rattle.brc_count.specs.law.world.declared.event.Source.TheVariants as sources
-use Rattle.brc_count.specs.law.rule.declared.contents.Contents.TheVariants as contents
+use Rattle.brc_count.specs.law.declared.world.event.Source.TheVariants as sources
+use Rattle.brc_count.specs.law.declared.rule.contents.Contents.TheVariants as contents
 use Rattle.brc_count.specs.declared.handed.HandedBack.{HandedBack}
 use Rattle.brc_count.specs.Frames.{FrameSeen, HandleSeen, GivenHandle, Refused, IsAsBefore}
 use Rattle.brc_count.specs.Making.{Made, RefusedMaking}
 use Rattle.brc_things.specs.Makers.{small_cell, truth_cell, Answered, RefusedTo}
 use Rattle.brc_things.specs.Called.{Late}
-use Rattle.brc_lists.specs.Calls.{ListPush, ListPop, ListTake, ListGet, ListSet, MailboxSend, MailboxReceive}
-use Rattle.brc_dicts.specs.Calls.{DictPut, DictFind, DictDel}
+use Rattle.brc_things.specs.List_Calls.{ListPush, ListPop, ListTake, ListGet, ListSet, MailboxSend, MailboxReceive}
+use Rattle.brc_things.specs.Dict_Calls.{DictPut, DictFind, DictDel}
 use Rattle.brc_places.specs.declared.place_makers.Make.{Make}
 use Rattle.brc_places.specs.declared.place_makers.Make.TheVariants as makes
 use Rattle.brc_places.specs.declared.giving.GiveBy.{GiveBy}

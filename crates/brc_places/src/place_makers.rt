@@ -1,7 +1,7 @@
 //! Makers: what is made goes into a place.
 
 ghost use Rattle.std.specs.Prelude.{◌≡◌, IfOk, IfErr, OnOk, OnErr};
-ghost use Rattle.brc_count.specs.law.rule.declared.contents.Contents.TheVariants as contents;
+ghost use Rattle.brc_count.specs.law.declared.rule.contents.Contents.TheVariants as contents;
 ghost use Rattle.brc_count.specs.Frames.{IsUnlocked};
 ghost use Rattle.brc_count.specs.Making.{Made};
 ghost use Rattle.brc_count.specs.Owned.{Keeps, Gains};

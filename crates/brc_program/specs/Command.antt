@@ -5,7 +5,7 @@ use Rattle.std.specs.Str.{bytes_eq}
 use Rattle.std.specs.declared.alloc.Global.{Global}
 use Rattle.brc_program.specs.declared.command.Invocation.{Invocation}
 use Rattle.brc_program.specs.declared.command.Invocation.TheVariants.{Replay, Run}
-use Rattle.brc_run_text.specs.Words.{RunOptions}
+use Rattle.brc_run.specs.declared.options.RunOptions.{RunOptions}
 
 -- the words are the program's name, whatever that is, and this one
 abbrev pub AreWords : List (String Global) → List ℕ → Type 0

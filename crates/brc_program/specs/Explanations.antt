@@ -6,14 +6,14 @@ use Rattle.brc_words.specs.declared.kind.Kind.{Kind}
 use Rattle.brc_words.specs.declared.kind.Kind.TheVariants as kinds
 use Rattle.brc_words.specs.declared.owner.Owner.{Owner}
 use Rattle.brc_words.specs.declared.owner.Owner.TheVariants as owners
-use Rattle.law_world.specs.declared.event.Step.{Step}
-use Rattle.law_world.specs.declared.event.Step.TheVariants as steps
-use Rattle.law_world.specs.declared.row.Hand.{Hand}
-use Rattle.law_world.specs.declared.row.Hand.TheVariants as hands
+use Rattle.law.specs.declared.world.event.Step.{Step}
+use Rattle.law.specs.declared.world.event.Step.TheVariants as steps
+use Rattle.law.specs.declared.world.row.Hand.{Hand}
+use Rattle.law.specs.declared.world.row.Hand.TheVariants as hands
 use Rattle.brc_text.specs.declared.keyword.Keyword.{Keyword}
 use Rattle.brc_text.specs.declared.keyword.Keyword.TheVariants as words
 use Rattle.brc_text.specs.Keywords.{keyword}
-use Rattle.brc_excerpt.specs.Excerpts.{quoted}
+use Rattle.brc_text.specs.Excerpts.{quoted}
 use Rattle.brc_state.specs.declared.refusing.Refusal.{Refusal}
 use Rattle.brc_state.specs.declared.refusing.Refusal.TheVariants as refusals
 use Rattle.brc_trace.specs.declared.causes.Cause.{Cause}

@@ -12,9 +12,9 @@ use Rattle.brc_trace.specs.declared.explaining.Unreplayed.{Unreplayed}
 use Rattle.brc_trace.specs.declared.explaining.Why.{Why}
 use Rattle.brc_trace.specs.Explaining.{Explains, fault_of_why, without_why}
 use Rattle.brc_trace.specs.Replaying.{Replays}
-use Rattle.brc_run_text.specs.declared.ended.RunEnded.{RunEnded}
-use Rattle.brc_run_text.specs.Notes.{nowhere}
-use Rattle.brc_run_text.specs.Scripts_Run.{Runs}
+use Rattle.brc_run.specs.declared.ended.RunEnded.{RunEnded}
+use Rattle.brc_run.specs.Notes.{nowhere}
+use Rattle.brc_run.specs.Scripts_Run.{Runs}
 use Rattle.brc_program.specs.declared.command.Invocation.{Invocation}
 use Rattle.brc_graph.specs.declared.undrawn.Undrawn.{Undrawn}
 use Rattle.brc_graph.specs.declared.undrawn.Undrawn.TheVariants as undrawn

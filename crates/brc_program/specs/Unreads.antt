@@ -6,8 +6,8 @@ use Rattle.std.specs.Str.{bytes_eq}
 use Rattle.std.specs.declared.alloc.Global.{Global}
 use Rattle.brc_words.specs.declared.limits.TheConstants.{FEWEST_CELLS, MOST_CELLS, MOST_LOCAL}
 use Rattle.brc_text.specs.Numbers.{number_at}
-use Rattle.brc_excerpt.specs.Excerpts.{quoted}
-use Rattle.brc_excerpt.specs.declared.excerpt.TheConstants.{MOST_SHOWN}
+use Rattle.brc_text.specs.Excerpts.{quoted}
+use Rattle.brc_text.specs.declared.excerpt.TheConstants.{MOST_SHOWN}
 use Rattle.brc_program.specs.Takes.{argument_at, is_option, wants_value, is_dashed, is_command, is_behind_dashes, is_taken}
 use Rattle.brc_program.specs.declared.unread.Misfit.{Misfit}
 use Rattle.brc_program.specs.declared.unread.Misfit.TheVariants as misfits

@@ -17,7 +17,7 @@ use crate::telling::put_told;
 use crate::unread::why_unread;
 use brc_graph::{Undrawn, draw};
 use brc_mistakes::mistake_of;
-use brc_run_text::{Notes, RunEnded, RunOptions, put_notes, run_script, run_script_explained};
+use brc_run::{Notes, RunEnded, RunOptions, put_notes, run_script, run_script_explained};
 use brc_text::put_bytes;
 use brc_trace::{Unreplayed, run_replay, run_replay_explained};
 use brc_words::Fault;

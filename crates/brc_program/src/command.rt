@@ -5,10 +5,10 @@ ghost use Rattle.std.specs.Prelude.{IfErr, IfOk, IfSome, IsTrue};
 ghost use Rattle.std.specs.Option.{option_and_then};
 ghost use Rattle.brc_text.specs.Numbers.{number_at};
 ghost use Rattle.brc_program.specs.Command.{AreWords, IfRun, is_explain, asks_why, is_to_explain};
-ghost use Rattle.brc_run_text.specs.Words.{AreRunOptions};
+ghost use Rattle.brc_run.specs.Words.{AreRunOptions};
 
 use crate::help::{ABOUT, MORE, OF_GRAPH, OF_REPLAY, OF_RUN};
-use brc_run_text::{MOST_TURNS, RunOptions};
+use brc_run::{MOST_TURNS, RunOptions};
 use brc_text::number_of;
 use brc_words::{FEWEST_CELLS, Fault, MOST_CELLS, MOST_LOCAL};
 use clap::error::ErrorKind;

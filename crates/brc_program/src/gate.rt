@@ -1,6 +1,6 @@
 //! The gate of the program's sections.
 
-use brc_run_text::Gate;
+use brc_run::Gate;
 use std::sync::Wait;
 
 /// Lets each instruction start at once.

@@ -3,7 +3,7 @@
 //!
 //! What `brc replay`, `brc run` and `brc graph` ask for is the contract of `read_words`, and that the numbers of a run
 //! are within their limits; what a trace comes to is that of `brc_trace::run_replay`, what a script comes to that of
-//! `brc_run_text::run_script`, and what a report or a world comes to that of `brc_graph::draw`. Nothing here is of one
+//! `brc_run::run_script`, and what a report or a world comes to that of `brc_graph::draw`. Nothing here is of one
 //! process, so that tests call it with streams in memory.
 #![tactic(auto)]
 

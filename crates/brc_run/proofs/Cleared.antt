@@ -4,13 +4,13 @@ use Rattle.std.proofs.Common.{refl, sym, ◌∙◌, ap}
 use Rattle.std.specs.Prelude.{Ok}
 use Rattle.std.proofs.lemmas.Bool.{and_parts, eq-eqb, true≢false}
 use Rattle.brc_words.specs.declared.limits.TheConstants.{GLOBALS}
-use Rattle.brc_count.specs.law.world.declared.event.Change.TheVariants.{Keep}
-use Rattle.brc_count.specs.law.world.declared.event.Step.TheVariants.{Lock, Unlock}
+use Rattle.brc_count.specs.law.declared.world.event.Change.TheVariants.{Keep}
+use Rattle.brc_count.specs.law.declared.world.event.Step.TheVariants.{Lock, Unlock}
 use Rattle.brc_count.proofs.law.known.Kept_Law.{places_kept}
-use Rattle.brc_count.specs.law.rule.declared.contents.Contents.{Contents}
-use Rattle.brc_count.specs.law.rule.declared.told.Moved.TheVariants as moves
-use Rattle.brc_count.specs.law.rule.declared.told.LogItem.{LogItem}
-use Rattle.brc_count.specs.law.rule.declared.told.LogItem.TheVariants.{Stepped, Loaded, Lost}
+use Rattle.brc_count.specs.law.declared.rule.contents.Contents.{Contents}
+use Rattle.brc_count.specs.law.declared.rule.told.Moved.TheVariants as moves
+use Rattle.brc_count.specs.law.declared.rule.told.LogItem.{LogItem}
+use Rattle.brc_count.specs.law.declared.rule.told.LogItem.TheVariants.{Stepped, Loaded, Lost}
 use Rattle.brc_count.specs.law.rule.Logs.{log_items, put_in, entries_in}
 use Rattle.brc_count.specs.law.living.Quiet.{is_quiet, only_lets_go, Quietly, NoItem, OneMore}
 use Rattle.brc_count.proofs.law.living.Quiet_Items.{lock_names}

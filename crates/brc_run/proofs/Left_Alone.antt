@@ -5,9 +5,9 @@ use Rattle.std.proofs.Common.{Some, None, refl, sym, ◌∙◌, ap, subst, inl, 
 use Rattle.std.proofs.lemmas.Bool.{cases_eq, eq-eqb, ne_eqb, and_parts, lt-ltb, ltb-true, true≢false}
 use Rattle.std.proofs.lemmas.List.{length-set, get_or-set_same, get_or_push}
 use Rattle.std.specs.Cmp.Derive.{both_true}
-use Rattle.brc_count.specs.law.world.declared.event.Event.{Event}
-use Rattle.brc_count.specs.law.world.declared.event.Step.{Step}
-use Rattle.brc_count.specs.law.world.declared.event.Step.TheVariants.{Register, Gather}
+use Rattle.brc_count.specs.law.declared.world.event.Event.{Event}
+use Rattle.brc_count.specs.law.declared.world.event.Step.{Step}
+use Rattle.brc_count.specs.law.declared.world.event.Step.TheVariants.{Register, Gather}
 use Rattle.brc_count.specs.law.world.Heap.{Heap, new_row, again_row, is_registered, is_gathered, AreOptions}
 use Rattle.brc_count.specs.law.world.Runs.{IsReached}
 use Rattle.brc_count.specs.law.world.Sound.{IsSound}
@@ -23,11 +23,11 @@ use Rattle.brc_count.specs.law.known.Root.{gathered_of, rows_of}
 use Rattle.brc_count.proofs.law.known.Items_Runs.{events_run}
 use Rattle.brc_count.proofs.law.known.Root_Law.{never_root, gathered_are_told, rows_are_told}
 use Rattle.brc_count.proofs.law.known.Starting.{run_reached}
-use Rattle.brc_count.specs.law.rule.declared.contents.Contents.{Contents}
-use Rattle.brc_count.specs.law.rule.declared.told.Moved.{Moved}
-use Rattle.brc_count.specs.law.rule.declared.told.Moved.TheVariants as moves
-use Rattle.brc_count.specs.law.rule.declared.told.LogItem.{LogItem}
-use Rattle.brc_count.specs.law.rule.declared.told.LogItem.TheVariants.{Stepped, Loaded, Lost}
+use Rattle.brc_count.specs.law.declared.rule.contents.Contents.{Contents}
+use Rattle.brc_count.specs.law.declared.rule.told.Moved.{Moved}
+use Rattle.brc_count.specs.law.declared.rule.told.Moved.TheVariants as moves
+use Rattle.brc_count.specs.law.declared.rule.told.LogItem.{LogItem}
+use Rattle.brc_count.specs.law.declared.rule.told.LogItem.TheVariants.{Stepped, Loaded, Lost}
 use Rattle.brc_count.specs.law.rule.Logs.{item_of, log_items, Run, items_of, begins, own_of, gathered_by, lives_on, lives_of, world}
 use Rattle.brc_count.specs.law.rule.Logs.{put_in, contents_at, entries_found, puts, MovesWith, IsLegal}
 use Rattle.brc_count.proofs.law.rule.Own_Logs.{own_items, own_more, own_same}
@@ -57,11 +57,11 @@ rest_is e = cc
 none_first : {X : Type 0} {y : X} {ys : List X} → [] ≡ y ∷ ys → ⊥
 none_first e = cc
 
-saw_is_no_step : (s : Step) (m : ℕ) (moved : Moved) (w : Rattle.brc_count.specs.law.known.declared.word.Word.Word) (k : ℕ)
+saw_is_no_step : (s : Step) (m : ℕ) (moved : Moved) (w : Rattle.brc_count.specs.law.declared.known.word.Word.Word) (k : ℕ)
     → Loaded w k ≡ Stepped s m moved → ⊥
 saw_is_no_step s m moved w k e = cc
 
-lost_is_no_step : (s : Step) (m : ℕ) (moved : Moved) (w : Rattle.brc_count.specs.law.known.declared.word.Word.Word) (k : ℕ)
+lost_is_no_step : (s : Step) (m : ℕ) (moved : Moved) (w : Rattle.brc_count.specs.law.declared.known.word.Word.Word) (k : ℕ)
     → Lost w k ≡ Stepped s m moved → ⊥
 lost_is_no_step s m moved w k e = cc
 

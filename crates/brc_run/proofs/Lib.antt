@@ -5,5 +5,9 @@ mod One_Heap
 mod Left_Alone
 mod Cleared
 mod Retired_Quietly
-mod Telling
+mod Run_Told
 mod Reported
+mod Run_Laws
+mod Tell_Laws
+pub mod Put_Some
+pub mod Cutting

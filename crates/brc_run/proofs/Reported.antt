@@ -8,21 +8,21 @@ use Rattle.brc_script.specs.declared.script.Section.{Section}
 use Rattle.brc_section.specs.declared.section.SectionEnd.{SectionEnd}
 use Rattle.brc_count.specs.table.Seated.{TableSeen, RootSeen}
 use Rattle.brc_run.specs.declared.crew.Done.{Done}
-use Rattle.brc_count.specs.law.rule.declared.view.View.{View}
-use Rattle.brc_count.specs.law.rule.declared.told.Moved.TheVariants.{Nothing}
-use Rattle.brc_count.specs.law.rule.declared.told.LogItem.TheVariants.{Stepped}
+use Rattle.brc_count.specs.law.declared.rule.view.View.{View}
+use Rattle.brc_count.specs.law.declared.rule.told.Moved.TheVariants.{Nothing}
+use Rattle.brc_count.specs.law.declared.rule.told.LogItem.TheVariants.{Stepped}
 use Rattle.brc_count.specs.law.rule.Logs.{Run, own_of, lives_of, world, entries_in, contents_at}
 use Rattle.brc_count.specs.law.steps.Joining.{next_thread}
-use Rattle.brc_count.specs.law.world.declared.event.Step.TheVariants.{Register, Gather}
+use Rattle.brc_count.specs.law.declared.world.event.Step.TheVariants.{Register, Gather}
 use Rattle.brc_count.specs.law.world.Heap.{Heap, AreOptions}
 use Rattle.brc_words.specs.declared.limits.TheConstants.{FIRST_MORTAL, GLOBALS}
 use Rattle.brc_report.specs.Running.{entries_of_first}
 use Rattle.brc_thread.specs.Emptied.{used_from}
-use Rattle.brc_close.specs.Contents.{content_at, contents_of_heap}
+use Rattle.brc_heap.specs.Contents.{content_at, contents_of_heap}
 use Rattle.brc_count.specs.law.rule.Opening.{first_view}
 use Rattle.brc_report.specs.declared.report.Report.{Report}
 use Rattle.brc_thread.specs.Counting.{registrations, gatherings}
-use Rattle.brc_close.specs.Closing.{IsReportOfEnd}
+use Rattle.brc_heap.specs.Closing.{IsReportOfEnd}
 use Rattle.brc_run.specs.declared.options.RunOptions.{RunOptions}
 use Rattle.brc_run.specs.Options.{AreRunOptions}
 use Rattle.brc_run.specs.Runs.{InOrder, EndsAs, EachTells, CameBack, ThreadLife, RootTakesIn, ClearsUp, TakesInAll}
@@ -31,7 +31,7 @@ use Rattle.brc_run.specs.Runs.{life_of, left_in}
 use Rattle.brc_run.proofs.Left_Alone.{left_alone}
 use Rattle.brc_run.proofs.Ordered.{as_many}
 use Rattle.brc_run.proofs.Taken.{takes_both}
-use Rattle.brc_run.proofs.Telling.{each_tells, each_tells_before, turned_round}
+use Rattle.brc_run.proofs.Run_Told.{each_tells, each_tells_before, turned_round}
 
 module _ {A : Type 0} where
   -- where each thread has an end, these are the sections'

@@ -1,19 +1,19 @@
 -- As a thread retires its log goes on, nothing is born, and nothing is put home. Before it hands over it only lets go,
 -- and after that, too; a hand-over begins with an Offer, by which an object is private no more.
 use Rattle.std.proofs.Common.{◌≡◌, ℕ, List, ◌∷◌, Option, refl, sym, ap, subst, ◌∙◌}
-use Rattle.brc_count.specs.law.rule.declared.contents.Contents.{Contents}
-use Rattle.brc_count.specs.law.rule.declared.told.Moved.TheVariants.{Nothing}
-use Rattle.brc_count.specs.law.rule.declared.told.LogItem.{LogItem}
-use Rattle.brc_count.specs.law.rule.declared.told.LogItem.TheVariants.{Stepped, Loaded}
-use Rattle.brc_count.specs.law.world.declared.event.LastDropped.TheVariants as lasts
-use Rattle.brc_count.specs.law.world.declared.event.Step.TheVariants.{Close, Offer, Untie, MergeAdd, LastDown}
+use Rattle.brc_count.specs.law.declared.rule.contents.Contents.{Contents}
+use Rattle.brc_count.specs.law.declared.rule.told.Moved.TheVariants.{Nothing}
+use Rattle.brc_count.specs.law.declared.rule.told.LogItem.{LogItem}
+use Rattle.brc_count.specs.law.declared.rule.told.LogItem.TheVariants.{Stepped, Loaded}
+use Rattle.brc_count.specs.law.declared.world.event.LastDropped.TheVariants as lasts
+use Rattle.brc_count.specs.law.declared.world.event.Step.TheVariants.{Close, Offer, Untie, MergeAdd, LastDown}
 use Rattle.brc_count.specs.law.living.Quiet.{Quietly, NoItem, OneMore}
 use Rattle.brc_count.specs.law.living.Later.{IsLater}
 use Rattle.brc_count.proofs.law.living.Earlier.{later_same, later_one, later_both, quietly_later}
 use Rattle.brc_count.proofs.law.living.Quiet_Items.{quietly_joined}
 use Rattle.law_isolation.proofs.Quiet_Lives.{allocs_quietly}
-use Rattle.brc_count.specs.law.known.declared.word.Field.TheVariants.{Local}
-use Rattle.brc_count.specs.law.known.declared.word.Word.TheVariants.{Of}
+use Rattle.brc_count.specs.law.declared.known.word.Field.TheVariants.{Local}
+use Rattle.brc_count.specs.law.declared.known.word.Word.TheVariants.{Of}
 use Rattle.brc_count.specs.law.rule.Seen.{part_seen}
 use Rattle.brc_count.specs.block.declared.payload.Payload.{Payload}
 use Rattle.brc_count.specs.table.Seated.{SeatSeen}

@@ -11,8 +11,8 @@ use Rattle.brc_count.specs.law.known.Root.{marks_of, marks_on, registrations_of,
 use Rattle.brc_count.specs.law.world.Steps.{first_gathered}
 use Rattle.std.proofs.lemmas.Bool.{cases_lt, lt-ltb, le-ltb}
 use Rattle.std.proofs.lemmas.List.{length-set, length-append}
-use Rattle.brc_count.specs.law.world.declared.event.Step.TheVariants.{Register, Gather}
-use Rattle.brc_count.specs.law.rule.declared.view.View.{View}
+use Rattle.brc_count.specs.law.declared.world.event.Step.TheVariants.{Register, Gather}
+use Rattle.brc_count.specs.law.declared.rule.view.View.{View}
 use Rattle.brc_count.specs.law.rule.Logs.{log_items, entries_in}
 use Rattle.brc_count.specs.law.steps.Joining.{next_thread, registering, gathering}
 use Rattle.brc_count.specs.table.Seated.{RootSeen, view_of}

@@ -14,16 +14,16 @@ use Rattle.brc_section.specs.declared.section.SectionEnd.{SectionEnd}
 use Rattle.brc_report.specs.declared.report.Report.{Report}
 use Rattle.brc_report.specs.Cycles.{holder_in}
 use Rattle.brc_report.specs.Running.{entries_of_first, RunsInto}
-use Rattle.brc_count.specs.law.rule.declared.contents.Contents.{Contents}
-use Rattle.brc_count.specs.law.rule.declared.told.LogItem.{LogItem}
-use Rattle.brc_count.specs.law.rule.declared.view.View.{View}
+use Rattle.brc_count.specs.law.declared.rule.contents.Contents.{Contents}
+use Rattle.brc_count.specs.law.declared.rule.told.LogItem.{LogItem}
+use Rattle.brc_count.specs.law.declared.rule.view.View.{View}
 use Rattle.brc_count.specs.law.rule.Logs.{lives_of, put_in, entries_in}
 use Rattle.brc_count.specs.law.steps.Joining.{registering, gathering}
 use Rattle.brc_count.specs.table.Seated.{TableSeen, RootSeen}
 use Rattle.brc_count.specs.Frames.{FrameSeen, ledger_seen}
 use Rattle.brc_thread.specs.Counting.{registrations, gatherings}
 use Rattle.brc_thread.specs.Threads.{ledger_of}
-use Rattle.brc_close.specs.Closing.{IsReportOfEnd}
+use Rattle.brc_heap.specs.Closing.{IsReportOfEnd}
 use Rattle.brc_run.specs.declared.crew.Done.{Done}
 use Rattle.brc_run.specs.declared.options.RunOptions.{RunOptions}
 use Rattle.brc_run.specs.declared.starting.Begun.{Begun}

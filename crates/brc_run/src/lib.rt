@@ -8,12 +8,33 @@
 
 mod clearing;
 mod crew;
+mod ended;
+mod explained;
+mod fault;
 mod gathering;
 mod joining;
+mod names;
+mod notes;
 mod options;
+mod phrases;
+mod places;
+mod reasons;
+mod section;
+mod section_lines;
 mod sections;
 mod starting;
+mod telling;
+mod watch;
+mod whole;
+mod words;
 
 pub use brc_section::{Gate, Operands, SectionEnd, first_operand, second_operand};
 pub use options::{MOST_TURNS, RunOptions};
 pub use sections::{RunReport, run_sections};
+pub use ended::RunEnded;
+pub use explained::{Explained, run_script_explained};
+pub use names::name_of_number;
+pub use notes::{Notes, put_notes};
+pub use section::write_section;
+pub use telling::write_run;
+pub use whole::run_script;

@@ -3,7 +3,7 @@
 ghost use Rattle.std.specs.Prelude.{◌≡◌, ◌↔◌, ◌⊎◌, ◌<◌, ◌≤◌, ◌+◌, [], Err, IfOk, IfErr, length, vec_capacity};
 ghost use Rattle.brc_words.specs.declared.fault.Fault.TheVariants as faults;
 ghost use Rattle.brc_thread.specs.Counting.{registrations, gatherings};
-ghost use Rattle.brc_close.specs.Closing.{IsReportOfEnd};
+ghost use Rattle.brc_heap.specs.Closing.{IsReportOfEnd};
 ghost use Rattle.brc_run.specs.Options.{AreRunOptions};
 ghost use Rattle.brc_run.specs.Runs.{EndsAs, InOrder, TakesInAll, IsReportOf};
 
@@ -12,7 +12,7 @@ use crate::crew::{Done, RunContext, register_all};
 use crate::gathering::{dismiss_all, gather_all};
 use crate::joining::run_all;
 use crate::options::RunOptions;
-use brc_close::{CloseFault, close};
+use brc_heap::{CloseFault, close};
 use brc_heap::{Heap, Options, Resting, Root, give_back, take_apart};
 use brc_report::Report;
 use brc_script::{Script, Section};

@@ -1,11 +1,11 @@
 -- Of the words after the first a closing thread need not be asked what it owns.
 use Rattle.std.proofs.Common.{◌≡◌, ℕ, ◌<◌, ◌==◌, ◌&&◌, true, false, sym, ap, arith}
 use Rattle.std.proofs.lemmas.Bool.{and_parts, eqb-true, true≢false}
-use Rattle.law_world.specs.declared.event.Step.TheVariants.{Close}
-use Rattle.law_world.specs.declared.row.Stage.{Stage}
-use Rattle.law_world.specs.declared.row.Stage.TheVariants as stages
-use Rattle.law_world.specs.Heap.{Heap, row_at}
-use Rattle.law_world.specs.Steps.{closes_next, own_ok_at, others_ok}
+use Rattle.law.specs.declared.world.event.Step.TheVariants.{Close}
+use Rattle.law.specs.declared.world.row.Stage.{Stage}
+use Rattle.law.specs.declared.world.row.Stage.TheVariants as stages
+use Rattle.law.specs.world.Heap.{Heap, row_at}
+use Rattle.law.specs.world.Steps.{closes_next, own_ok_at, others_ok}
 use Rattle.brc_state.specs.Closers.{ClosersHaveLeft}
 
 -- whoever closes another word than the first has closed the one before

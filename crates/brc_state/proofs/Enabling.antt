@@ -3,12 +3,12 @@
 use Rattle.std.proofs.Common.{◌≡◌, ℕ, ◌/◌, ◌<◌, ◌≤◌, nat_lt, true, Some, Option, length, subst, arith}
 use Rattle.std.proofs.lemmas.Bool.{and_parts, ltb-true}
 use Rattle.brc_words.specs.declared.limits.TheConstants.{MOST_CELLS}
-use Rattle.law_world.proofs.Asking.{may_parts, OnCell, on_cell}
-use Rattle.law_world.specs.declared.event.Change.{Change}
-use Rattle.law_world.specs.declared.event.Step.{Step}
-use Rattle.law_world.specs.declared.event.Step.TheVariants.{Close, Nudge, Unlock, Reopen}
-use Rattle.law_world.specs.Heap.{Heap, cell_at, entries_at, row_at, frame_at, words_for}
-use Rattle.law_world.specs.Steps.{target_at, target_ok, cell_ok, change_ok, locked_entries, thread_may}
+use Rattle.law.proofs.world.Asking.{may_parts, OnCell, on_cell}
+use Rattle.law.specs.declared.world.event.Change.{Change}
+use Rattle.law.specs.declared.world.event.Step.{Step}
+use Rattle.law.specs.declared.world.event.Step.TheVariants.{Close, Nudge, Unlock, Reopen}
+use Rattle.law.specs.world.Heap.{Heap, cell_at, entries_at, row_at, frame_at, words_for}
+use Rattle.law.specs.world.Steps.{target_at, target_ok, cell_ok, change_ok, locked_entries, thread_may}
 use Rattle.brc_state.specs.Effects.{named_word}
 
 -- the thread has a row

@@ -2,7 +2,7 @@
 use Rattle.std.proofs.Common.{◌≡◌, ℕ, ◌+◌, ◌<◌, ◌≤◌, Bool, true, false, List, [], ◌∷◌, zero, suc, length, drop, get_or}
 use Rattle.std.proofs.Common.{refl, sym, ap, ◌∙◌, add-one, arith}
 use Rattle.std.proofs.lemmas.Bool.{true≢false}
-use Rattle.law_world.specs.Steps.{first_gathered}
+use Rattle.law.specs.world.Steps.{first_gathered}
 
 -- none of the numbers below this one is gathered
 pub record Searched (xs : List Bool) (n : ℕ) : Type 0 where

@@ -1,12 +1,12 @@
 -- What a step's parts say of it: a step that doesn't unlock is its parts, and only one that fills a place needs memory.
 use Rattle.std.proofs.Common.{◌≡◌, ℕ, List, Option, true, false, is_some, refl, sym}
 use Rattle.std.proofs.lemmas.Bool.{true≢false}
-use Rattle.law_world.specs.declared.cell.Cell.{Cell}
-use Rattle.law_world.specs.declared.event.Change.{Change}
-use Rattle.law_world.specs.declared.event.Step.{Step}
-use Rattle.law_world.specs.declared.event.Step.TheVariants.{Birth, LocalUp, SharedUp, Unlock}
-use Rattle.law_world.specs.Steps.{is_unlock, filled_place, gone, born_cell, frame_with, entries_with, frame_after}
-use Rattle.law_world.specs.Steps.{entries_after}
+use Rattle.law.specs.declared.world.cell.Cell.{Cell}
+use Rattle.law.specs.declared.world.event.Change.{Change}
+use Rattle.law.specs.declared.world.event.Step.{Step}
+use Rattle.law.specs.declared.world.event.Step.TheVariants.{Birth, LocalUp, SharedUp, Unlock}
+use Rattle.law.specs.world.Steps.{is_unlock, filled_place, gone, born_cell, frame_with, entries_with, frame_after}
+use Rattle.law.specs.world.Steps.{entries_after}
 use Rattle.brc_state.specs.Memory.{needs_memory}
 
 pub frame_by_parts : (s : Step) (c : ℕ) (x : Cell) (entries : List ℕ) (frame : List (Option ℕ)) → is_unlock s ≡ false

@@ -2,11 +2,11 @@
 use Rattle.std.proofs.Common.{◌≡◌, ◌↔◌, ℕ, ◌==◌, ◌&&◌, not, Bool, true, false, if◌then◌else◌, Option, None, Some}
 use Rattle.std.proofs.Common.{is_none, is_some, refl, sym, ap, ◌∙◌}
 use Rattle.std.proofs.lemmas.Bool.{true≢false}
-use Rattle.law_world.specs.declared.event.Event.{Event}
-use Rattle.law_world.specs.declared.event.Step.{Step}
-use Rattle.law_world.specs.declared.event.Step.TheVariants.{Register, Gather}
-use Rattle.law_world.specs.Heap.{Heap, row_at}
-use Rattle.law_world.specs.Steps.{target_ok, thread_may, root_may, enabled}
+use Rattle.law.specs.declared.world.event.Event.{Event}
+use Rattle.law.specs.declared.world.event.Step.{Step}
+use Rattle.law.specs.declared.world.event.Step.TheVariants.{Register, Gather}
+use Rattle.law.specs.world.Heap.{Heap, row_at}
+use Rattle.law.specs.world.Steps.{target_ok, thread_may, root_may, enabled}
 use Rattle.brc_state.specs.declared.refusing.Refusal.{Refusal}
 use Rattle.brc_state.specs.Refusals.{unless, is_roots, cell_refusal, thread_refusal, root_refusal, refusal_of}
 

@@ -1,12 +1,12 @@
 -- What a thread's step does to one of the tables, whole: one item of it changes, by the definitions of `law_world`.
 use Rattle.std.specs.Prelude.{ℕ, Bool, List, [], Option, slice_index_or, slice_set}
-use Rattle.law_world.specs.declared.event.Change.{Change}
-use Rattle.law_world.specs.declared.event.Dropped.{Dropped}
-use Rattle.law_world.specs.declared.event.Step.{Step}
-use Rattle.law_world.specs.declared.event.Step.TheVariants.{Close, Nudge, Reopen}
-use Rattle.law_world.specs.Heap.{Heap, entries_at, frame_at}
-use Rattle.law_world.specs.Steps.{frame_with, without_settled, worklist_with, frame_changed, entries_changed}
-use Rattle.law_world.specs.Steps.{with_drained, without_drained}
+use Rattle.law.specs.declared.world.event.Change.{Change}
+use Rattle.law.specs.declared.world.event.Dropped.{Dropped}
+use Rattle.law.specs.declared.world.event.Step.{Step}
+use Rattle.law.specs.declared.world.event.Step.TheVariants.{Close, Nudge, Reopen}
+use Rattle.law.specs.world.Heap.{Heap, entries_at, frame_at}
+use Rattle.law.specs.world.Steps.{frame_with, without_settled, worklist_with, frame_changed, entries_changed}
+use Rattle.law.specs.world.Steps.{with_drained, without_drained}
 
 -- ---- a step on one cell
 

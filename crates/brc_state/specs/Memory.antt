@@ -1,9 +1,9 @@
 -- Which steps may need memory: those that fill a place of a frame or add an entry, and a registration.
 use Rattle.std.specs.Prelude.{Bool, true, false}
-use Rattle.law_world.specs.declared.event.Change.{Change}
-use Rattle.law_world.specs.declared.event.Change.TheVariants as changes
-use Rattle.law_world.specs.declared.event.Step.{Step}
-use Rattle.law_world.specs.declared.event.Step.TheVariants.{Birth, LocalUp, SharedUp, Unlock, Register}
+use Rattle.law.specs.declared.world.event.Change.{Change}
+use Rattle.law.specs.declared.world.event.Change.TheVariants as changes
+use Rattle.law.specs.declared.world.event.Step.{Step}
+use Rattle.law.specs.declared.world.event.Step.TheVariants.{Birth, LocalUp, SharedUp, Unlock, Register}
 
 -- an exchange fills a place that has a cell
 abbrev pub moves_one : Change → Bool

@@ -1,13 +1,13 @@
 -- What a thread's own part says of a step, read in a world.
 use Rattle.std.specs.Prelude.{ℕ, nat_lt, ◌&&◌, Bool, List, Option, length}
-use Rattle.law_world.specs.declared.event.Change.{Change}
-use Rattle.law_world.specs.declared.event.Source.{Source}
-use Rattle.law_world.specs.declared.event.Dropped.{Dropped}
-use Rattle.law_world.specs.declared.event.LastDropped.{LastDropped}
-use Rattle.law_world.specs.Lists.{is_bare}
-use Rattle.law_world.specs.Heap.{Heap, entries_at, row_at, frame_at, popped_at, worklist_at, words_for}
-use Rattle.law_world.specs.Steps.{locked_at, locked_cell, source_cell, dropped_cell, last_cell, locked_entries}
-use Rattle.law_world.specs.Steps.{change_ok, closes_next, may_begin_closing}
+use Rattle.law.specs.declared.world.event.Change.{Change}
+use Rattle.law.specs.declared.world.event.Source.{Source}
+use Rattle.law.specs.declared.world.event.Dropped.{Dropped}
+use Rattle.law.specs.declared.world.event.LastDropped.{LastDropped}
+use Rattle.law.specs.world.Lists.{is_bare}
+use Rattle.law.specs.world.Heap.{Heap, entries_at, row_at, frame_at, popped_at, worklist_at, words_for}
+use Rattle.law.specs.world.Steps.{locked_at, locked_cell, source_cell, dropped_cell, last_cell, locked_entries}
+use Rattle.law.specs.world.Steps.{change_ok, closes_next, may_begin_closing}
 
 -- the entries of the object that the thread has locked
 abbrev pub locked_entries_at : Heap → ℕ → List ℕ

@@ -2,13 +2,13 @@
 use Rattle.std.specs.Prelude.{ℕ, ◌==◌, nat_lt, nat_le, ◌&&◌, not, Bool, true, false, if◌then◌else◌, Option, Some, None}
 use Rattle.std.specs.Prelude.{length}
 use Rattle.brc_words.specs.declared.limits.TheConstants.{MOST_THREADS}
-use Rattle.law_world.specs.declared.event.Event.{Event}
-use Rattle.law_world.specs.declared.event.Step.{Step}
-use Rattle.law_world.specs.declared.event.Step.TheVariants.{Register, Gather}
-use Rattle.law_world.specs.Heap.{Heap, cell_at, row_at, popped_at, worklist_at, is_registered, is_gathered}
-use Rattle.law_world.specs.Lists.{is_blank, is_unmarked}
-use Rattle.law_world.specs.Steps.{stage_ok, lock_ok, hand_ok, own_ok_at, others_ok, edition_ok, number_ok}
-use Rattle.law_world.specs.Steps.{needs_no_cell, cell_ok, target_at, is_left, is_free_hand}
+use Rattle.law.specs.declared.world.event.Event.{Event}
+use Rattle.law.specs.declared.world.event.Step.{Step}
+use Rattle.law.specs.declared.world.event.Step.TheVariants.{Register, Gather}
+use Rattle.law.specs.world.Heap.{Heap, cell_at, row_at, popped_at, worklist_at, is_registered, is_gathered}
+use Rattle.law.specs.world.Lists.{is_blank, is_unmarked}
+use Rattle.law.specs.world.Steps.{stage_ok, lock_ok, hand_ok, own_ok_at, others_ok, edition_ok, number_ok}
+use Rattle.law.specs.world.Steps.{needs_no_cell, cell_ok, target_at, is_left, is_free_hand}
 use Rattle.brc_state.specs.declared.refusing.Refusal.{Refusal}
 use Rattle.brc_state.specs.declared.refusing.Refusal.TheVariants as refusals
 

@@ -1,14 +1,14 @@
 //! What an enabled event does to a world.
 
 ghost use Rattle.std.specs.Prelude.{◌≡◌, ◌+◌, ◌<◌, ◌≤◌, ◌^◌, ℕ, true, OnOk, OnErr, length};
-ghost use Rattle.law_world.specs.Heap.{cell_at, row_at};
-ghost use Rattle.law_world.specs.Steps.{enabled, thread_may, target_at, stepped, after};
+ghost use Rattle.law.specs.world.Heap.{cell_at, row_at};
+ghost use Rattle.law.specs.world.Steps.{enabled, thread_may, target_at, stepped, after};
 ghost use Rattle.brc_state.specs.Memory.{needs_memory};
 ghost use Rattle.brc_words.specs.Shared.{CountFits};
 
 use crate::tables::Tables;
 use brc_words::MOST_CELLS;
-use law_world::{Event, Step};
+use law::world::{Event, Step};
 use std::alloc::{AllocError, Allocator};
 
 impl<A: Allocator + Copy> Tables<A> {

@@ -1,8 +1,8 @@
 //! Words of bits, each for 32 cells: of each thread its merge queue, and what it has popped.
 
 ghost use Rattle.std.specs.Prelude.{◌≡◌, ◌==◌, ◌^◌, ◌%◌, ◌<◌, replicate, slice_set, bit_or, IfOk};
-ghost use Rattle.law_world.specs.Lists.{bit_of, word_at, with_bit, without_bit, is_blank};
-ghost use Rattle.law_world.specs.Steps.{queues_with};
+ghost use Rattle.law.specs.world.Lists.{bit_of, word_at, with_bit, without_bit, is_blank};
+ghost use Rattle.law.specs.world.Steps.{queues_with};
 ghost use Rattle.brc_state.specs.Effects.{popped_without, popped_with, queues_without};
 
 use std::alloc::{AllocError, Allocator};

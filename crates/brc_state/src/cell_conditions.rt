@@ -1,13 +1,13 @@
 //! When a step is enabled: what the one cell that it means must be.
 
 ghost use Rattle.std.specs.Prelude.{◌≡◌};
-ghost use Rattle.law_world.specs.Steps.{is_owned_by, is_nobody, is_free, is_default, is_queued, is_merged, is_zero};
-ghost use Rattle.law_world.specs.Steps.{is_positive, is_mine, counts_up_locally, is_others, untied_ok, ends_ok};
-ghost use Rattle.law_world.specs.Steps.{last_ok, is_keep, cell_ok};
+ghost use Rattle.law.specs.world.Steps.{is_owned_by, is_nobody, is_free, is_default, is_queued, is_merged, is_zero};
+ghost use Rattle.law.specs.world.Steps.{is_positive, is_mine, counts_up_locally, is_others, untied_ok, ends_ok};
+ghost use Rattle.law.specs.world.Steps.{last_ok, is_keep, cell_ok};
 
 use crate::conditions::is_active;
 use brc_words::{FIRST_MORTAL, Owner, State, is_container_kind};
-use law_world::{Cell, Change, Hand, LastDropped, Phase, Row, Stage, Step, is_immortal};
+use law::world::{Cell, Change, Hand, LastDropped, Phase, Row, Stage, Step, is_immortal};
 
 /// Whether the thread owns what has this owner.
 #[inline(always)]

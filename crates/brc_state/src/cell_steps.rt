@@ -1,8 +1,8 @@
 //! The steps of a thread on one cell that don't unlock it: what each does to every one of the tables.
 
 ghost use Rattle.std.specs.Prelude.{◌≡◌, ◌+◌, ◌<◌, ◌^◌, true, false, OnOk, OnErr, length};
-ghost use Rattle.law_world.specs.Heap.{cell_at, row_at};
-ghost use Rattle.law_world.specs.Steps.{cell_ok, is_shut, is_unlock, stepped};
+ghost use Rattle.law.specs.world.Heap.{cell_at, row_at};
+ghost use Rattle.law.specs.world.Steps.{cell_ok, is_shut, is_unlock, stepped};
 ghost use Rattle.brc_state.specs.Memory.{needs_memory};
 ghost use Rattle.brc_words.specs.Shared.{CountFits};
 
@@ -16,7 +16,7 @@ use crate::entries::change_entries;
 use crate::frames::change_frame;
 use crate::marks::change_marks;
 use crate::tables::Tables;
-use law_world::Step;
+use law::world::Step;
 use std::alloc::{AllocError, Allocator};
 
 impl<A: Allocator + Copy> Tables<A> {

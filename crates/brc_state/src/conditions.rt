@@ -1,12 +1,12 @@
 //! When a step is enabled: what its thread's stage, lock and hand must be.
 
 ghost use Rattle.std.specs.Prelude.{◌≡◌};
-ghost use Rattle.law_world.specs.Phases.{is_ending};
-ghost use Rattle.law_world.specs.Steps.{needs_lock, lock_ok, is_close, is_open, may_after_leaving, stage_ok};
-ghost use Rattle.law_world.specs.Steps.{phase_number, is_free_hand, is_at, is_ending_hand, hand_ok, is_active, is_left};
-ghost use Rattle.law_world.specs.Steps.{is_closed, closes_next, opens_next, is_shut_hand, edition_ok};
+ghost use Rattle.law.specs.world.Phases.{is_ending};
+ghost use Rattle.law.specs.world.Steps.{needs_lock, lock_ok, is_close, is_open, may_after_leaving, stage_ok};
+ghost use Rattle.law.specs.world.Steps.{phase_number, is_free_hand, is_at, is_ending_hand, hand_ok, is_active, is_left};
+ghost use Rattle.law.specs.world.Steps.{is_closed, closes_next, opens_next, is_shut_hand, edition_ok};
 
-use law_world::{Edition, Hand, LastDropped, Phase, Role, Row, Source, Stage, Step};
+use law::world::{Edition, Hand, LastDropped, Phase, Role, Row, Source, Stage, Step};
 
 /// Whether the step is one of those that are made while an object is locked.
 #[inline(always)]

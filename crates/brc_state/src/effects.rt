@@ -1,14 +1,14 @@
 //! What a step does to its one cell and to its thread's row, and which reference, block or mark goes or comes with it.
 
 ghost use Rattle.std.specs.Prelude.{◌≡◌, ◌+◌, ◌<◌, ◌^◌, true};
-ghost use Rattle.law_world.specs.Steps.{cell_ok, cell_after, row_after, untied_hand, added_hand, is_untouched};
-ghost use Rattle.law_world.specs.Steps.{filled_place, born_cell, settled_cell, takes_block, gone, is_enqueue};
-ghost use Rattle.law_world.specs.Steps.{is_free_step};
+ghost use Rattle.law.specs.world.Steps.{cell_ok, cell_after, row_after, untied_hand, added_hand, is_untouched};
+ghost use Rattle.law.specs.world.Steps.{filled_place, born_cell, settled_cell, takes_block, gone, is_enqueue};
+ghost use Rattle.law.specs.world.Steps.{is_free_step};
 ghost use Rattle.brc_words.specs.Shared.{CountFits};
 
 use crate::cell_conditions::{is_default, is_merged, is_zero};
 use brc_words::{Owner, State};
-use law_world::{Cell, Dropped, Hand, LastDropped, Phase, Row, Step, is_immortal};
+use law::world::{Cell, Dropped, Hand, LastDropped, Phase, Row, Step, is_immortal};
 
 /// Whether the shared word is in default at count 0.
 fn is_untouched(found: Cell) -> bool

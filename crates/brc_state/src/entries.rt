@@ -1,10 +1,10 @@
 //! Entries: of each cell the objects that its object refers to, in their order.
 
 ghost use Rattle.std.specs.Prelude.{◌≡◌, ◌<◌, [], ◌∷◌, ◌++◌, length, remove, slice_index_or, slice_set, OnOk, OnErr};
-ghost use Rattle.law_world.specs.Lists.{last_of, front_of};
-ghost use Rattle.law_world.specs.Steps.{entries_with};
+ghost use Rattle.law.specs.world.Lists.{last_of, front_of};
+ghost use Rattle.law.specs.world.Steps.{entries_with};
 
-use law_world::Dropped;
+use law::world::Dropped;
 use std::alloc::{AllocError, Allocator};
 use std::marker::Model;
 

@@ -1,11 +1,11 @@
 //! Frames: of each thread numbered places, each vacant or with the cell that it holds.
 
 ghost use Rattle.std.specs.Prelude.{◌≡◌, [], true, is_some, slice_index_or, slice_set, OnOk, OnErr};
-ghost use Rattle.law_world.specs.Lists.{place_at, reaching, filled, vacated, is_bare};
+ghost use Rattle.law.specs.world.Lists.{place_at, reaching, filled, vacated, is_bare};
 ghost use Rattle.brc_state.specs.Effects.{frames_with};
 
 use crate::tally::recount;
-use law_world::Dropped;
+use law::world::Dropped;
 use std::alloc::{AllocError, Allocator};
 use std::marker::Model;
 
@@ -19,7 +19,7 @@ pub(crate) struct Frame<A: Allocator> {
 
 impl<A: Allocator> Model for Frame<A> {
     ghost use Rattle.std.specs.Prelude.{◌≡◌, ℕ, List, Option};
-    ghost use Rattle.law_world.specs.Lists.{filled_places};
+    ghost use Rattle.law.specs.world.Lists.{filled_places};
 
     ghost Value = { List (Option ℕ) };
 

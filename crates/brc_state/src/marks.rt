@@ -1,7 +1,7 @@
 //! Marks of cells: of each thread the dead blocks that it has on its worklist.
 
 ghost use Rattle.std.specs.Prelude.{◌≡◌, false, replicate, slice_set, IfOk};
-ghost use Rattle.law_world.specs.Lists.{is_marked, is_unmarked};
+ghost use Rattle.law.specs.world.Lists.{is_marked, is_unmarked};
 ghost use Rattle.brc_state.specs.Effects.{worklists_with};
 
 use crate::tally::recount;
@@ -18,7 +18,7 @@ pub(crate) struct Marks<A: Allocator> {
 
 impl<A: Allocator> Model for Marks<A> {
     ghost use Rattle.std.specs.Prelude.{◌≡◌, Bool, List};
-    ghost use Rattle.law_world.specs.Lists.{marked_cells};
+    ghost use Rattle.law.specs.world.Lists.{marked_cells};
 
     ghost Value = { List Bool };
 

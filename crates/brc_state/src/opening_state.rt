@@ -1,7 +1,7 @@
 //! The opening world: the immortals, all other cells free, and no thread but the root.
 
 ghost use Rattle.std.specs.Prelude.{◌≡◌, ◌↔◌, [], ◌∷◌, replicate, IfOk, IsTrue};
-ghost use Rattle.law_world.specs.Heap.{AreOptions, opening_cells, opening_in};
+ghost use Rattle.law.specs.world.Heap.{AreOptions, opening_cells, opening_in};
 
 use crate::bit_words::WordNumbers;
 use crate::entries::EntryNumbers;
@@ -9,7 +9,7 @@ use crate::frames::Frame;
 use crate::marks::Marks;
 use crate::tables::Tables;
 use brc_words::{FEWEST_CELLS, MOST_CELLS, MOST_LOCAL};
-use law_world::{Cell, Edition, no_row, opening_cell};
+use law::world::{Cell, Edition, no_row, opening_cell};
 use std::alloc::{AllocError, Allocator};
 
 /// Whether a heap may have these sizes.

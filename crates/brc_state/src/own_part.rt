@@ -2,15 +2,15 @@
 //! worklist and the object that it has locked.
 
 ghost use Rattle.std.specs.Prelude.{◌≡◌};
-ghost use Rattle.law_world.specs.Heap.{frame_at, popped_at, row_at};
-ghost use Rattle.law_world.specs.Steps.{cell_in_hand, target_at, is_vacant, may_begin_closing, is_unlocked, untie_ok};
-ghost use Rattle.law_world.specs.Steps.{own_ok_at, locked_at};
+ghost use Rattle.law.specs.world.Heap.{frame_at, popped_at, row_at};
+ghost use Rattle.law.specs.world.Steps.{cell_in_hand, target_at, is_vacant, may_begin_closing, is_unlocked, untie_ok};
+ghost use Rattle.law.specs.world.Steps.{own_ok_at, locked_at};
 ghost use Rattle.brc_state.specs.OwnPart.{source_at, dropped_at, last_at, locked_entries_at, close_ok_at, change_ok_at};
 
 use crate::conditions::{closes_next, opens_next};
 use crate::tables::Tables;
 use brc_words::{MOST_BIRTHS, MOST_ENTRIES, MOST_PLACES, is_mortal_kind};
-use law_world::{Change, Dropped, Hand, LastDropped, Source, Step, is_immortal, words_for};
+use law::world::{Change, Dropped, Hand, LastDropped, Source, Step, is_immortal, words_for};
 use std::alloc::Allocator;
 
 /// The cell in the hand.

@@ -2,9 +2,9 @@
 
 ghost use Rattle.std.specs.Prelude.{◌≡◌, ◌↔◌, true, None};
 ghost use Rattle.std.specs.Prelude.{length};
-ghost use Rattle.law_world.specs.Heap.{worklist_at};
-ghost use Rattle.law_world.specs.Steps.{needs_no_cell, own_ok_at, others_ok, target_at, enabled, owned_are_marked};
-ghost use Rattle.law_world.specs.Steps.{may_leave, first_gathered, number_ok};
+ghost use Rattle.law.specs.world.Heap.{worklist_at};
+ghost use Rattle.law.specs.world.Steps.{needs_no_cell, own_ok_at, others_ok, target_at, enabled, owned_are_marked};
+ghost use Rattle.law.specs.world.Steps.{may_leave, first_gathered, number_ok};
 ghost use Rattle.brc_state.specs.Closers.{ClosersHaveLeft};
 ghost use Rattle.brc_state.specs.Refusals.{is_roots, root_refusal, cell_refusal, thread_refusal, refusal_of};
 
@@ -12,7 +12,7 @@ use crate::cell_conditions::{cell_ok, is_owned_by};
 use crate::conditions::{edition_ok, hand_ok, is_free_hand, is_left, lock_ok, stage_ok};
 use crate::tables::Tables;
 use brc_words::{MOST_REGISTRATIONS, MOST_THREADS};
-use law_world::{Edition, Event, Step, no_cell, words_for};
+use law::world::{Edition, Event, Step, no_cell, words_for};
 use std::alloc::Allocator;
 
 /// Which condition of an event fails, of those of `docs/HEAP.md`, section 3, in the order in which they are looked at.

@@ -2,15 +2,15 @@
 
 ghost use Rattle.std.specs.Prelude.{◌≡◌, ◌<◌, ◌+◌, ◌^◌, ℕ, [], ◌∷◌, ◌++◌, true, OnOk, OnErr, slice_set, vec_len};
 ghost use Rattle.std.specs.Prelude.{vec_capacity};
-ghost use Rattle.law_world.specs.Heap.{new_row, row_at, words_for};
-ghost use Rattle.law_world.specs.Steps.{registered, registered_again, gathered_in, root_after};
+ghost use Rattle.law.specs.world.Heap.{new_row, row_at, words_for};
+ghost use Rattle.law.specs.world.Steps.{registered, registered_again, gathered_in, root_after};
 ghost use Rattle.brc_state.specs.Memory.{needs_memory};
 
 use crate::bit_words::WordNumbers;
 use crate::frames::Frame;
 use crate::marks::Marks;
 use crate::tables::Tables;
-use law_world::{Hand, Row, Stage, Step, new_row, words_for};
+use law::world::{Hand, Row, Stage, Step, new_row, words_for};
 use std::alloc::{AllocError, Allocator};
 
 /// Puts the item at the end of a vector that has room for it.

@@ -1,16 +1,16 @@
 //! The tables of a world: one vector for each of its lists, and what is read of them.
 
 ghost use Rattle.std.specs.Prelude.{◌≡◌, ◌==◌, length, slice_get, slice_index_or, Some, None};
-ghost use Rattle.law_world.specs.Lists.{bit_of, place_at, is_marked, last_of, is_bare, is_unmarked, is_blank};
-ghost use Rattle.law_world.specs.Heap.{cell_at, entries_at, row_at, frame_at, popped_at, worklist_at, queue_at};
-ghost use Rattle.law_world.specs.Heap.{is_gathered, is_registered, no_cell, no_row};
-ghost use Rattle.law_world.specs.Steps.{is_empty};
+ghost use Rattle.law.specs.world.Lists.{bit_of, place_at, is_marked, last_of, is_bare, is_unmarked, is_blank};
+ghost use Rattle.law.specs.world.Heap.{cell_at, entries_at, row_at, frame_at, popped_at, worklist_at, queue_at};
+ghost use Rattle.law.specs.world.Heap.{is_gathered, is_registered, no_cell, no_row};
+ghost use Rattle.law.specs.world.Steps.{is_empty};
 
 use crate::bit_words::WordNumbers;
 use crate::entries::EntryNumbers;
 use crate::frames::Frame;
 use crate::marks::Marks;
-use law_world::{Cell, Edition, Row, no_cell, no_row};
+use law::world::{Cell, Edition, Row, no_cell, no_row};
 use std::alloc::Allocator;
 use std::marker::Model;
 
@@ -35,7 +35,7 @@ pub struct Tables<A: Allocator + Copy> {
 }
 
 impl<A: Allocator + Copy> Model for Tables<A> {
-    ghost use Rattle.law_world.specs.Heap.{Heap};
+    ghost use Rattle.law.specs.world.Heap.{Heap};
 
     ghost Value = { Heap };
 

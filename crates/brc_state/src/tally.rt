@@ -1,7 +1,7 @@
 //! How many of a list's items pass a test, kept beside the list while its items change.
 
 ghost use Rattle.std.specs.Prelude.{◌≡◌, ◌+◌, ◌<◌, ◌≤◌, ◌^◌};
-ghost use Rattle.law_world.specs.Lists.{one};
+ghost use Rattle.law.specs.world.Lists.{one};
 
 /// 1 for yes.
 fn one(passes: bool) -> usize

@@ -1,16 +1,16 @@
 //! An unlock: references pass between a frame and the locked object's entries, and the lock goes.
 
 ghost use Rattle.std.specs.Prelude.{◌≡◌, ◌<◌, true, is_some, length, slice_index_or, OnOk, OnErr};
-ghost use Rattle.law_world.specs.Lists.{number_in, place_at};
-ghost use Rattle.law_world.specs.Heap.{entries_at, frame_at, row_at};
-ghost use Rattle.law_world.specs.Steps.{change_ok, stepped};
+ghost use Rattle.law.specs.world.Lists.{number_in, place_at};
+ghost use Rattle.law.specs.world.Heap.{entries_at, frame_at, row_at};
+ghost use Rattle.law.specs.world.Steps.{change_ok, stepped};
 ghost use Rattle.brc_state.specs.Effects.{exchanged};
 ghost use Rattle.brc_state.specs.Memory.{moves_one};
 
 use crate::entries::{add_entry, remove_entry, set_entry};
 use crate::frames::{fill_place, refill_place, vacate_place};
 use crate::tables::Tables;
-use law_world::{Change, Step};
+use law::world::{Change, Step};
 use std::alloc::{AllocError, Allocator};
 
 /// The number in an option, or 0.

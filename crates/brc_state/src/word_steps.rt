@@ -2,14 +2,14 @@
 //! word changes.
 
 ghost use Rattle.std.specs.Prelude.{◌≡◌, ◌/◌, ◌<◌, length};
-ghost use Rattle.law_world.specs.Steps.{closed_more, opened_more, stage_after, drained_word, notify_words_after};
-ghost use Rattle.law_world.specs.Steps.{kept_cells};
+ghost use Rattle.law.specs.world.Steps.{closed_more, opened_more, stage_after, drained_word, notify_words_after};
+ghost use Rattle.law.specs.world.Steps.{kept_cells};
 ghost use Rattle.brc_state.specs.Effects.{named_word};
 
 use crate::bit_words::{empty_drained, only_bit, pop_drained};
 use crate::tables::Tables;
 use brc_words::MOST_CELLS;
-use law_world::{Stage, Step, words_for};
+use law::world::{Stage, Step, words_for};
 use std::alloc::Allocator;
 
 /// The queue word whose bits are popped.

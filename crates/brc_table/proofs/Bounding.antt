@@ -3,15 +3,15 @@ use Rattle.std.proofs.Common.{◌≡◌, ℕ, ◌<◌, ◌≤◌, Bool, true, Li
 use Rattle.std.proofs.lemmas.Bool.{cases_Bool, true≢false}
 use Rattle.atomic_table.specs.Table.{Allows}
 use Rattle.brc_words.specs.declared.limits.TheConstants.{MOST_THREADS}
-use Rattle.law.specs.world.declared.event.Step.TheVariants.{MergeAdd}
+use Rattle.law.specs.declared.world.event.Step.TheVariants.{MergeAdd}
 use Rattle.law.specs.world.Holding.{carries}
-use Rattle.law.specs.known.declared.word.Field.TheVariants.{Owner, Local}
-use Rattle.law.specs.known.declared.word.Word.{Word}
-use Rattle.law.specs.known.declared.word.Word.TheVariants.{Of, Queue}
+use Rattle.law.specs.declared.known.word.Field.TheVariants.{Owner, Local}
+use Rattle.law.specs.declared.known.word.Word.{Word}
+use Rattle.law.specs.declared.known.word.Word.TheVariants.{Of, Queue}
 use Rattle.law.specs.known.Items.{IsWord}
-use Rattle.law.specs.rule.declared.contents.Contents.{Contents}
-use Rattle.law.specs.rule.declared.told.LogItem.TheVariants.{Loaded}
-use Rattle.law.specs.rule.declared.view.View.{View}
+use Rattle.law.specs.declared.rule.contents.Contents.{Contents}
+use Rattle.law.specs.declared.rule.told.LogItem.TheVariants.{Loaded}
+use Rattle.law.specs.declared.rule.view.View.{View}
 use Rattle.law.specs.rule.Layout.{spot}
 use Rattle.law.specs.rule.Rule.{with_told, Kept}
 use Rattle.law.specs.rule.Seen.{part_seen, own_may}

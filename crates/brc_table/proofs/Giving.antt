@@ -3,12 +3,12 @@ use Rattle.std.proofs.Common.{◌≡◌, ℕ, ◌<◌, ◌^◌, true, List, Opti
 use Rattle.brc_block.specs.declared.payload.Payload.{Payload}
 use Rattle.atomic_table.specs.Table.{Me, rest}
 use Rattle.law.proofs.known.Queued_Law.{reached_frees}
-use Rattle.law.specs.known.declared.word.Word.{Word}
-use Rattle.law.specs.rule.declared.told.LogItem.{LogItem}
-use Rattle.law.specs.rule.declared.view.View.{View}
+use Rattle.law.specs.declared.known.word.Word.{Word}
+use Rattle.law.specs.declared.rule.told.LogItem.{LogItem}
+use Rattle.law.specs.declared.rule.view.View.{View}
 use Rattle.law.specs.rule.Rule.{with_told}
 use Rattle.law.specs.world.Heap.{Heap}
-use Rattle.law.specs.world.declared.row.Row.{Row}
+use Rattle.law.specs.declared.world.row.Row.{Row}
 use Rattle.law.proofs.rule.Knowing.{Known}
 use Rattle.law.proofs.steps.Telling.{tells_after}
 use Rattle.brc_table.specs.Moving.{MayGiveBy, MayGiveByOfFew, FewFrees}

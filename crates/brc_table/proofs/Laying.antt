@@ -5,8 +5,8 @@ use Rattle.std.proofs.lemmas.Bool.{cases_eq, cases_lt, ne_eqb}
 use Rattle.std.proofs.lemmas.Grind.{same_number_lists}
 use Rattle.std.proofs.lemmas.List.{get_or-set_same, get_or-set_other, length-set, length-replicate, get_or-replicate, get_or_past}
 use Rattle.brc_words.specs.declared.limits.TheConstants.{FIRST_MORTAL, IMMORTAL_LOCAL, MOST_CELLS}
-use Rattle.law.specs.known.declared.word.Field.TheVariants.{Shared}
-use Rattle.law.specs.known.declared.word.Word.TheVariants.{Of, FreeWord}
+use Rattle.law.specs.declared.known.word.Field.TheVariants.{Shared}
+use Rattle.law.specs.declared.known.word.Word.TheVariants.{Of, FreeWord}
 use Rattle.law.specs.known.Free_Words.{free_words_for}
 use Rattle.law.specs.rule.Layout.{counts_from, queues_from, extent}
 use Rattle.law.proofs.rule.Spots.{inside}

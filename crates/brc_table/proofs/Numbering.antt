@@ -10,7 +10,7 @@ use Rattle.std.specs.Cmp.Derive.{both_true}
 use Rattle.std.proofs.lemmas.Nat.Bits.{bit_at_ones, bit_at-lt}
 use Rattle.brc_words.specs.declared.limits.TheConstants.{MOST_THREADS}
 use Rattle.law.specs.world.Steps.{first_gathered}
-use Rattle.law.specs.world.declared.event.Step.TheVariants.{Register, Gather}
+use Rattle.law.specs.declared.world.event.Step.TheVariants.{Register, Gather}
 use Rattle.law.proofs.world.Changes.{read_here, read_there}
 use Rattle.law.proofs.world.Registering.{length-push, push_else}
 use Rattle.law.specs.known.Items.{Item, Stepped}

@@ -13,22 +13,22 @@ use mathlib.Core.Option.{some}
 use lib.ListN.{get_elem?}
 use Rattle.atomic_table.specs.Table as tables
 use Rattle.brc_words.specs.declared.limits.TheConstants.{FIRST_MORTAL, IMMORTAL_LOCAL, MOST_CELLS}
-use Rattle.law.specs.world.declared.cell.Cell.{Cell}
+use Rattle.law.specs.declared.world.cell.Cell.{Cell}
 use Rattle.law.specs.world.Lists.{word_at, one}
 use Rattle.law.specs.known.Start.{start_of}
 use Rattle.law.specs.world.Heap.{immortal, no_cell, cell_at, row_at, queue_at, is_registered, AreOptions}
 use Rattle.law.specs.world.Steps.{is_closed, is_free}
 use Rattle.law.proofs.world.Beginning.{length-opening, free_cell, immortal_cell}
 use Rattle.law.proofs.world.Registering.{length-push, read_push}
-use Rattle.law.specs.known.declared.word.Field.{Field}
-use Rattle.law.specs.known.declared.word.Field.TheVariants.{Owner, Local, Shared, Mutex}
-use Rattle.law.specs.known.declared.word.Word.{Word}
-use Rattle.law.specs.known.declared.word.Word.TheVariants.{Of, Queue, NotifyWord, FreeWord}
+use Rattle.law.specs.declared.known.word.Field.{Field}
+use Rattle.law.specs.declared.known.word.Field.TheVariants.{Owner, Local, Shared, Mutex}
+use Rattle.law.specs.declared.known.word.Word.{Word}
+use Rattle.law.specs.declared.known.word.Word.TheVariants.{Of, Queue, NotifyWord, FreeWord}
 use Rattle.law.specs.known.Free_Words.{free_words_for, is_free_cell, free_bits, ShowsOwner}
 use Rattle.law.proofs.known.Free_Law.{told_below, told_bit}
 use Rattle.law.specs.known.Items.{IsWord, WordShows, ShowsQueue, word_in}
 use Rattle.brc_block.specs.declared.payload.Payload.{Payload}
-use Rattle.law.specs.rule.declared.contents.Contents.{Contents}
+use Rattle.law.specs.declared.rule.contents.Contents.{Contents}
 use Rattle.law.specs.rule.Layout.{counts_from, queues_from, spot, extent}
 use Rattle.law.specs.rule.Logs.{opening_contents}
 use Rattle.law.specs.rule.Homes.{LiesThere}

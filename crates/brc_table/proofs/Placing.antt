@@ -4,16 +4,16 @@ use Rattle.std.proofs.Common.{◌≡◌, ℕ, ◌<◌, ◌≤◌, ◌==◌, ◌/
 use prog.Atomic.{either}
 use Rattle.atomic_table.specs.Seated.{TableId}
 use Rattle.atomic_table.specs.Table.{Me, Allows, Splits, Joins}
-use Rattle.law.specs.known.declared.word.Word.{Word}
-use Rattle.law.specs.known.declared.word.Word.TheVariants.{Queue, NotifyWord, FreeWord}
+use Rattle.law.specs.declared.known.word.Word.{Word}
+use Rattle.law.specs.declared.known.word.Word.TheVariants.{Queue, NotifyWord, FreeWord}
 use Rattle.law.specs.known.Items.{IsWord}
 use Rattle.law.specs.world.Heap.{words_for}
 use Rattle.law.specs.steps.Owing.{MayNudge}
-use Rattle.law.specs.rule.declared.contents.Contents.{Contents}
-use Rattle.law.specs.rule.declared.view.View.{View}
+use Rattle.law.specs.declared.rule.contents.Contents.{Contents}
+use Rattle.law.specs.declared.rule.view.View.{View}
 use Rattle.law.specs.rule.Layout.{spot, extent}
-use Rattle.law.specs.rule.declared.told.LogItem.{LogItem}
-use Rattle.law.specs.rule.declared.told.LogItem.TheVariants.{Loaded}
+use Rattle.law.specs.declared.rule.told.LogItem.{LogItem}
+use Rattle.law.specs.declared.rule.told.LogItem.TheVariants.{Loaded}
 use Rattle.law.specs.rule.Rule.{with_told, Kept}
 use Rattle.law.specs.rule.Seen.{part_seen}
 use Rattle.law.specs.world.Lists.{is_blank, is_unmarked}

@@ -7,7 +7,7 @@ use lib.ListN.{get_elem?}
 use Rattle.atomic_table.specs.Table.{Final, Seen}
 use Rattle.atomic_table.proofs.Lists.{drop_at}
 use Rattle.brc_block.specs.declared.payload.Payload.{Payload}
-use Rattle.law.specs.rule.declared.view.View.{View}
+use Rattle.law.specs.declared.rule.view.View.{View}
 use Rattle.law.specs.rule.Rule.{Kept}
 use Rattle.brc_table.specs.Rest.{from_block, Remains}
 use Rattle.brc_table.specs.Shown.{shows}

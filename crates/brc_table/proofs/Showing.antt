@@ -5,7 +5,7 @@ use Rattle.brc_block.specs.declared.payload.Payload.{Payload}
 use Rattle.law.proofs.known.Starting.{run_histories}
 use Rattle.law.specs.known.Items.{events_of}
 use Rattle.law.proofs.known.Items_Runs.{events_run}
-use Rattle.law.specs.rule.declared.view.View.{View}
+use Rattle.law.specs.declared.rule.view.View.{View}
 use Rattle.law.specs.rule.Logs.{items_of}
 use Rattle.law.specs.rule.Rule.{Kept}
 use Rattle.law.proofs.rule.Knowing.{kept_reached, kept_headline}

@@ -2,15 +2,15 @@
 use Rattle.std.proofs.Common.{◌≡◌, ℕ, ◌<◌, ◌≤◌, ◌&&◌, Bool, true, false, List, Option, refl, sym, arith}
 use Rattle.std.proofs.lemmas.Bool.{true≢false}
 use Rattle.brc_words.specs.declared.limits.TheConstants.{MOST_THREADS}
-use Rattle.law.specs.world.declared.event.Step.TheVariants.{Wake}
-use Rattle.law.specs.world.declared.row.Stage.{Stage}
-use Rattle.law.specs.world.declared.row.Stage.TheVariants as stages
+use Rattle.law.specs.declared.world.event.Step.TheVariants.{Wake}
+use Rattle.law.specs.declared.world.row.Stage.{Stage}
+use Rattle.law.specs.declared.world.row.Stage.TheVariants as stages
 use Rattle.law.specs.world.Steps.{stage_ok, is_active}
-use Rattle.law.specs.known.declared.word.Word.TheVariants.{NotifyWord}
-use Rattle.law.specs.rule.declared.contents.Contents.{Contents}
-use Rattle.law.specs.rule.declared.told.Moved.TheVariants.{Nothing}
-use Rattle.law.specs.rule.declared.told.LogItem.TheVariants.{Stepped}
-use Rattle.law.specs.rule.declared.view.View.{View}
+use Rattle.law.specs.declared.known.word.Word.TheVariants.{NotifyWord}
+use Rattle.law.specs.declared.rule.contents.Contents.{Contents}
+use Rattle.law.specs.declared.rule.told.Moved.TheVariants.{Nothing}
+use Rattle.law.specs.declared.rule.told.LogItem.TheVariants.{Stepped}
+use Rattle.law.specs.declared.rule.view.View.{View}
 use Rattle.law.specs.rule.Rule.{with_told}
 use Rattle.law.specs.rule.Seen.{part_seen}
 use Rattle.law.specs.living.Living.{OwnLog}

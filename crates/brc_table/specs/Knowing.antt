@@ -2,15 +2,15 @@
 use Rattle.std.specs.Prelude.{◌≡◌, ◌≢◌, ℕ, ◌%◌, true, false, List, [], Option, Some, None}
 use Rattle.brc_block.specs.declared.payload.Payload.{Payload}
 use Rattle.brc_words.specs.declared.look.TheConstants.{ONE_COUNT}
-use Rattle.law.specs.world.declared.event.Dropped.{Dropped}
+use Rattle.law.specs.declared.world.event.Dropped.{Dropped}
 use Rattle.law.specs.world.Lists.{names}
-use Rattle.law.specs.known.declared.word.Field.{Field}
-use Rattle.law.specs.known.declared.word.Word.TheVariants.{Of}
+use Rattle.law.specs.declared.known.word.Field.{Field}
+use Rattle.law.specs.declared.known.word.Word.TheVariants.{Of}
 use Rattle.law.specs.known.Owners_Seen.{has_seen_owner}
 use Rattle.law.specs.known.Risen.{drop_in}
 use Rattle.law.specs.known.Locked.{locked_of}
 use Rattle.law.specs.known.Going_On.{Known, known_of}
-use Rattle.law.specs.rule.declared.told.LogItem.{LogItem}
+use Rattle.law.specs.declared.rule.told.LogItem.{LogItem}
 use Rattle.law.specs.rule.Logs.{log_items, entries_in}
 use Rattle.law.specs.rule.Noted.{is_of, noted, newest_step}
 use Rattle.law.specs.rule.Seen.{part_seen, counts_seen, risen_seen, taken_seen}

@@ -3,11 +3,11 @@ use Rattle.std.specs.Prelude.{◌≡◌, ℕ, ◌+◌, ◌%◌, ◌==◌, ◌≤
 use prog.Atomic.{either}
 use Rattle.atomic_table.specs.Table.{Me, Allows}
 use Rattle.law.specs.world.Lists.{WORD_LIMIT}
-use Rattle.law.specs.known.declared.word.Word.{Word}
-use Rattle.law.specs.rule.declared.contents.Contents.{Contents}
-use Rattle.law.specs.rule.declared.told.LogItem.{LogItem}
-use Rattle.law.specs.rule.declared.told.LogItem.TheVariants.{Loaded, Lost}
-use Rattle.law.specs.rule.declared.view.View.{View}
+use Rattle.law.specs.declared.known.word.Word.{Word}
+use Rattle.law.specs.declared.rule.contents.Contents.{Contents}
+use Rattle.law.specs.declared.rule.told.LogItem.{LogItem}
+use Rattle.law.specs.declared.rule.told.LogItem.TheVariants.{Loaded, Lost}
+use Rattle.law.specs.declared.rule.view.View.{View}
 use Rattle.law.specs.rule.Layout.{spot}
 use Rattle.law.specs.rule.Rule.{with_told, Kept}
 use Rattle.law.specs.living.Living.{OwnLog}

@@ -8,9 +8,9 @@ use Rattle.law.specs.known.Start.{start_of}
 use Rattle.law.specs.world.Holding.{Headline}
 use Rattle.law.specs.world.Since.{HistoriesSince}
 use Rattle.law.specs.world.Runs.{IsReached}
-use Rattle.law.specs.known.declared.word.Word.{Word}
+use Rattle.law.specs.declared.known.word.Word.{Word}
 use Rattle.law.specs.known.Items.{IsWord, WordShows, events_of}
-use Rattle.law.specs.rule.declared.view.View.{View}
+use Rattle.law.specs.declared.rule.view.View.{View}
 use Rattle.law.specs.rule.Layout.{spot}
 use Rattle.law.specs.rule.Logs.{Run, items_of, own_of, all_of, lives_of, world, IsLegal}
 use Rattle.law.specs.rule.Homes.{HomeShown}

@@ -5,19 +5,19 @@ use Rattle.std.specs.Int.{bit_at}
 use prog.Atomic.{either}
 use Rattle.atomic_table.specs.Table.{Me, Allows, rest}
 use Rattle.brc_block.specs.declared.payload.Payload.{Payload}
-use Rattle.law.specs.world.declared.event.Step.{Step}
+use Rattle.law.specs.declared.world.event.Step.{Step}
 use Rattle.law.specs.world.Lists.{WORD_LIMIT}
 use Rattle.law.specs.world.Steps.{takes_block}
-use Rattle.law.specs.known.declared.word.Field.TheVariants.{Shared, Mutex}
-use Rattle.law.specs.known.declared.word.Word.{Word}
-use Rattle.law.specs.known.declared.word.Word.TheVariants.{Of, FreeWord}
+use Rattle.law.specs.declared.known.word.Field.TheVariants.{Shared, Mutex}
+use Rattle.law.specs.declared.known.word.Word.{Word}
+use Rattle.law.specs.declared.known.word.Word.TheVariants.{Of, FreeWord}
 use Rattle.law.specs.known.Items.{cell_told}
-use Rattle.law.specs.rule.declared.contents.Contents.{Contents}
-use Rattle.law.specs.rule.declared.contents.Contents.TheVariants.{Nothing}
-use Rattle.law.specs.rule.declared.told.Moved.{Moved}
-use Rattle.law.specs.rule.declared.told.Moved.TheVariants as moves
-use Rattle.law.specs.rule.declared.told.LogItem.{LogItem}
-use Rattle.law.specs.rule.declared.view.View.{View}
+use Rattle.law.specs.declared.rule.contents.Contents.{Contents}
+use Rattle.law.specs.declared.rule.contents.Contents.TheVariants.{Nothing}
+use Rattle.law.specs.declared.rule.told.Moved.{Moved}
+use Rattle.law.specs.declared.rule.told.Moved.TheVariants as moves
+use Rattle.law.specs.declared.rule.told.LogItem.{LogItem}
+use Rattle.law.specs.declared.rule.view.View.{View}
 use Rattle.law.specs.rule.Layout.{spot}
 use Rattle.law.specs.rule.Rule.{with_told, Kept}
 use Rattle.law.specs.rule.Seen.{contents_locked, part_seen}

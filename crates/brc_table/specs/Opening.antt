@@ -4,7 +4,7 @@ use Rattle.std.specs.Prelude.{◌∷◌, ◌++◌, Option, Some, None}
 use Rattle.brc_words.specs.declared.limits.TheConstants.{FIRST_MORTAL, IMMORTAL_LOCAL}
 use Rattle.brc_words.specs.declared.look.TheConstants.{NO_COUNT}
 use Rattle.brc_block.specs.declared.payload.Payload.{Payload}
-use Rattle.law.specs.rule.declared.contents.Contents.{Contents}
+use Rattle.law.specs.declared.rule.contents.Contents.{Contents}
 use Rattle.law.specs.known.Free_Words.{free_words_for}
 use Rattle.law.specs.rule.Layout.{counts_from, queues_from}
 use Rattle.law.specs.rule.Logs.{opening_contents}

@@ -1,12 +1,12 @@
 -- What an entry into a queue word tells.
 use Rattle.std.specs.Prelude.{◌≡◌, ℕ, if◌then◌else◌, List, ◌∷◌}
-use Rattle.law.specs.world.declared.event.Step.TheVariants.{Enqueue}
-use Rattle.law.specs.world.declared.row.Hand.{Hand}
-use Rattle.law.specs.world.declared.row.Hand.TheVariants as hands
-use Rattle.law.specs.world.declared.row.Phase.TheVariants as phases
-use Rattle.law.specs.rule.declared.told.Moved.TheVariants.{Nothing}
-use Rattle.law.specs.rule.declared.told.LogItem.{LogItem}
-use Rattle.law.specs.rule.declared.told.LogItem.TheVariants.{Stepped}
+use Rattle.law.specs.declared.world.event.Step.TheVariants.{Enqueue}
+use Rattle.law.specs.declared.world.row.Hand.{Hand}
+use Rattle.law.specs.declared.world.row.Hand.TheVariants as hands
+use Rattle.law.specs.declared.world.row.Phase.TheVariants as phases
+use Rattle.law.specs.declared.rule.told.Moved.TheVariants.{Nothing}
+use Rattle.law.specs.declared.rule.told.LogItem.{LogItem}
+use Rattle.law.specs.declared.rule.told.LogItem.TheVariants.{Stepped}
 use Rattle.law.specs.known.Items.{is_shut_word}
 use Rattle.brc_table.specs.declared.merging.Enqueued.{Enqueued}
 use Rattle.brc_table.specs.declared.merging.Enqueued.TheVariants.{Accepted, Closed}

@@ -4,7 +4,7 @@ use mathlib.Core.Option.{some}
 use lib.ListN.{get_elem?}
 use Rattle.atomic_table.specs.Table.{State}
 use Rattle.brc_block.specs.declared.payload.Payload.{Payload}
-use Rattle.law.specs.rule.declared.view.View.{View}
+use Rattle.law.specs.declared.rule.view.View.{View}
 use Rattle.law.specs.rule.Rule.{Kept}
 use Rattle.brc_table.specs.Shown.{shows}
 

@@ -5,8 +5,8 @@ use Rattle.brc_block.specs.declared.payload.Payload.{Payload}
 use Rattle.brc_words.specs.declared.limits.TheConstants.{FEWEST_CELLS, MOST_CELLS, MOST_LOCAL}
 use Rattle.law.specs.rule.Layout.{extent}
 use Rattle.brc_table.specs.declared.rule.Sizes.{Sizes}
-use Rattle.law.specs.rule.declared.told.LogItem.{LogItem}
-use Rattle.law.specs.rule.declared.view.View.{View}
+use Rattle.law.specs.declared.rule.told.LogItem.{LogItem}
+use Rattle.law.specs.declared.rule.view.View.{View}
 
 -- which table it is, of how many cells, and how far an owner counts on its own
 pub record TableSeen : Type 0 where

@@ -4,10 +4,10 @@ use Rattle.brc_words.specs.declared.key.Key.{Key}
 use Rattle.brc_words.specs.declared.key.Key.TheVariants as keys
 use Rattle.brc_block.specs.declared.payload.Payload.{Payload}
 use Rattle.brc_block.specs.declared.payload.Payload.TheVariants as payloads
-use Rattle.law.specs.rule.declared.contents.PlainKey.{PlainKey}
-use Rattle.law.specs.rule.declared.contents.PlainKey.TheVariants as plain
-use Rattle.law.specs.rule.declared.contents.Contents.{Contents}
-use Rattle.law.specs.rule.declared.contents.Contents.TheVariants as contents
+use Rattle.law.specs.declared.rule.contents.PlainKey.{PlainKey}
+use Rattle.law.specs.declared.rule.contents.PlainKey.TheVariants as plain
+use Rattle.law.specs.declared.rule.contents.Contents.{Contents}
+use Rattle.law.specs.declared.rule.contents.Contents.TheVariants as contents
 
 module _ {A : Type 0} where
   abbrev pub plain_key : Key A → PlainKey

@@ -2,13 +2,13 @@
 
 ghost use Rattle.std.specs.Prelude.{◌≡◌, ◌≢◌, ◌+◌, ◌-◌, ◌%◌, ◌==◌, ◌<◌, ◌≤◌, ◌∷◌, true, Some, OnOk, OnErr, IfErr};
 ghost use Rattle.brc_words.specs.declared.look.TheConstants.{NO_COUNT, ONE_COUNT};
-ghost use Rattle.law.specs.world.declared.event.Step.TheVariants as steps;
-ghost use Rattle.law.specs.world.declared.event.Dropped.TheVariants as drops;
-ghost use Rattle.law.specs.known.declared.word.Field.TheVariants as fields;
-ghost use Rattle.law.specs.known.declared.word.Word.TheVariants as words;
+ghost use Rattle.law.specs.declared.world.event.Step.TheVariants as steps;
+ghost use Rattle.law.specs.declared.world.event.Dropped.TheVariants as drops;
+ghost use Rattle.law.specs.declared.known.word.Field.TheVariants as fields;
+ghost use Rattle.law.specs.declared.known.word.Word.TheVariants as words;
 ghost use Rattle.law.specs.known.Going_On.{filling, counting, counting_down, giving_up, asking};
-ghost use Rattle.law.specs.rule.declared.told.Moved.TheVariants as moves;
-ghost use Rattle.law.specs.rule.declared.told.LogItem.TheVariants as told;
+ghost use Rattle.law.specs.declared.rule.told.Moved.TheVariants as moves;
+ghost use Rattle.law.specs.declared.rule.told.LogItem.TheVariants as told;
 ghost use Rattle.law.specs.steps.Owing.{MayRaise, MayRaiseImmortal, MayLower, MayLowerImmortal, MayRaiseShared};
 ghost use Rattle.law.specs.steps.Owing.{MayRelease};
 ghost use Rattle.law.specs.rule.Seen.{risen_seen, contents_locked};

@@ -1,11 +1,11 @@
 //! Operations on a queue word by which a thread takes its bits. What it finds there are cells of the heap.
 
 ghost use Rattle.std.specs.Prelude.{◌≡◌, ℕ, ◌<◌, bit_or};
-ghost use Rattle.law.specs.known.declared.word.Word.TheVariants as words;
+ghost use Rattle.law.specs.declared.known.word.Word.TheVariants as words;
 ghost use Rattle.brc_words.specs.declared.look.TheConstants.{CLOSED_BIT};
 ghost use Rattle.law.specs.known.Items.{IsWord};
-ghost use Rattle.law.specs.rule.declared.told.LogItem.{LogItem as told_data};
-ghost use Rattle.law.specs.rule.declared.told.LogItem.TheVariants as told;
+ghost use Rattle.law.specs.declared.rule.told.LogItem.{LogItem as told_data};
+ghost use Rattle.law.specs.declared.rule.told.LogItem.TheVariants as told;
 ghost use Rattle.law.specs.rule.Rule.{with_told};
 ghost use Rattle.law.specs.steps.Taking.{AreQueued};
 ghost use Rattle.brc_table.specs.Machine.{MayTake};

@@ -2,14 +2,14 @@
 //! contents as they were put home last.
 
 ghost use Rattle.std.specs.Prelude.{◌≡◌, ◌<◌, ◌≤◌, ◌∷◌, None, IfSome};
-ghost use Rattle.law.specs.world.declared.event.LastDropped.TheVariants as lasts;
-ghost use Rattle.law.specs.world.declared.event.Step.TheVariants as steps;
-ghost use Rattle.law.specs.world.declared.row.Hand.TheVariants as hands;
+ghost use Rattle.law.specs.declared.world.event.LastDropped.TheVariants as lasts;
+ghost use Rattle.law.specs.declared.world.event.Step.TheVariants as steps;
+ghost use Rattle.law.specs.declared.world.row.Hand.TheVariants as hands;
 ghost use Rattle.law.specs.world.Steps.{takes_block};
 ghost use Rattle.law.specs.known.Going_On.{handing, taking, seeing_zero, dropping_last, settling};
 ghost use Rattle.law.specs.known.Items.{cell_told};
 ghost use Rattle.law.specs.known.Taken.{listed_at};
-ghost use Rattle.law.specs.rule.declared.told.LogItem.TheVariants as told;
+ghost use Rattle.law.specs.declared.rule.told.LogItem.TheVariants as told;
 ghost use Rattle.law.specs.rule.Seen.{taken_seen};
 ghost use Rattle.law.specs.steps.Owing.{MayCarry, EndsRisen, EndsPopped, EndsAdded, EndsLeft, EndsShut, EndsNobodys};
 ghost use Rattle.law.specs.steps.Taking.{AreCells};

@@ -3,7 +3,7 @@
 ghost use Rattle.std.specs.Prelude.{ℕ, Option};
 ghost use Rattle.atomic_table.specs.Table.{State};
 ghost use Rattle.brc_block.specs.declared.payload.Payload.{Payload};
-ghost use Rattle.law.specs.rule.declared.view.View.{View as view};
+ghost use Rattle.law.specs.declared.rule.view.View.{View as view};
 ghost use Rattle.brc_table.specs.declared.rule.Sizes.{Sizes as sizes};
 ghost use Rattle.brc_table.specs.Moment.{ShowsOneRun};
 

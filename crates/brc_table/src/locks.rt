@@ -4,13 +4,13 @@
 ghost use Rattle.std.specs.Prelude.{◌≡◌, ◌<◌, ◌≤◌, ◌∷◌, None, Some, length, OnOk, OnErr, IfOk, IfErr};
 ghost use Rattle.atomic_table.specs.Table.{rest};
 ghost use Rattle.brc_words.specs.declared.limits.TheConstants.{MOST_ENTRIES};
-ghost use Rattle.law.specs.world.declared.event.Step.TheVariants as steps;
-ghost use Rattle.law.specs.known.declared.word.Field.TheVariants as fields;
-ghost use Rattle.law.specs.known.declared.word.Word.TheVariants as words;
+ghost use Rattle.law.specs.declared.world.event.Step.TheVariants as steps;
+ghost use Rattle.law.specs.declared.known.word.Field.TheVariants as fields;
+ghost use Rattle.law.specs.declared.known.word.Word.TheVariants as words;
 ghost use Rattle.law.specs.known.Going_On.{locking, unlocking};
 ghost use Rattle.law.specs.known.Taken.{listed_at};
-ghost use Rattle.law.specs.rule.declared.told.Moved.TheVariants as moves;
-ghost use Rattle.law.specs.rule.declared.told.LogItem.TheVariants as told;
+ghost use Rattle.law.specs.declared.rule.told.Moved.TheVariants as moves;
+ghost use Rattle.law.specs.declared.rule.told.LogItem.TheVariants as told;
 ghost use Rattle.law.specs.rule.Logs.{entries_in};
 ghost use Rattle.law.specs.rule.Seen.{contents_locked, taken_seen};
 ghost use Rattle.law.specs.payloads.Payloads.{FindsOwn};

@@ -2,13 +2,13 @@
 
 ghost use Rattle.std.specs.Prelude.{◌≡◌, ◌<◌, ◌≤◌, ◌∷◌, true};
 ghost use Rattle.brc_words.specs.declared.limits.TheConstants.{MOST_THREADS};
-ghost use Rattle.law.specs.world.declared.event.Step.TheVariants as steps;
+ghost use Rattle.law.specs.declared.world.event.Step.TheVariants as steps;
 ghost use Rattle.law.specs.world.Holding.{carries};
-ghost use Rattle.law.specs.known.declared.word.Field.TheVariants as fields;
-ghost use Rattle.law.specs.known.declared.word.Word.TheVariants as words;
+ghost use Rattle.law.specs.declared.known.word.Field.TheVariants as fields;
+ghost use Rattle.law.specs.declared.known.word.Word.TheVariants as words;
 ghost use Rattle.law.specs.known.Free_Words.{free_words_for};
 ghost use Rattle.law.specs.known.Owners_Seen.{has_seen_owner};
-ghost use Rattle.law.specs.rule.declared.told.LogItem.TheVariants as told;
+ghost use Rattle.law.specs.declared.rule.told.LogItem.TheVariants as told;
 ghost use Rattle.law.specs.rule.Logs.{log_items};
 ghost use Rattle.law.specs.rule.Seen.{part_seen, own_may, contents_locked};
 ghost use Rattle.brc_table.specs.Knowing.{known_seen, Knows, KeepsNotes, SeesRisen, NotesNumber};

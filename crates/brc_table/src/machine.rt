@@ -4,12 +4,12 @@
 ghost use Rattle.std.specs.Prelude.{◌≡◌, ◌+◌, ◌%◌, ◌==◌, ◌<◌, ◌≤◌, ℕ, Bool, true, false, if◌then◌else◌, bit_or};
 ghost use prog.Atomic.{either};
 ghost use Rattle.law.specs.world.Lists.{WORD_LIMIT};
-ghost use Rattle.law.specs.known.declared.word.Word.{Word as word_data};
-ghost use Rattle.law.specs.known.declared.word.Word.TheVariants as words;
+ghost use Rattle.law.specs.declared.known.word.Word.{Word as word_data};
+ghost use Rattle.law.specs.declared.known.word.Word.TheVariants as words;
 ghost use Rattle.law.specs.known.Items.{IsWord};
-ghost use Rattle.law.specs.rule.declared.told.Moved.TheVariants as moves;
-ghost use Rattle.law.specs.rule.declared.told.LogItem.{LogItem as told_data};
-ghost use Rattle.law.specs.rule.declared.told.LogItem.TheVariants as told;
+ghost use Rattle.law.specs.declared.rule.told.Moved.TheVariants as moves;
+ghost use Rattle.law.specs.declared.rule.told.LogItem.{LogItem as told_data};
+ghost use Rattle.law.specs.declared.rule.told.LogItem.TheVariants as told;
 ghost use Rattle.law.specs.rule.Rule.{with_told};
 ghost use Rattle.law.specs.steps.Taking.{CountsSome};
 ghost use Rattle.brc_table.specs.Machine.{MayTell, MaySum, MayFind, MayExchange, exchanged};

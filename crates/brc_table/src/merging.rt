@@ -5,13 +5,13 @@ ghost use Rattle.std.specs.Prelude.{◌≡◌, ◌<◌, ◌≤◌, ◌∷◌, �
 ghost use Rattle.brc_words.specs.declared.limits.TheConstants.{MOST_THREADS};
 ghost use Rattle.brc_words.specs.declared.look.TheConstants.{ONE_COUNT};
 ghost use Rattle.law.specs.world.Lists.{WORD_LIMIT};
-ghost use Rattle.law.specs.world.declared.event.Step.TheVariants as steps;
-ghost use Rattle.law.specs.world.declared.row.Hand.TheVariants as hands;
-ghost use Rattle.law.specs.world.declared.row.Phase.TheVariants as phases;
+ghost use Rattle.law.specs.declared.world.event.Step.TheVariants as steps;
+ghost use Rattle.law.specs.declared.world.row.Hand.TheVariants as hands;
+ghost use Rattle.law.specs.declared.world.row.Phase.TheVariants as phases;
 ghost use Rattle.law.specs.known.Items.{is_shut_word};
 ghost use Rattle.law.specs.known.Going_On.{handing, counting, taking};
-ghost use Rattle.law.specs.rule.declared.told.Moved.TheVariants as moves;
-ghost use Rattle.law.specs.rule.declared.told.LogItem.TheVariants as told;
+ghost use Rattle.law.specs.declared.rule.told.Moved.TheVariants as moves;
+ghost use Rattle.law.specs.declared.rule.told.LogItem.TheVariants as told;
 ghost use Rattle.law.specs.steps.Owing.{UntiesOver, UntiesOffered, UntiesPopped, Offers, AddsLocal, MayYield, Enqueues};
 ghost use Rattle.law.specs.steps.Taking.{AreCells};
 ghost use Rattle.law.specs.world.Steps.{takes_block, added_hand};

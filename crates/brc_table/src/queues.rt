@@ -2,10 +2,10 @@
 
 ghost use Rattle.std.specs.Prelude.{◌≡◌, ◌<◌, ◌≤◌, ◌∷◌};
 ghost use Rattle.law.specs.world.Heap.{words_for};
-ghost use Rattle.law.specs.world.declared.event.Step.TheVariants as steps;
+ghost use Rattle.law.specs.declared.world.event.Step.TheVariants as steps;
 ghost use Rattle.law.specs.known.Going_On.{popping, closing, reopening};
-ghost use Rattle.law.specs.rule.declared.told.Moved.TheVariants as moves;
-ghost use Rattle.law.specs.rule.declared.told.LogItem.TheVariants as told;
+ghost use Rattle.law.specs.declared.rule.told.Moved.TheVariants as moves;
+ghost use Rattle.law.specs.declared.rule.told.LogItem.TheVariants as told;
 ghost use Rattle.law.specs.steps.Owing.{MayStep, MayClose, MayNudge};
 ghost use Rattle.law.specs.steps.Taking.{AreQueued};
 ghost use Rattle.law.specs.living.Living.{OwnLog};

@@ -1,10 +1,10 @@
 //! The swap of a thread's notify word. It also tells the thread what its own log says of what lives.
 
 ghost use Rattle.std.specs.Prelude.{◌≡◌, ℕ};
-ghost use Rattle.law.specs.known.declared.word.Word.TheVariants as words;
+ghost use Rattle.law.specs.declared.known.word.Word.TheVariants as words;
 ghost use Rattle.law.specs.known.Items.{IsWord};
-ghost use Rattle.law.specs.rule.declared.told.LogItem.{LogItem as told_data};
-ghost use Rattle.law.specs.rule.declared.told.LogItem.TheVariants as told;
+ghost use Rattle.law.specs.declared.rule.told.LogItem.{LogItem as told_data};
+ghost use Rattle.law.specs.declared.rule.told.LogItem.TheVariants as told;
 ghost use Rattle.law.specs.rule.Rule.{with_told};
 ghost use Rattle.law.specs.living.Living.{OwnLog};
 ghost use Rattle.brc_table.specs.Machine.{MayWake};

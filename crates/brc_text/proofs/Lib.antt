@@ -4,3 +4,4 @@ pub mod TokenLaws
 pub mod LineLaws
 pub mod PutLaws
 mod Input_Read
+pub mod Filling

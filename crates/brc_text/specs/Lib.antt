@@ -6,3 +6,5 @@ pub mod Lines
 pub mod Puts
 pub mod Headed
 pub mod Parts
+pub mod Excerpts
+pub mod Padding

@@ -6,12 +6,14 @@
 //! `proofs/TokenLaws.antt` and `proofs/LineLaws.antt`, for the crates above.
 #![tactic(auto)]
 
+mod excerpt;
 mod headed;
 mod keyword;
 mod line;
 mod number;
 mod parts;
 mod putting;
+mod quoting;
 mod token;
 mod whole_input;
 
@@ -23,3 +25,5 @@ pub use parts::put_parts;
 pub use putting::{put_bytes, put_line};
 pub use token::{Letter, Token};
 pub use whole_input::read_input;
+pub use excerpt::{Excerpt, MOST_SHOWN};
+pub use quoting::put_quoted;

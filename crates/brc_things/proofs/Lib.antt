@@ -1,1 +1,11 @@
 pub mod One_History
+pub mod Rows_Law
+pub mod Within_Law
+pub mod Joining
+pub mod Standing
+pub mod Shown
+pub mod Locked
+pub mod Sharing
+pub mod Indexed
+mod Placed
+mod Since_Law

@@ -4,13 +4,13 @@
 use Rattle.std.specs.Prelude.{◌≡◌, ℕ, ◌+◌, ◌∷◌, Some, None, Result, Ok, Err, is_ok, true, slice_get}
 use Rattle.brc_words.specs.declared.fault.Fault.{Fault}
 use Rattle.brc_words.specs.declared.fault.Fault.TheVariants as faults
-use Rattle.brc_count.specs.law.world.declared.event.Change.{Change}
-use Rattle.brc_count.specs.law.world.declared.event.Change.TheVariants.{Keep, Put, Take, Swap}
-use Rattle.brc_count.specs.law.world.declared.event.Source.TheVariants as sources
-use Rattle.brc_count.specs.law.world.declared.event.Step.TheVariants.{Lock, Unlock}
-use Rattle.brc_count.specs.law.rule.declared.contents.Contents.{Contents}
-use Rattle.brc_count.specs.law.rule.declared.told.Moved.TheVariants as moves
-use Rattle.brc_count.specs.law.rule.declared.told.LogItem.TheVariants.{Stepped}
+use Rattle.brc_count.specs.law.declared.world.event.Change.{Change}
+use Rattle.brc_count.specs.law.declared.world.event.Change.TheVariants.{Keep, Put, Take, Swap}
+use Rattle.brc_count.specs.law.declared.world.event.Source.TheVariants as sources
+use Rattle.brc_count.specs.law.declared.world.event.Step.TheVariants.{Lock, Unlock}
+use Rattle.brc_count.specs.law.declared.rule.contents.Contents.{Contents}
+use Rattle.brc_count.specs.law.declared.rule.told.Moved.TheVariants as moves
+use Rattle.brc_count.specs.law.declared.rule.told.LogItem.TheVariants.{Stepped}
 use Rattle.brc_count.specs.law.rule.Logs.{entries_in}
 use Rattle.brc_count.specs.Frames.{FrameSeen, HandleSeen, IsUnlocked, GivenHandle, Refused}
 use Rattle.brc_count.specs.Locking.{Busy, KeepsThread, KeepsFrame, ChangesPlace, cell_in}

@@ -1,12 +1,12 @@
 -- The calls on one object, of whatever threads, as one list: its history.
 use Rattle.std.specs.Prelude.{◌≡◌, ℕ, ◌==◌, true, if◌then◌else◌, List, [], ◌∷◌, ◌++◌, Option, Some}
-use Rattle.brc_count.specs.law.world.declared.event.Change.{Change}
-use Rattle.brc_count.specs.law.world.declared.event.Step.{Step}
-use Rattle.brc_count.specs.law.world.declared.event.Step.TheVariants.{Birth, Unlock}
-use Rattle.brc_count.specs.law.rule.declared.contents.Contents.{Contents}
-use Rattle.brc_count.specs.law.rule.declared.told.Moved.TheVariants.{Put}
-use Rattle.brc_count.specs.law.rule.declared.told.LogItem.{LogItem}
-use Rattle.brc_count.specs.law.rule.declared.told.LogItem.TheVariants.{Stepped}
+use Rattle.brc_count.specs.law.declared.world.event.Change.{Change}
+use Rattle.brc_count.specs.law.declared.world.event.Step.{Step}
+use Rattle.brc_count.specs.law.declared.world.event.Step.TheVariants.{Birth, Unlock}
+use Rattle.brc_count.specs.law.declared.rule.contents.Contents.{Contents}
+use Rattle.brc_count.specs.law.declared.rule.told.Moved.TheVariants.{Put}
+use Rattle.brc_count.specs.law.declared.rule.told.LogItem.{LogItem}
+use Rattle.brc_count.specs.law.declared.rule.told.LogItem.TheVariants.{Stepped}
 use Rattle.brc_count.specs.law.rule.Logs.{Run, own_of, opening_contents, keeps}
 use Rattle.brc_count.specs.law.rule.Seen.{contents_locked}
 

@@ -3,3 +3,13 @@ pub mod Looking
 pub mod Changing
 pub mod Called
 pub mod History
+pub mod Plain_Lists
+pub mod List_Calls
+pub mod Rows
+pub mod Within
+pub mod Plain_Dicts
+pub mod Seeking
+pub mod Since
+pub mod Indexing
+pub mod Putting
+pub mod Dict_Calls

@@ -1,8 +1,8 @@
 -- Which objects are made, and which are there already.
 use Rattle.std.specs.Prelude.{ℕ, ◌+◌, ◌-◌, nat_le, if◌then◌else◌, ℤ, pos, negsuc, Bool, true, false, Option, Some, None}
 use Rattle.brc_words.specs.declared.fault.Fault.{Fault}
-use Rattle.brc_count.specs.law.world.declared.event.Source.TheVariants.{Immortal}
-use Rattle.brc_count.specs.law.rule.declared.contents.Contents.{Contents}
+use Rattle.brc_count.specs.law.declared.world.event.Source.TheVariants.{Immortal}
+use Rattle.brc_count.specs.law.declared.rule.contents.Contents.{Contents}
 use Rattle.brc_count.specs.Frames.{FrameSeen, HandleSeen, GivenHandle, Refused, IsAsBefore}
 use Rattle.brc_count.specs.Making.{Made, RefusedMaking}
 

@@ -2,7 +2,7 @@
 
 ghost use Rattle.std.specs.Prelude.{◌≡◌, ◌<◌, ◌+◌, ◌++◌, ℕ, List, IfSome, IfNone, OnOk, OnErr, IsTrue, IsFalse, length};
 ghost use Rattle.std.specs.String.{string_bytes, string_len, string_capacity};
-ghost use Rattle.brc_count.specs.law.rule.declared.contents.Contents.TheVariants as contents;
+ghost use Rattle.brc_count.specs.law.declared.rule.contents.Contents.TheVariants as contents;
 ghost use Rattle.brc_count.specs.law.rule.Logs.{entries_in};
 ghost use Rattle.brc_count.specs.table.Shown.{contents_of};
 ghost use Rattle.brc_things.specs.Looking.{IsInt, IsText, HoldsContainer};

@@ -2,8 +2,8 @@
 
 ghost use Rattle.std.specs.Prelude.{◌≡◌, ◌<◌, [], IfOk, IfErr, OnOk, OnErr, Some, None};
 ghost use Rattle.brc_words.specs.declared.limits.TheConstants.{FIRST_MORTAL, MOST_PLACES, MOST_BIRTHS};
-ghost use Rattle.brc_count.specs.law.world.declared.event.Source.TheVariants as sources;
-ghost use Rattle.brc_count.specs.law.rule.declared.contents.Contents.TheVariants as contents;
+ghost use Rattle.brc_count.specs.law.declared.world.event.Source.TheVariants as sources;
+ghost use Rattle.brc_count.specs.law.declared.rule.contents.Contents.TheVariants as contents;
 ghost use Rattle.brc_count.specs.Frames.{GivenHandle, Refused, IsAsBefore, IsUnlocked, ledger_seen};
 ghost use Rattle.brc_count.specs.Making.{Made, RefusedMaking};
 ghost use Rattle.brc_count.specs.Owned.{Keeps, Gains};

@@ -13,12 +13,12 @@ use Rattle.brc_words.specs.declared.limits.TheConstants.{FIRST_MORTAL}
 use Rattle.brc_words.specs.declared.owner.Owner.{Owner}
 use Rattle.brc_words.specs.declared.owner.Owner.TheVariants as owners
 use Rattle.brc_words.specs.declared.state.State.{State}
-use Rattle.brc_count.specs.law.world.declared.event.Event.{Event}
-use Rattle.brc_count.specs.law.world.declared.event.Step.{Step}
-use Rattle.brc_count.specs.law.world.declared.event.Step.TheVariants.{Register, Gather}
-use Rattle.brc_count.specs.law.world.declared.row.Row.{Row}
-use Rattle.brc_count.specs.law.world.declared.row.Hand.{Hand}
-use Rattle.brc_count.specs.law.world.declared.row.Hand.TheVariants as hands
+use Rattle.brc_count.specs.law.declared.world.event.Event.{Event}
+use Rattle.brc_count.specs.law.declared.world.event.Step.{Step}
+use Rattle.brc_count.specs.law.declared.world.event.Step.TheVariants.{Register, Gather}
+use Rattle.brc_count.specs.law.declared.world.row.Row.{Row}
+use Rattle.brc_count.specs.law.declared.world.row.Hand.{Hand}
+use Rattle.brc_count.specs.law.declared.world.row.Hand.TheVariants as hands
 use Rattle.brc_count.specs.law.world.Lists.{one, is_marked, place_at, bit_of}
 use Rattle.brc_count.specs.law.world.Heap.{Heap, cell_at, row_at, worklist_at, frame_at, popped_at, queue_at}
 use Rattle.brc_count.specs.law.world.Heap.{is_immortal, is_registered, no_row, new_row, again_row, AreOptions}
@@ -39,8 +39,8 @@ use Rattle.brc_count.specs.law.known.Items.{events_of}
 use Rattle.brc_count.proofs.law.known.Items_Runs.{events_run}
 use Rattle.brc_count.proofs.law.known.Items_Tells.{no_start}
 use Rattle.brc_count.specs.block.declared.payload.Payload.{Payload}
-use Rattle.brc_count.specs.law.rule.declared.contents.Contents.{Contents}
-use Rattle.brc_count.specs.law.rule.declared.view.View.{View}
+use Rattle.brc_count.specs.law.declared.rule.contents.Contents.{Contents}
+use Rattle.brc_count.specs.law.declared.rule.view.View.{View}
 use Rattle.brc_count.specs.law.rule.Logs.{items_of, contents_at, world}
 use Rattle.brc_count.specs.table.Rest.{from_block, Remains}
 use Rattle.brc_thread.specs.Emptied.{AllGathered, is_used, used_from, blocks_in, SlotHas, AllAtHome}

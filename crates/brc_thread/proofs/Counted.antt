@@ -7,14 +7,14 @@ use Rattle.brc_words.specs.declared.limits.TheConstants.{MOST_REGISTRATIONS}
 use Rattle.brc_count.specs.law.world.Lists.{one}
 use Rattle.brc_count.specs.law.world.Holding.{is_birth}
 use Rattle.brc_count.specs.law.world.Steps.{is_free_step, allocs_after, frees_after}
-use Rattle.brc_count.specs.law.world.declared.event.Step.{Step}
-use Rattle.brc_count.specs.law.world.declared.event.Step.TheVariants.{Birth, Free}
+use Rattle.brc_count.specs.law.declared.world.event.Step.{Step}
+use Rattle.brc_count.specs.law.declared.world.event.Step.TheVariants.{Birth, Free}
 use Rattle.brc_count.specs.law.known.Items.{Part, part_by, meant}
-use Rattle.brc_count.specs.law.rule.declared.told.LogItem.{LogItem}
-use Rattle.brc_count.specs.law.rule.declared.told.LogItem.TheVariants.{Stepped, Loaded, Lost}
+use Rattle.brc_count.specs.law.declared.rule.told.LogItem.{LogItem}
+use Rattle.brc_count.specs.law.declared.rule.told.LogItem.TheVariants.{Stepped, Loaded, Lost}
 use Rattle.brc_count.specs.law.rule.Logs.{entries_found}
 use Rattle.brc_count.specs.law.rule.Seen.{part_seen}
-use Rattle.brc_count.specs.law.rule.declared.view.View.{View}
+use Rattle.brc_count.specs.law.declared.rule.view.View.{View}
 use Rattle.brc_count.specs.law.steps.Joining.{registering, gathering}
 use Rattle.brc_count.specs.declared.ledger.Ledger.{Ledger}
 use Rattle.brc_thread.specs.Threads.{ledger_of}

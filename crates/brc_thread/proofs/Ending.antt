@@ -9,14 +9,14 @@ use Rattle.brc_count.proofs.law.known.Starting.{run_histories}
 use Rattle.brc_count.proofs.law.known.Root_Law.{rows_are_told, registrations_are_told, gathered_are_told}
 use Rattle.brc_count.proofs.law.known.Items_Runs.{events_run}
 use Rattle.brc_count.proofs.law.known.Items_Law.{parts_are_told}
-use Rattle.brc_count.specs.law.rule.declared.view.View.{View}
+use Rattle.brc_count.specs.law.declared.rule.view.View.{View}
 use Rattle.brc_count.specs.law.rule.Logs.{Run, items_of, log_items, own_of, lives_of, world}
 use Rattle.brc_count.specs.law.rule.Seen.{part_seen}
 use Rattle.brc_count.proofs.law.rule.Own_Logs.{own_items}
 use Rattle.brc_count.proofs.law.rule.Knowing.{kept_reached, kept_headline}
 use Rattle.brc_count.proofs.law.rule.Once.{root_once}
 use Rattle.brc_count.specs.law.world.Heap.{AreOptions, row_at, no_row, is_registered}
-use Rattle.brc_count.specs.law.world.declared.row.Row.{Row}
+use Rattle.brc_count.specs.law.declared.world.row.Row.{Row}
 use Rattle.brc_count.specs.table.Rest.{Remains}
 use Rattle.brc_count.specs.table.Shown.{shows}
 use Rattle.brc_thread.specs.Threads.{ledger_of}

@@ -1,6 +1,6 @@
 -- A held cell is no step's to free or to bear.
 use Rattle.std.proofs.Common.{◌≡◌, ℕ, ◌≤◌, Some, ap, ◌∙◌, subst}
-use Rattle.brc_count.specs.law.world.declared.event.Event.{Event}
+use Rattle.brc_count.specs.law.declared.world.event.Event.{Event}
 use Rattle.brc_count.specs.law.world.Heap.{Heap}
 use Rattle.brc_count.specs.law.known.Start.{start_of}
 use Rattle.brc_count.proofs.law.known.Starting.{run_reached}
@@ -11,8 +11,8 @@ use Rattle.brc_count.proofs.law.world.Dropping.{held_by_place}
 use Rattle.brc_count.proofs.law.lasting.Standing.{held_not_freed, held_not_born}
 use Rattle.brc_count.specs.law.known.Items.{IsPart, events_of}
 use Rattle.brc_count.proofs.law.known.Items_Runs.{events_run}
-use Rattle.brc_count.specs.law.rule.declared.told.LogItem.{LogItem}
-use Rattle.brc_count.specs.law.rule.declared.told.LogItem.TheVariants.{Stepped, Loaded, Lost}
+use Rattle.brc_count.specs.law.declared.rule.told.LogItem.{LogItem}
+use Rattle.brc_count.specs.law.declared.rule.told.LogItem.TheVariants.{Stepped, Loaded, Lost}
 use Rattle.brc_count.specs.law.rule.Logs.{Run, items_of, own_of, world}
 use Rattle.brc_count.specs.law.rule.Seen.{part_seen}
 use Rattle.brc_count.specs.table.Seated.{TableSeen}

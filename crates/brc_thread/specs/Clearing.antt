@@ -4,9 +4,9 @@ use Rattle.std.specs.Prelude.{None, Result, Ok, Err}
 use Rattle.brc_words.specs.declared.fault.Fault.{Fault}
 use Rattle.brc_words.specs.declared.fault.Fault.TheVariants as faults
 use Rattle.brc_words.specs.declared.limits.TheConstants.{GLOBALS, MOST_ENTRIES}
-use Rattle.brc_count.specs.law.world.declared.event.Change.TheVariants.{Keep, Take}
-use Rattle.brc_count.specs.law.world.declared.event.Source.TheVariants as sources
-use Rattle.brc_count.specs.law.rule.declared.contents.Contents.{Contents}
+use Rattle.brc_count.specs.law.declared.world.event.Change.TheVariants.{Keep, Take}
+use Rattle.brc_count.specs.law.declared.world.event.Source.TheVariants as sources
+use Rattle.brc_count.specs.law.declared.rule.contents.Contents.{Contents}
 use Rattle.brc_count.specs.law.rule.Logs.{kind_in, entries_in}
 use Rattle.brc_count.specs.Frames.{FrameSeen, HandleSeen, GivenHandle, ReleasedOf, Refused, IsAsBefore}
 use Rattle.brc_count.specs.Locking.{Busy, cell_in}

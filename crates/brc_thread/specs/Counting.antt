@@ -4,9 +4,9 @@ use Rattle.brc_words.specs.declared.limits.TheConstants.{MOST_REGISTRATIONS}
 use Rattle.brc_count.specs.law.world.Lists.{one}
 use Rattle.brc_count.specs.law.world.Holding.{is_birth}
 use Rattle.brc_count.specs.law.world.Steps.{is_free_step}
-use Rattle.brc_count.specs.law.rule.declared.told.LogItem.{LogItem}
-use Rattle.brc_count.specs.law.rule.declared.told.LogItem.TheVariants.{Stepped}
-use Rattle.brc_count.specs.law.rule.declared.view.View.{View}
+use Rattle.brc_count.specs.law.declared.rule.told.LogItem.{LogItem}
+use Rattle.brc_count.specs.law.declared.rule.told.LogItem.TheVariants.{Stepped}
+use Rattle.brc_count.specs.law.declared.rule.view.View.{View}
 use Rattle.brc_count.specs.declared.ledger.Ledger.{Ledger}
 -- how many threads the root has registered
 pub use Rattle.brc_count.specs.law.steps.Joining.{registrations}

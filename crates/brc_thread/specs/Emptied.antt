@@ -5,7 +5,7 @@ use mathlib.Core.Option.{some}
 use lib.ListN.{get_elem?}
 use Rattle.brc_words.specs.declared.limits.TheConstants.{FIRST_MORTAL}
 use Rattle.brc_count.specs.block.declared.payload.Payload.{Payload}
-use Rattle.brc_count.specs.law.rule.declared.contents.Contents.{Contents}
+use Rattle.brc_count.specs.law.declared.rule.contents.Contents.{Contents}
 use Rattle.brc_count.specs.law.rule.Logs.{Run, contents_at}
 use Rattle.brc_count.specs.law.world.Heap.{Heap, is_immortal, is_registered, is_gathered}
 use Rattle.brc_count.specs.law.world.Holding.{lives_at}

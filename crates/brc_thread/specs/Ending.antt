@@ -3,7 +3,7 @@ use Rattle.std.specs.Prelude.{◌≡◌, ◌<◌, ◌+◌, ℕ, true, List, leng
 use Rattle.brc_count.specs.block.declared.payload.Payload.{Payload}
 use Rattle.brc_count.specs.law.known.Items.{events_of}
 use Rattle.brc_count.specs.law.known.Root.{gathered_of, rows_of}
-use Rattle.brc_count.specs.law.rule.declared.view.View.{View}
+use Rattle.brc_count.specs.law.declared.rule.view.View.{View}
 use Rattle.brc_count.specs.law.rule.Logs.{items_of, log_items, own_of, all_of, lives_of, world}
 use Rattle.brc_count.specs.law.rule.Rule.{log_in, StandsOnce}
 use Rattle.brc_count.specs.law.known.Start.{start_of}

@@ -1,11 +1,11 @@
 -- A handle between the step that gave it and the step that spends it, at one of any number of heaps.
 use Rattle.std.specs.Prelude.{◌≡◌, ◌≢◌, ℕ, ◌<◌, true, ◌∷◌, Some}
 use Rattle.brc_words.specs.declared.kind.Kind.{Kind}
-use Rattle.brc_count.specs.law.world.declared.event.Step.TheVariants.{Free, Birth}
+use Rattle.brc_count.specs.law.declared.world.event.Step.TheVariants.{Free, Birth}
 use Rattle.brc_count.specs.law.world.Heap.{Heap, AreOptions, is_registered}
 use Rattle.brc_count.specs.law.world.Lists.{place_at}
-use Rattle.brc_count.specs.law.rule.declared.told.LogItem.{LogItem}
-use Rattle.brc_count.specs.law.rule.declared.told.LogItem.TheVariants.{Stepped, Loaded, Lost}
+use Rattle.brc_count.specs.law.declared.rule.told.LogItem.{LogItem}
+use Rattle.brc_count.specs.law.declared.rule.told.LogItem.TheVariants.{Stepped, Loaded, Lost}
 use Rattle.brc_count.specs.law.rule.Logs.{Run, own_of, world, IsLegal}
 use Rattle.brc_count.specs.law.rule.Seen.{part_seen}
 use Rattle.brc_count.specs.table.Seated.{TableSeen}

@@ -2,7 +2,7 @@
 
 ghost use Rattle.std.specs.Prelude.{◌≡◌, ℕ, List, [], ◌∷◌, Option, Some};
 ghost use Rattle.brc_count.specs.block.declared.payload.Payload.{Payload};
-ghost use Rattle.brc_count.specs.law.rule.declared.told.LogItem.{LogItem as told_data};
+ghost use Rattle.brc_count.specs.law.declared.rule.told.LogItem.{LogItem as told_data};
 ghost use Rattle.brc_count.specs.law.rule.Logs.{Run};
 ghost use Rattle.brc_count.specs.table.Rest.{from_block};
 ghost use Rattle.brc_thread.specs.Emptied.{blocks_in};

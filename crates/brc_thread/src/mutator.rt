@@ -3,7 +3,7 @@
 ghost use Rattle.std.specs.Prelude.{◌≡◌, ◌<◌, ◌≤◌, ◌-◌, [], ◌⊎◌, length, true, false, IsTrue, IsFalse, IfOk, IfErr};
 ghost use Rattle.std.specs.Prelude.{OnOk, OnErr, IfSome, IfNone, OnSome};
 ghost use Rattle.brc_words.specs.declared.limits.TheConstants.{GLOBALS};
-ghost use Rattle.brc_count.specs.law.world.declared.event.Source.TheVariants as sources;
+ghost use Rattle.brc_count.specs.law.declared.world.event.Source.TheVariants as sources;
 ghost use Rattle.brc_count.specs.law.living.Living.{OwnLog};
 ghost use Rattle.brc_count.specs.Frames.{GivenHandle, Refused, IsAsBefore, IsUnlocked, KeepsHandles, KeepsButStart};
 ghost use Rattle.brc_count.specs.Frames.{Turns};

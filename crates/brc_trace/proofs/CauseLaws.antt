@@ -6,8 +6,8 @@ use Rattle.std.specs.Prelude.{is_some, IfOk}
 use Rattle.std.proofs.lemmas.Bool.{ne_eqb}
 use Rattle.std.proofs.lemmas.List.{take_more, take_all, drop_more, take-append-drop, drop-drop, get_or-drop}
 use Rattle.brc_words.specs.declared.limits.TheConstants.{MOST_INPUT}
-use Rattle.law_world.specs.declared.edition.Edition.{Edition}
-use Rattle.law_world.specs.declared.event.Event.{Event}
+use Rattle.law.specs.declared.world.edition.Edition.{Edition}
+use Rattle.law.specs.declared.world.event.Event.{Event}
 use Rattle.brc_text.specs.declared.token.Token.{Token}
 use Rattle.brc_text.specs.Tokens.{◌>>=◌}
 use Rattle.brc_text.specs.Lines.{cut, lacks, tokens_at, first_line, line, spaced, pieces}

@@ -11,10 +11,10 @@ use Rattle.brc_words.specs.declared.fault.Fault.{Fault}
 use Rattle.brc_words.specs.declared.fault.Fault.TheVariants as faults
 use Rattle.brc_words.specs.declared.fault.Reason.{Reason}
 use Rattle.brc_words.specs.declared.fault.Reason.TheVariants as reasons
-use Rattle.law_world.specs.declared.event.Event.{Event}
-use Rattle.law_world.specs.Heap.{Heap, opening_in}
-use Rattle.law_world.specs.Runs.{IsRun, world_after}
-use Rattle.law_world.specs.Steps.{enabled}
+use Rattle.law.specs.declared.world.event.Event.{Event}
+use Rattle.law.specs.world.Heap.{Heap, opening_in}
+use Rattle.law.specs.world.Runs.{IsRun, world_after}
+use Rattle.law.specs.world.Steps.{enabled}
 use Rattle.brc_core.specs.Replays.{IsFirstNotEnabled}
 use Rattle.brc_core.proofs.Turns.{LeadsTo}
 use Rattle.brc_text.proofs.KeywordLaws.{same_some}

@@ -4,13 +4,13 @@ use Rattle.std.proofs.Common.{is_some, refl, sym, subst}
 use Rattle.std.specs.Prelude.{IfSome, IsSomeAnd, nat_lt, nat_le, not}
 use Rattle.brc_words.specs.declared.limits.TheConstants.{MOST_THREADS}
 use Rattle.std.specs.Option.{option_map}
-use Rattle.law_world.specs.declared.event.Event.{Event}
-use Rattle.law_world.specs.declared.event.Step.{Step}
-use Rattle.law_world.specs.declared.event.Step.TheVariants.{Register, Gather}
-use Rattle.law_world.specs.Heap.{Heap, cell_at, row_at, popped_at, worklist_at, is_registered, is_gathered}
-use Rattle.law_world.specs.Lists.{is_blank, is_unmarked}
-use Rattle.law_world.specs.Steps.{stage_ok, lock_ok, hand_ok, own_ok_at, others_ok, edition_ok, cell_ok, target_at}
-use Rattle.law_world.specs.Steps.{is_left, is_free_hand, number_ok, needs_no_cell}
+use Rattle.law.specs.declared.world.event.Event.{Event}
+use Rattle.law.specs.declared.world.event.Step.{Step}
+use Rattle.law.specs.declared.world.event.Step.TheVariants.{Register, Gather}
+use Rattle.law.specs.world.Heap.{Heap, cell_at, row_at, popped_at, worklist_at, is_registered, is_gathered}
+use Rattle.law.specs.world.Lists.{is_blank, is_unmarked}
+use Rattle.law.specs.world.Steps.{stage_ok, lock_ok, hand_ok, own_ok_at, others_ok, edition_ok, cell_ok, target_at}
+use Rattle.law.specs.world.Steps.{is_left, is_free_hand, number_ok, needs_no_cell}
 use Rattle.brc_state.specs.declared.refusing.Refusal.{Refusal}
 use Rattle.brc_state.specs.declared.refusing.Refusal.TheVariants as refusals
 use Rattle.brc_state.specs.Refusals.{unless, is_roots, cell_refusal, thread_refusal, root_refusal, refusal_of}

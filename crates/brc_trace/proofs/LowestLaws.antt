@@ -2,9 +2,9 @@
 use Rattle.std.proofs.Common.{◌≡◌, ◌∙◌, ℕ, zero, suc, ◌+◌, ◌<◌, ◌&&◌, ◌||◌, not, Bool, true, false, Option, Some, None}
 use Rattle.std.proofs.Common.{is_none, refl, sym, ap, add-one, arith, ◌-◌}
 use Rattle.std.specs.Prelude.{IfSome}
-use Rattle.law_world.specs.Heap.{Heap, cell_at, worklist_at}
-use Rattle.law_world.specs.Lists.{is_marked}
-use Rattle.law_world.specs.Steps.{is_owned_by, owned_are_marked}
+use Rattle.law.specs.world.Heap.{Heap, cell_at, worklist_at}
+use Rattle.law.specs.world.Lists.{is_marked}
+use Rattle.law.specs.world.Steps.{is_owned_by, owned_are_marked}
 use Rattle.brc_trace.specs.declared.lowest.SoughtThread.{SoughtThread}
 use Rattle.brc_trace.specs.declared.lowest.SoughtThread.TheVariants as sought
 use Rattle.brc_trace.specs.Lowest.{is_sought, or_here, lowest}

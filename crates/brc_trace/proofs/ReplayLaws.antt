@@ -14,11 +14,11 @@ use Rattle.brc_words.specs.declared.fault.Fault.TheVariants as faults
 use Rattle.brc_words.specs.declared.fault.Reason.{Reason}
 use Rattle.brc_words.specs.declared.fault.Reason.TheVariants as reasons
 use Rattle.brc_words.specs.declared.limits.TheConstants.{FEWEST_CELLS, MOST_CELLS, MOST_LOCAL, MOST_INPUT}
-use Rattle.law_world.specs.Heap.{Heap}
+use Rattle.law.specs.world.Heap.{Heap}
 use Rattle.brc_text.specs.Puts.{PutsUpTo}
 use Rattle.brc_trace.specs.Worlds.{world_text}
 use Rattle.brc_trace.specs.Replaying.{IsReplayed, IsBad, LeadsNowhere, IsHalfWritten, Replays}
-use Rattle.law_world.specs.Heap.{AreOptions}
+use Rattle.law.specs.world.Heap.{AreOptions}
 use Rattle.brc_text.specs.Lines.{line}
 use Rattle.brc_trace.specs.Traces.{trace_at, is_size, is_limit}
 

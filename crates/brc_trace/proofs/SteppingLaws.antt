@@ -6,12 +6,12 @@ use Rattle.std.proofs.lemmas.List.{reverse-append}
 use Rattle.std.proofs.Math.Seq.{take-append_seam}
 use Rattle.brc_words.specs.declared.fault.Fault.{Fault}
 use Rattle.brc_words.specs.declared.limits.TheConstants.{MOST_INPUT}
-use Rattle.law_world.specs.declared.edition.Edition.{Edition}
-use Rattle.law_world.specs.declared.edition.Edition.TheVariants as editions
-use Rattle.law_world.specs.declared.event.Event.{Event}
-use Rattle.law_world.specs.Heap.{Heap, opening_in}
-use Rattle.law_world.specs.Steps.{enabled, after}
-use Rattle.law_world.specs.Runs.{IsRun, world_after}
+use Rattle.law.specs.declared.world.edition.Edition.{Edition}
+use Rattle.law.specs.declared.world.edition.Edition.TheVariants as editions
+use Rattle.law.specs.declared.world.event.Event.{Event}
+use Rattle.law.specs.world.Heap.{Heap, opening_in}
+use Rattle.law.specs.world.Steps.{enabled, after}
+use Rattle.law.specs.world.Runs.{IsRun, world_after}
 use Rattle.brc_text.specs.Lines.{pieces}
 use Rattle.brc_trace.specs.Events.{event_at}
 use Rattle.brc_trace.specs.Traces.{by_line, before_others, first_number, events_at, below_head, IsHead}

@@ -6,9 +6,9 @@ use Rattle.std.specs.List.{flat_map}
 use Rattle.std.proofs.lemmas.Option.{cond_some}
 use Rattle.std.proofs.lemmas.Bool.{and_parts, and_from, eqb-true, leb-true, ltb-false, le-ltb}
 use Rattle.brc_words.specs.declared.limits.TheConstants.{FEWEST_CELLS, MOST_CELLS, MOST_LOCAL, MOST_INPUT}
-use Rattle.law_world.specs.declared.edition.Edition.{Edition}
-use Rattle.law_world.specs.declared.edition.Edition.TheVariants as editions
-use Rattle.law_world.specs.declared.event.Event.{Event}
+use Rattle.law.specs.declared.world.edition.Edition.{Edition}
+use Rattle.law.specs.declared.world.edition.Edition.TheVariants as editions
+use Rattle.law.specs.declared.world.event.Event.{Event}
 use Rattle.brc_text.specs.declared.keyword.Keyword.TheVariants as words
 use Rattle.brc_text.specs.declared.token.Token.{Token}
 use Rattle.brc_text.specs.declared.token.Token.TheVariants as tokens

@@ -2,13 +2,13 @@
 use Rattle.std.proofs.Common.{◌≡◌, ◌∙◌, ℕ, not, true, false, None, length, is_none, refl}
 use Rattle.std.specs.Prelude.{IfSome, nat_lt}
 use Rattle.std.proofs.lemmas.Bool.{ltb-false}
-use Rattle.law_world.specs.declared.edition.Edition.{Edition}
-use Rattle.law_world.specs.declared.edition.Edition.TheVariants as editions
-use Rattle.law_world.specs.declared.event.Step.{Step}
-use Rattle.law_world.specs.declared.event.Step.TheVariants.{Nudge, Close}
-use Rattle.law_world.specs.Lists.{is_marked, is_unmarked}
-use Rattle.law_world.specs.Heap.{Heap, cell_at, worklist_at, words_for, is_registered}
-use Rattle.law_world.specs.Steps.{is_owned_by, may_leave, others_ok}
+use Rattle.law.specs.declared.world.edition.Edition.{Edition}
+use Rattle.law.specs.declared.world.edition.Edition.TheVariants as editions
+use Rattle.law.specs.declared.world.event.Step.{Step}
+use Rattle.law.specs.declared.world.event.Step.TheVariants.{Nudge, Close}
+use Rattle.law.specs.world.Lists.{is_marked, is_unmarked}
+use Rattle.law.specs.world.Heap.{Heap, cell_at, worklist_at, words_for, is_registered}
+use Rattle.law.specs.world.Steps.{is_owned_by, may_leave, others_ok}
 use Rattle.brc_trace.specs.Lowest.{lowest_at, is_sought}
 use Rattle.brc_trace.specs.OwnReasons.{unless}
 use Rattle.brc_trace.specs.ToldReasons.{IsToldSo, leave_reason, told_reason}

@@ -5,9 +5,9 @@ use Rattle.std.specs.Io.KnownBytes.{Appends}
 use Rattle.brc_text.specs.Puts.{PutsText, PutsUpTo}
 use Rattle.brc_words.specs.declared.fault.Fault.{Fault}
 use Rattle.brc_text.proofs.PutLaws.{starts, goes_on, fails, ends}
-use Rattle.law_world.specs.Heap.{Heap, popped_at, worklist_at, queue_at}
-use Rattle.law_world.proofs.Bitwise.{blank_bits}
-use Rattle.law_world.proofs.Queueing.{no_marks}
+use Rattle.law.specs.world.Heap.{Heap, popped_at, worklist_at, queue_at}
+use Rattle.law.proofs.world.Bitwise.{blank_bits}
+use Rattle.law.proofs.world.Queueing.{no_marks}
 use Rattle.brc_text.specs.declared.token.Token.TheVariants as tokens
 use Rattle.brc_text.specs.Lines.{line}
 use Rattle.brc_trace.specs.declared.world_thread.Pile.{Pile}

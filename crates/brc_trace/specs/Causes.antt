@@ -3,15 +3,15 @@ use Rattle.std.specs.Prelude.{◌≡◌, ◌≤◌, ◌<◌, ℕ, zero, suc, ◌
 use Rattle.std.specs.Prelude.{List, [], ◌∷◌, length, map, take, Option, Some, None, is_some, slice_index_or}
 use Rattle.std.specs.Char.{is_ascii_digit}
 use Rattle.std.specs.List.{list_any}
-use Rattle.law_world.specs.declared.edition.Edition.{Edition}
-use Rattle.law_world.specs.declared.edition.Edition.TheVariants as editions
+use Rattle.law.specs.declared.world.edition.Edition.{Edition}
+use Rattle.law.specs.declared.world.edition.Edition.TheVariants as editions
 use Rattle.brc_text.specs.declared.keyword.Keyword.{Keyword}
 use Rattle.brc_text.specs.declared.keyword.Keyword.TheVariants as words
 use Rattle.brc_text.specs.declared.token.Token.{Token}
 use Rattle.brc_text.specs.declared.token.Token.TheVariants as tokens
 use Rattle.brc_text.specs.Lines.{cut, tokens_at, pieces}
 use Rattle.brc_text.specs.Tokens.{◌>>=◌, token_at}
-use Rattle.brc_excerpt.specs.declared.excerpt.TheConstants.{MOST_SHOWN}
+use Rattle.brc_text.specs.declared.excerpt.TheConstants.{MOST_SHOWN}
 use Rattle.brc_trace.specs.Events.{is_two, step_at}
 use Rattle.brc_trace.specs.Traces.{head_number, mark_at, by_words}
 use Rattle.brc_trace.specs.declared.causes.Cause.{Cause}

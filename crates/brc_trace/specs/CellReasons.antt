@@ -4,21 +4,21 @@ use Rattle.std.specs.Prelude.{◌≡◌, ◌≤◌, ◌≢◌, ℕ, ◌==◌, na
 use Rattle.std.specs.Prelude.{Option, Some, None}
 use Rattle.brc_words.specs.declared.limits.TheConstants.{FIRST_MORTAL}
 use Rattle.brc_words.specs.Kinds.{is_container}
-use Rattle.law_world.specs.declared.cell.Cell.{Cell}
-use Rattle.law_world.specs.declared.event.Step.{Step}
-use Rattle.law_world.specs.declared.event.Step.TheVariants.{Claim, LocalUp, LocalDown, Untie, SharedUp, SharedDown, Ask}
-use Rattle.law_world.specs.declared.event.Step.TheVariants.{LastDown, Lock, Unlock, Offer}
-use Rattle.law_world.specs.declared.event.LastDropped.{LastDropped}
-use Rattle.law_world.specs.declared.event.LastDropped.TheVariants as lasts
-use Rattle.law_world.specs.declared.event.Change.{Change}
-use Rattle.law_world.specs.declared.row.Row.{Row}
-use Rattle.law_world.specs.declared.row.Hand.{Hand}
-use Rattle.law_world.specs.declared.row.Hand.TheVariants as hands
-use Rattle.law_world.specs.declared.row.Phase.TheVariants as phases
-use Rattle.law_world.specs.declared.row.Stage.{Stage}
-use Rattle.law_world.specs.Heap.{Heap, cell_at, row_at, is_immortal}
-use Rattle.law_world.specs.Steps.{is_owned_by, is_nobody, is_free, is_default, is_queued, is_merged, is_positive, is_mine}
-use Rattle.law_world.specs.Steps.{counts_up_locally, is_active, is_free_hand, is_keep}
+use Rattle.law.specs.declared.world.cell.Cell.{Cell}
+use Rattle.law.specs.declared.world.event.Step.{Step}
+use Rattle.law.specs.declared.world.event.Step.TheVariants.{Claim, LocalUp, LocalDown, Untie, SharedUp, SharedDown, Ask}
+use Rattle.law.specs.declared.world.event.Step.TheVariants.{LastDown, Lock, Unlock, Offer}
+use Rattle.law.specs.declared.world.event.LastDropped.{LastDropped}
+use Rattle.law.specs.declared.world.event.LastDropped.TheVariants as lasts
+use Rattle.law.specs.declared.world.event.Change.{Change}
+use Rattle.law.specs.declared.world.row.Row.{Row}
+use Rattle.law.specs.declared.world.row.Hand.{Hand}
+use Rattle.law.specs.declared.world.row.Hand.TheVariants as hands
+use Rattle.law.specs.declared.world.row.Phase.TheVariants as phases
+use Rattle.law.specs.declared.world.row.Stage.{Stage}
+use Rattle.law.specs.world.Heap.{Heap, cell_at, row_at, is_immortal}
+use Rattle.law.specs.world.Steps.{is_owned_by, is_nobody, is_free, is_default, is_queued, is_merged, is_positive, is_mine}
+use Rattle.law.specs.world.Steps.{counts_up_locally, is_active, is_free_hand, is_keep}
 use Rattle.brc_trace.specs.OwnReasons.{unless}
 use Rattle.brc_trace.specs.declared.cell_reasons.CellReason.{CellReason}
 use Rattle.brc_trace.specs.declared.cell_reasons.CellReason.TheVariants as cells

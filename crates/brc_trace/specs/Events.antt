@@ -1,11 +1,11 @@
 -- The words of each event, which are the grammar of a line, and the event that words spell.
 use Rattle.std.specs.Prelude.{ℕ, Bool, true, false, List, [], ◌∷◌, Option, Some, None, ◌==◌, ◌&&◌, if◌then◌else◌}
 use Rattle.brc_words.specs.Kinds.{is_mortal}
-use Rattle.law_world.specs.declared.edition.Edition.{Edition}
-use Rattle.law_world.specs.declared.edition.Edition.TheVariants as editions
-use Rattle.law_world.specs.declared.event.Event.{Event}
-use Rattle.law_world.specs.declared.event.Step.{Step}
-use Rattle.law_world.specs.declared.event.Step.TheVariants as steps
+use Rattle.law.specs.declared.world.edition.Edition.{Edition}
+use Rattle.law.specs.declared.world.edition.Edition.TheVariants as editions
+use Rattle.law.specs.declared.world.event.Event.{Event}
+use Rattle.law.specs.declared.world.event.Step.{Step}
+use Rattle.law.specs.declared.world.event.Step.TheVariants as steps
 use Rattle.brc_text.specs.declared.keyword.Keyword.{Keyword}
 use Rattle.brc_text.specs.declared.keyword.Keyword.TheVariants as words
 use Rattle.brc_text.specs.declared.token.Token.{Token}

@@ -2,9 +2,9 @@
 use Rattle.std.specs.Prelude.{◌≡◌, ◌<◌, ℕ, ◌+◌, true, List, length, take, reverse, Option, Some, None, is_some}
 use Rattle.std.specs.Prelude.{Result, Ok, Err, IfSome}
 use Rattle.brc_words.specs.declared.limits.TheConstants.{MOST_INPUT}
-use Rattle.law_world.specs.declared.event.Event.{Event}
-use Rattle.law_world.specs.Heap.{Heap, opening_in}
-use Rattle.law_world.specs.Runs.{IsRun, world_after}
+use Rattle.law.specs.declared.world.event.Event.{Event}
+use Rattle.law.specs.world.Heap.{Heap, opening_in}
+use Rattle.law.specs.world.Runs.{IsRun, world_after}
 use Rattle.brc_core.specs.Replays.{IsFirstNotEnabled}
 use Rattle.brc_state.specs.Refusals.{refusal_of}
 use Rattle.brc_trace.specs.Causes.{IsCause, edition_at, piece_at}

@@ -1,8 +1,8 @@
 -- What of a refused event's condition fails, where the condition has several parts.
 use Rattle.std.specs.Prelude.{Bool, true, false, Option, None, IsSomeAnd}
 use Rattle.std.specs.Option.{option_map}
-use Rattle.law_world.specs.declared.event.Event.{Event}
-use Rattle.law_world.specs.Heap.{Heap, cell_at, row_at}
+use Rattle.law.specs.declared.world.event.Event.{Event}
+use Rattle.law.specs.world.Heap.{Heap, cell_at, row_at}
 use Rattle.brc_state.specs.declared.refusing.Refusal.{Refusal}
 use Rattle.brc_state.specs.declared.refusing.Refusal.TheVariants as refusals
 use Rattle.brc_trace.specs.Standing.{thread_spoken_of, meant_at}

@@ -1,8 +1,8 @@
 -- The lowest place or cell of a thread that keeps it from a step.
 use Rattle.std.specs.Prelude.{ℕ, zero, suc, ◌==◌, ◌&&◌, not, Bool, true, false, Option, Some, None, is_some, length}
-use Rattle.law_world.specs.Lists.{place_at, bit_of, is_marked}
-use Rattle.law_world.specs.Heap.{Heap, cell_at, frame_at, popped_at, worklist_at}
-use Rattle.law_world.specs.Steps.{is_owned_by}
+use Rattle.law.specs.world.Lists.{place_at, bit_of, is_marked}
+use Rattle.law.specs.world.Heap.{Heap, cell_at, frame_at, popped_at, worklist_at}
+use Rattle.law.specs.world.Steps.{is_owned_by}
 use Rattle.brc_trace.specs.declared.lowest.SoughtThread.{SoughtThread}
 use Rattle.brc_trace.specs.declared.lowest.SoughtThread.TheVariants as sought
 

@@ -4,14 +4,14 @@ use Rattle.std.specs.Prelude.{if◌then◌else◌}
 use Rattle.brc_words.specs.declared.limits.TheConstants.{MOST_THREADS, MOST_CELLS, MOST_PLACES, MOST_ENTRIES}
 use Rattle.brc_words.specs.declared.kind.Kind.{Kind}
 use Rattle.brc_words.specs.declared.kind.Kind.TheVariants as kinds
-use Rattle.law_world.specs.declared.event.Source.{Source}
-use Rattle.law_world.specs.declared.event.Source.TheVariants as sources
-use Rattle.law_world.specs.declared.event.Dropped.{Dropped}
-use Rattle.law_world.specs.declared.event.Dropped.TheVariants as drops
-use Rattle.law_world.specs.declared.event.LastDropped.{LastDropped}
-use Rattle.law_world.specs.declared.event.LastDropped.TheVariants as lasts
-use Rattle.law_world.specs.declared.event.Change.{Change}
-use Rattle.law_world.specs.declared.event.Change.TheVariants as changes
+use Rattle.law.specs.declared.world.event.Source.{Source}
+use Rattle.law.specs.declared.world.event.Source.TheVariants as sources
+use Rattle.law.specs.declared.world.event.Dropped.{Dropped}
+use Rattle.law.specs.declared.world.event.Dropped.TheVariants as drops
+use Rattle.law.specs.declared.world.event.LastDropped.{LastDropped}
+use Rattle.law.specs.declared.world.event.LastDropped.TheVariants as lasts
+use Rattle.law.specs.declared.world.event.Change.{Change}
+use Rattle.law.specs.declared.world.event.Change.TheVariants as changes
 use Rattle.brc_text.specs.declared.keyword.Keyword.{Keyword}
 use Rattle.brc_text.specs.declared.keyword.Keyword.TheVariants as words
 use Rattle.brc_text.specs.declared.token.Letter.TheVariants as letters

@@ -3,17 +3,17 @@ use Rattle.std.specs.Prelude.{◌≡◌, ◌≤◌, ℕ, ◌==◌, nat_lt, not, 
 use Rattle.std.specs.Prelude.{Option, Some, None, is_some, is_none}
 use Rattle.brc_words.specs.declared.limits.TheConstants.{MOST_ENTRIES, MOST_BIRTHS, MOST_PLACES}
 use Rattle.brc_words.specs.Kinds.{is_mortal}
-use Rattle.law_world.specs.declared.event.Event.{Event}
-use Rattle.law_world.specs.declared.event.Step.{Step}
-use Rattle.law_world.specs.declared.event.Step.TheVariants.{Claim, Birth, LocalUp, Free, Untie, SharedUp, LastDown}
-use Rattle.law_world.specs.declared.event.Step.TheVariants.{Drain, Close, Unlock, Gather, Offer, Reopen}
-use Rattle.law_world.specs.declared.event.LastDropped.TheVariants as lasts
-use Rattle.law_world.specs.declared.event.Change.{Change}
-use Rattle.law_world.specs.declared.event.Change.TheVariants as changes
-use Rattle.law_world.specs.declared.row.Stage.{Stage}
-use Rattle.law_world.specs.Lists.{place_at, is_marked, bit_of, is_bare, is_blank, is_unmarked}
-use Rattle.law_world.specs.Heap.{Heap, entries_at, row_at, frame_at, popped_at, worklist_at, words_for}
-use Rattle.law_world.specs.Steps.{is_empty, is_closed, closes_next, opens_next, untie_ok, is_unlocked, may_begin_closing}
+use Rattle.law.specs.declared.world.event.Event.{Event}
+use Rattle.law.specs.declared.world.event.Step.{Step}
+use Rattle.law.specs.declared.world.event.Step.TheVariants.{Claim, Birth, LocalUp, Free, Untie, SharedUp, LastDown}
+use Rattle.law.specs.declared.world.event.Step.TheVariants.{Drain, Close, Unlock, Gather, Offer, Reopen}
+use Rattle.law.specs.declared.world.event.LastDropped.TheVariants as lasts
+use Rattle.law.specs.declared.world.event.Change.{Change}
+use Rattle.law.specs.declared.world.event.Change.TheVariants as changes
+use Rattle.law.specs.declared.world.row.Stage.{Stage}
+use Rattle.law.specs.world.Lists.{place_at, is_marked, bit_of, is_bare, is_blank, is_unmarked}
+use Rattle.law.specs.world.Heap.{Heap, entries_at, row_at, frame_at, popped_at, worklist_at, words_for}
+use Rattle.law.specs.world.Steps.{is_empty, is_closed, closes_next, opens_next, untie_ok, is_unlocked, may_begin_closing}
 use Rattle.brc_state.specs.OwnPart.{locked_entries_at}
 use Rattle.brc_trace.specs.Lowest.{lowest_at}
 use Rattle.brc_trace.specs.declared.lowest.SoughtThread.TheVariants as sought

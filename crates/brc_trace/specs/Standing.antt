@@ -2,15 +2,15 @@
 use Rattle.std.specs.Prelude.{ℕ, ◌-◌, nat_lt, if◌then◌else◌, length, Option, None}
 use Rattle.std.specs.Option.{option_map}
 use Rattle.brc_core.specs.Readings.{only_if, status_at, has_object, counts_locally}
-use Rattle.law_world.specs.declared.event.Event.{Event}
-use Rattle.law_world.specs.declared.event.Step.{Step}
-use Rattle.law_world.specs.declared.event.Step.TheVariants.{Register, Gather}
-use Rattle.law_world.specs.declared.event.Source.{Source}
-use Rattle.law_world.specs.declared.event.Dropped.{Dropped}
-use Rattle.law_world.specs.declared.event.LastDropped.{LastDropped}
-use Rattle.law_world.specs.declared.row.Hand.{Hand}
-use Rattle.law_world.specs.Heap.{Heap, cell_at, entries_at, row_at, frame_at, worklist_at, is_registered}
-use Rattle.law_world.specs.Steps.{source_cell, dropped_cell, last_cell, target_at}
+use Rattle.law.specs.declared.world.event.Event.{Event}
+use Rattle.law.specs.declared.world.event.Step.{Step}
+use Rattle.law.specs.declared.world.event.Step.TheVariants.{Register, Gather}
+use Rattle.law.specs.declared.world.event.Source.{Source}
+use Rattle.law.specs.declared.world.event.Dropped.{Dropped}
+use Rattle.law.specs.declared.world.event.LastDropped.{LastDropped}
+use Rattle.law.specs.declared.world.row.Hand.{Hand}
+use Rattle.law.specs.world.Heap.{Heap, cell_at, entries_at, row_at, frame_at, worklist_at, is_registered}
+use Rattle.law.specs.world.Steps.{source_cell, dropped_cell, last_cell, target_at}
 use Rattle.brc_trace.specs.declared.standing.Meant.{Meant}
 use Rattle.brc_trace.specs.declared.standing.Standing.{Standing}
 

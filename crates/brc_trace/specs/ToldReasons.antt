@@ -1,13 +1,13 @@
 -- Why `nudge` can't tell whom it tells, and what `close` would leave behind.
 use Rattle.std.specs.Prelude.{◌≡◌, ◌≤◌, ℕ, nat_lt, true, false, Option, None, length}
 use Rattle.std.specs.Option.{option_map}
-use Rattle.law_world.specs.declared.edition.Edition.{Edition}
-use Rattle.law_world.specs.declared.edition.Edition.TheVariants as editions
-use Rattle.law_world.specs.declared.event.Step.{Step}
-use Rattle.law_world.specs.declared.event.Step.TheVariants.{Nudge, Close}
-use Rattle.law_world.specs.Lists.{is_marked, is_unmarked}
-use Rattle.law_world.specs.Heap.{Heap, cell_at, worklist_at, words_for, is_registered}
-use Rattle.law_world.specs.Steps.{is_owned_by}
+use Rattle.law.specs.declared.world.edition.Edition.{Edition}
+use Rattle.law.specs.declared.world.edition.Edition.TheVariants as editions
+use Rattle.law.specs.declared.world.event.Step.{Step}
+use Rattle.law.specs.declared.world.event.Step.TheVariants.{Nudge, Close}
+use Rattle.law.specs.world.Lists.{is_marked, is_unmarked}
+use Rattle.law.specs.world.Heap.{Heap, cell_at, worklist_at, words_for, is_registered}
+use Rattle.law.specs.world.Steps.{is_owned_by}
 use Rattle.brc_trace.specs.Lowest.{lowest_at}
 use Rattle.brc_trace.specs.OwnReasons.{unless, IsSoOfLowest}
 use Rattle.brc_trace.specs.declared.lowest.SoughtThread.TheVariants as sought

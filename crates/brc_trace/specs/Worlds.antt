@@ -6,17 +6,17 @@ use Rattle.brc_words.specs.declared.owner.Owner.{Owner}
 use Rattle.brc_words.specs.declared.owner.Owner.TheVariants as owners
 use Rattle.brc_words.specs.declared.state.State.{State}
 use Rattle.brc_words.specs.declared.state.State.TheVariants as states
-use Rattle.law_world.specs.declared.cell.Cell.{Cell}
-use Rattle.law_world.specs.declared.edition.Edition.{Edition}
-use Rattle.law_world.specs.declared.edition.Edition.TheVariants as editions
-use Rattle.law_world.specs.declared.row.Hand.{Hand}
-use Rattle.law_world.specs.declared.row.Hand.TheVariants as hands
-use Rattle.law_world.specs.declared.row.Phase.{Phase}
-use Rattle.law_world.specs.declared.row.Phase.TheVariants as phases
-use Rattle.law_world.specs.Lists.{bit_of, place_at, is_marked, is_blank, is_unmarked}
-use Rattle.law_world.specs.Heap.{Heap, cell_at, entries_at, row_at, frame_at, popped_at, worklist_at, queue_at}
-use Rattle.law_world.specs.Heap.{is_gathered}
-use Rattle.law_world.specs.Holding.{lives_at, total_of, live_count}
+use Rattle.law.specs.declared.world.cell.Cell.{Cell}
+use Rattle.law.specs.declared.world.edition.Edition.{Edition}
+use Rattle.law.specs.declared.world.edition.Edition.TheVariants as editions
+use Rattle.law.specs.declared.world.row.Hand.{Hand}
+use Rattle.law.specs.declared.world.row.Hand.TheVariants as hands
+use Rattle.law.specs.declared.world.row.Phase.{Phase}
+use Rattle.law.specs.declared.world.row.Phase.TheVariants as phases
+use Rattle.law.specs.world.Lists.{bit_of, place_at, is_marked, is_blank, is_unmarked}
+use Rattle.law.specs.world.Heap.{Heap, cell_at, entries_at, row_at, frame_at, popped_at, worklist_at, queue_at}
+use Rattle.law.specs.world.Heap.{is_gathered}
+use Rattle.law.specs.world.Holding.{lives_at, total_of, live_count}
 use Rattle.brc_core.specs.declared.readers.Status.{Status}
 use Rattle.brc_core.specs.declared.readers.Status.TheVariants as statuses
 use Rattle.brc_core.specs.declared.totals.Ledger.{Ledger}

@@ -2,7 +2,7 @@
 
 ghost use Rattle.std.specs.Prelude.{◌≡◌, ◌-◌, ℕ, List, true, Some, None, IfOk, IfSome, MatchOption, drop, map};
 ghost use Rattle.std.specs.Prelude.{[], ◌∷◌, ◌++◌, is_some};
-ghost use Rattle.law_world.specs.declared.edition.Edition.{Edition as TheEdition};
+ghost use Rattle.law.specs.declared.world.edition.Edition.{Edition as TheEdition};
 ghost use Rattle.brc_text.specs.Lines.{cut, lacks, tokens_at, pieces};
 ghost use Rattle.brc_text.specs.Tokens.{token_at};
 ghost use Rattle.brc_trace.specs.Causes.{byte_at as byte_there, byte_before as byte_in_front, HasWideSpace};
@@ -12,9 +12,9 @@ ghost use Rattle.brc_trace.specs.Causes.{piece_at};
 
 use crate::event_line::{is_two, step_of};
 use crate::trace_reading::{head_number, read_mark};
-use brc_excerpt::Excerpt;
+use brc_text::Excerpt;
 use brc_text::{Keyword, Token, Words};
-use law_world::Edition;
+use law::world::Edition;
 use std::alloc::{AllocError, Allocator};
 
 /// What is wrong with a bad line: the first of these that is.

@@ -1,10 +1,10 @@
 //! Why the one cell that a step means isn't as the step needs it.
 
 ghost use Rattle.std.specs.Prelude.{◌≡◌};
-ghost use Rattle.law_world.specs.Steps.{is_free as holds_nothing, is_nobody as has_no_owner, is_active as runs};
-ghost use Rattle.law_world.specs.Steps.{is_default as nobody_asked, is_queued as is_asked_for, is_merged as was_merged};
-ghost use Rattle.law_world.specs.Steps.{is_positive as is_above_zero, is_mine as counts_here, is_keep as keeps};
-ghost use Rattle.law_world.specs.Steps.{counts_up_locally as counts_up};
+ghost use Rattle.law.specs.world.Steps.{is_free as holds_nothing, is_nobody as has_no_owner, is_active as runs};
+ghost use Rattle.law.specs.world.Steps.{is_default as nobody_asked, is_queued as is_asked_for, is_merged as was_merged};
+ghost use Rattle.law.specs.world.Steps.{is_positive as is_above_zero, is_mine as counts_here, is_keep as keeps};
+ghost use Rattle.law.specs.world.Steps.{counts_up_locally as counts_up};
 ghost use Rattle.brc_trace.specs.CellReasons.{claim_reason as claim_of, owner_reason as owner_of};
 ghost use Rattle.brc_trace.specs.CellReasons.{up_reason as up_of, down_reason as down_of, untie_reason as untie_of};
 ghost use Rattle.brc_trace.specs.CellReasons.{shup_reason as shup_of, others_reason as others_of};
@@ -15,7 +15,7 @@ ghost use Rattle.brc_trace.specs.CellReasons.{cell_reason_at as at_cell};
 use crate::lowest::is_owned_by;
 use brc_core::{Cell, Change, Hand, LastDropped, Phase, Step, World};
 use brc_words::{FIRST_MORTAL, Owner, State, is_container_kind};
-use law_world::{Row, Stage, is_immortal};
+use law::world::{Row, Stage, is_immortal};
 use std::alloc::Allocator;
 
 /// What of its cell isn't as a step needs it.

@@ -16,7 +16,7 @@ use crate::operands::{
 };
 use brc_text::{Keyword, Token, Words, put_line};
 use brc_words::Fault;
-use law_world::{Change, Edition, Event, Step};
+use law::world::{Change, Edition, Event, Step};
 use std::io::Write;
 
 // ---- reading

@@ -3,8 +3,8 @@
 
 ghost use Rattle.std.specs.Prelude.{◌≡◌, ◌≤◌, ◌+◌, IfOk, IfErr, IfSome, Some, None, take, length, false};
 ghost use Rattle.brc_words.specs.declared.limits.TheConstants.{MOST_INPUT};
-ghost use Rattle.law_world.specs.Heap.{Heap, opening_in};
-ghost use Rattle.law_world.specs.Steps.{enabled};
+ghost use Rattle.law.specs.world.Heap.{Heap, opening_in};
+ghost use Rattle.law.specs.world.Steps.{enabled};
 ghost use Rattle.brc_trace.specs.Explaining.{WhyRefused, ExplainsEvents, Explains, Agrees, fault_of_why, without_why};
 ghost use Rattle.brc_trace.specs.Replaying.{IsReplayed, Replays};
 ghost use Rattle.brc_trace.specs.Traces.{first_number};

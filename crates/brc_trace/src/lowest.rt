@@ -1,7 +1,7 @@
 //! The lowest place or cell of a thread that keeps it from a step.
 
 ghost use Rattle.std.specs.Prelude.{◌≡◌};
-ghost use Rattle.law_world.specs.Steps.{is_owned_by as owned_by};
+ghost use Rattle.law.specs.world.Steps.{is_owned_by as owned_by};
 ghost use Rattle.brc_trace.specs.Lowest.{is_sought as so_of, end_of as where_it_ends, lowest_at};
 
 use brc_core::World;

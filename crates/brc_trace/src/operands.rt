@@ -10,7 +10,7 @@ ghost use Rattle.brc_trace.specs.Operands.{both as both_words};
 
 use brc_text::{Keyword, Letter, Token};
 use brc_words::{Kind, MOST_CELLS, MOST_ENTRIES, MOST_PLACES, MOST_THREADS};
-use law_world::{Change, Dropped, LastDropped, Source};
+use law::world::{Change, Dropped, LastDropped, Source};
 
 /// A word of a merge queue has the bits of 32 cells.
 const MOST_QUEUE_WORDS: u32 = MOST_CELLS / 32;

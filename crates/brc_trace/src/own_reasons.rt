@@ -1,10 +1,10 @@
 //! Why a step doesn't fit its thread's own part: which place, entry, cell or queue word isn't as the step needs it.
 
 ghost use Rattle.std.specs.Prelude.{◌≡◌, length};
-ghost use Rattle.law_world.specs.Steps.{closes_next as is_next_to_close, opens_next as is_next_to_open};
-ghost use Rattle.law_world.specs.Steps.{may_begin_closing as may_begin};
-ghost use Rattle.law_world.specs.Steps.{is_closed as has_closed, untie_ok as may_untie, is_unlocked as isnt_locked};
-ghost use Rattle.law_world.specs.Heap.{row_at, popped_at};
+ghost use Rattle.law.specs.world.Steps.{closes_next as is_next_to_close, opens_next as is_next_to_open};
+ghost use Rattle.law.specs.world.Steps.{may_begin_closing as may_begin};
+ghost use Rattle.law.specs.world.Steps.{is_closed as has_closed, untie_ok as may_untie, is_unlocked as isnt_locked};
+ghost use Rattle.law.specs.world.Heap.{row_at, popped_at};
 ghost use Rattle.brc_state.specs.OwnPart.{locked_entries_at};
 ghost use Rattle.brc_trace.specs.OwnReasons.{vacancy as vacancy_of, place_reason as place_reason_of};
 ghost use Rattle.brc_trace.specs.OwnReasons.{put_reason as put_of, take_reason as take_of, swap_reason as swap_of};
@@ -17,7 +17,7 @@ use crate::lowest::{SoughtThread, lowest};
 use crate::standing::locked_cell;
 use brc_core::{Change, Event, Hand, LastDropped, Step, World};
 use brc_words::{Kind, MOST_BIRTHS, MOST_ENTRIES, MOST_PLACES, is_mortal_kind};
-use law_world::{Stage, words_for};
+use law::world::{Stage, words_for};
 use std::alloc::Allocator;
 
 /// What of a thread's own part isn't as a step needs it.

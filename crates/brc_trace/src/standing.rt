@@ -1,14 +1,14 @@
 //! What stands where an event is refused: its thread, and the cell that it means, as the readers of a world tell them.
 
 ghost use Rattle.std.specs.Prelude.{◌≡◌};
-ghost use Rattle.law_world.specs.Heap.{entries_at};
-ghost use Rattle.law_world.specs.Lists.{last_of};
-ghost use Rattle.law_world.specs.Steps.{locked_at, target_at};
+ghost use Rattle.law.specs.world.Heap.{entries_at};
+ghost use Rattle.law.specs.world.Lists.{last_of};
+ghost use Rattle.law.specs.world.Steps.{locked_at, target_at};
 ghost use Rattle.brc_trace.specs.Standing.{thread_spoken_of, source_at, dropped_at, last_at, meant_at, cell_seen, seen};
 
 use brc_core::{Dropped, Event, Hand, LastDropped, Source, Status, Step, World};
 use brc_words::{Kind, Owner, State};
-use law_world::is_immortal;
+use law::world::is_immortal;
 use std::alloc::Allocator;
 
 /// A cell that an event means: its owner, if it is one of the heap, and what is said of the object in it, if one is

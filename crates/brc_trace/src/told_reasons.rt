@@ -6,7 +6,7 @@ ghost use Rattle.brc_trace.specs.ToldReasons.{told_reason as told_of};
 
 use crate::lowest::{SoughtThread, lowest};
 use brc_core::{Edition, Step, World};
-use law_world::words_for;
+use law::world::words_for;
 use std::alloc::Allocator;
 
 /// What isn't as `nudge` or `close` needs it, of those that it tells or leaves.

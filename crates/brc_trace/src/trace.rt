@@ -3,7 +3,7 @@
 ghost use Rattle.std.specs.Prelude.{◌≡◌, true};
 ghost use Rattle.brc_trace.specs.Traces.{is_size, is_limit, all_fit};
 
-use law_world::{Edition, Event};
+use law::world::{Edition, Event};
 use std::alloc::Allocator;
 
 /// A heap of so many cells, and the events that are to happen in it, in order. They are of one edition, which the text

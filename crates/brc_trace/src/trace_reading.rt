@@ -12,7 +12,7 @@ use crate::event_line::read_event;
 use crate::trace::Trace;
 use brc_text::{Keyword, Token, Words};
 use brc_words::{FEWEST_CELLS, Fault, MOST_CELLS, MOST_INPUT, MOST_LOCAL, Reason};
-use law_world::{Edition, Event};
+use law::world::{Edition, Event};
 use std::alloc::Allocator;
 
 /// The fault of a line that isn't one of a trace.

@@ -1,8 +1,8 @@
 //! Writing the text of a world.
 
 ghost use Rattle.std.specs.Prelude.{◌≡◌, ◌-◌, length, true};
-ghost use Rattle.law_world.specs.Heap.{cell_at, entries_at};
-ghost use Rattle.law_world.specs.Holding.{lives_at, live_count};
+ghost use Rattle.law.specs.world.Heap.{cell_at, entries_at};
+ghost use Rattle.law.specs.world.Holding.{lives_at, live_count};
 ghost use Rattle.brc_core.specs.Readings.{ledgers_of};
 ghost use Rattle.brc_text.specs.Puts.{PutsText};
 ghost use Rattle.brc_trace.specs.Worlds.{over, state_word, count_token, owner_number, local_token, entries_text};

@@ -1,7 +1,7 @@
 //! The lines of one thread in the text of a world.
 
 ghost use Rattle.std.specs.Prelude.{◌≡◌, length, true};
-ghost use Rattle.law_world.specs.Heap.{is_registered, row_at, frame_at};
+ghost use Rattle.law.specs.world.Heap.{is_registered, row_at, frame_at};
 ghost use Rattle.brc_text.specs.Puts.{PutsText};
 ghost use Rattle.brc_trace.specs.Worlds.{over, is_over, thread_line, status_word, phase_word, hand_text, place_text};
 ghost use Rattle.brc_trace.specs.Worlds.{frame_text, locked_text, pile_word, lies_on, lying_text, is_empty_pile};

@@ -9,7 +9,7 @@ use crate::event_line::put_event;
 use crate::trace::Trace;
 use brc_text::{Keyword, Token, put_line};
 use brc_words::Fault;
-use law_world::Edition;
+use law::world::Edition;
 use std::alloc::Allocator;
 use std::io::Write;
 

@@ -1,9 +1,9 @@
-pub use Rattle.law_world.specs as world
-pub use Rattle.law_moves.specs as moves
-pub use Rattle.law_lasting.specs as lasting
-pub use Rattle.law_known.specs as known
-pub use Rattle.law_private.specs as private
-pub use Rattle.law_rule.specs as rule
-pub use Rattle.law_payloads.specs as payloads
-pub use Rattle.law_living.specs as living
-pub use Rattle.law_steps.specs as steps
+pub mod world
+pub mod moves
+pub mod lasting
+pub mod known
+pub mod private
+pub mod rule
+pub mod payloads
+pub mod living
+pub mod steps

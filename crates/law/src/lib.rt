@@ -5,12 +5,12 @@
 //! running heap keeps, and that each kind of step keeps it.
 #![tactic(auto)]
 
-pub use law_known as known;
-pub use law_lasting as lasting;
-pub use law_living as living;
-pub use law_moves as moves;
-pub use law_payloads as payloads;
-pub use law_private as private;
-pub use law_rule as rule;
-pub use law_steps as steps;
-pub use law_world as world;
+pub mod known;
+pub mod lasting;
+pub mod living;
+pub mod moves;
+pub mod payloads;
+pub mod private;
+pub mod rule;
+pub mod steps;
+pub mod world;

@@ -13,8 +13,8 @@ use Rattle.brc_count.specs.Frames.{FrameSeen, HandleSeen}
 use Rattle.brc_handles.specs.Handles.{slot, IsApart}
 use Rattle.brc_things.specs.Called.{Late}
 use Rattle.brc_things.specs.Looking.{LenOf, IntOf, TextOf, KindOf}
-use Rattle.brc_lists.specs.Calls.{ListPush, ListPop, ListGet, ListSet, MailboxSend, MailboxReceive}
-use Rattle.brc_dicts.specs.Calls.{DictPut, DictFind, DictDel}
+use Rattle.brc_things.specs.List_Calls.{ListPush, ListPop, ListGet, ListSet, MailboxSend, MailboxReceive}
+use Rattle.brc_things.specs.Dict_Calls.{DictPut, DictFind, DictDel}
 use Rattle.brc_meaning.specs.declared.reference.Reference.{Reference}
 use Rattle.brc_meaning.specs.declared.call.Call.TheVariants as calls
 use Rattle.brc_meaning.specs.declared.call.KeyedCall.TheVariants as keyed
@@ -23,9 +23,9 @@ use Rattle.brc_meaning.specs.declared.state.State.{State}
 use Rattle.brc_meaning.specs.Objects.{object_call, keyed_call, entries_in, number_in}
 use Rattle.brc_count.specs.law.living.Living.{OwnLog}
 use Rattle.brc_things.specs.Changing.{PlainCall, RefusedPlainly}
-use Rattle.brc_lists.specs.Plain.{plain_push, plain_pop, plain_get, plain_set, plain_send, plain_receive}
-use Rattle.brc_dicts.specs.Plain.{plain_put, plain_find, plain_del}
-use Rattle.brc_dicts.specs.Putting.{RefusedPair}
+use Rattle.brc_things.specs.Plain_Lists.{plain_push, plain_pop, plain_get, plain_set, plain_send, plain_receive}
+use Rattle.brc_things.specs.Plain_Dicts.{plain_put, plain_find, plain_del}
+use Rattle.brc_things.specs.Putting.{RefusedPair}
 use Rattle.brc_lock.proofs.Kept.{waits_frame}
 use Rattle.brc_meaning.proofs.WholeCalls.{object_kept, keyed_kept}
 use Rattle.law_isolation.specs.Means.{cell_meant, IsMeant, Means, MeansBesides}

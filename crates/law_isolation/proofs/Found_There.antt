@@ -4,9 +4,9 @@ use Rattle.std.proofs.Common.{eqb, arith, List, Option, Some, None, Ok, get_or}
 use Rattle.std.proofs.lemmas.Int.{ints}
 use Rattle.std.proofs.lemmas.Bool.{and_parts, ne_eqb, cond-false}
 use Rattle.brc_words.specs.declared.limits.TheConstants.{GLOBALS}
-use Rattle.brc_count.specs.law.rule.declared.contents.Contents.{Contents}
-use Rattle.brc_count.specs.law.rule.declared.contents.Contents.TheVariants as contents
-use Rattle.brc_count.specs.law.rule.declared.told.LogItem.{LogItem}
+use Rattle.brc_count.specs.law.declared.rule.contents.Contents.{Contents}
+use Rattle.brc_count.specs.law.declared.rule.contents.Contents.TheVariants as contents
+use Rattle.brc_count.specs.law.declared.rule.told.LogItem.{LogItem}
 use Rattle.brc_count.specs.law.rule.Logs.{opening_contents}
 use Rattle.brc_count.specs.Frames.{FrameSeen, HandleSeen}
 use Rattle.brc_count.specs.Locking.{cell_in}

@@ -3,22 +3,22 @@
 use Rattle.std.proofs.Common.{◌≡◌, ◌∙◌, refl, sym, ap, subst, ℕ, ◌+◌, eqb, Bool, true, false, ◌&&◌, not, cond, arith}
 use Rattle.std.proofs.Common.{List, ◌∷◌, Option, Some, None, ◌⊎◌, inl, inr}
 use Rattle.std.proofs.lemmas.Bool.{cases_Bool, cases_lt, eqb-true, cond-true, cond-false}
-use Rattle.brc_count.specs.law.world.declared.event.Change.{Change}
-use Rattle.brc_count.specs.law.world.declared.event.Change.TheVariants as changes
-use Rattle.brc_count.specs.law.world.declared.event.Source.{Source}
-use Rattle.brc_count.specs.law.world.declared.event.Step.TheVariants.{Lock, Unlock, LocalUp, SharedUp}
+use Rattle.brc_count.specs.law.declared.world.event.Change.{Change}
+use Rattle.brc_count.specs.law.declared.world.event.Change.TheVariants as changes
+use Rattle.brc_count.specs.law.declared.world.event.Source.{Source}
+use Rattle.brc_count.specs.law.declared.world.event.Step.TheVariants.{Lock, Unlock, LocalUp, SharedUp}
 use Rattle.brc_count.specs.law.world.Lists.{place_at, is_marked}
 use Rattle.brc_count.specs.law.world.Steps.{locked_cell}
 use Rattle.brc_words.specs.declared.limits.TheConstants.{FIRST_MORTAL}
 use Rattle.brc_count.specs.law.known.Items.{Part, part_by, meant}
-use Rattle.brc_count.specs.law.known.declared.word.Field.TheVariants.{Mutex}
-use Rattle.brc_count.specs.law.known.declared.word.Word.{Word}
-use Rattle.brc_count.specs.law.known.declared.word.Word.TheVariants.{Of}
-use Rattle.brc_count.specs.law.rule.declared.contents.Contents.{Contents}
-use Rattle.brc_count.specs.law.rule.declared.told.Moved.{Moved}
-use Rattle.brc_count.specs.law.rule.declared.told.Moved.TheVariants as moves
-use Rattle.brc_count.specs.law.rule.declared.told.LogItem.{LogItem}
-use Rattle.brc_count.specs.law.rule.declared.told.LogItem.TheVariants.{Stepped, Lost}
+use Rattle.brc_count.specs.law.declared.known.word.Field.TheVariants.{Mutex}
+use Rattle.brc_count.specs.law.declared.known.word.Word.{Word}
+use Rattle.brc_count.specs.law.declared.known.word.Word.TheVariants.{Of}
+use Rattle.brc_count.specs.law.declared.rule.contents.Contents.{Contents}
+use Rattle.brc_count.specs.law.declared.rule.told.Moved.{Moved}
+use Rattle.brc_count.specs.law.declared.rule.told.Moved.TheVariants as moves
+use Rattle.brc_count.specs.law.declared.rule.told.LogItem.{LogItem}
+use Rattle.brc_count.specs.law.declared.rule.told.LogItem.TheVariants.{Stepped, Lost}
 use Rattle.brc_count.specs.law.rule.Logs.{entries_found}
 use Rattle.brc_count.specs.law.rule.Seen.{part_seen, counts_seen}
 use Rattle.brc_count.specs.biased.Up.{CountsHere}

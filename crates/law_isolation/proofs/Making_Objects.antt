@@ -5,12 +5,12 @@ use Rattle.std.proofs.Common.{sym, ◌∙◌, ap, subst, inl, inr, arith}
 use Rattle.std.proofs.lemmas.Bool.{cases_eq, eq-eqb, ne_eqb, true≢false}
 use Rattle.std.proofs.lemmas.Option.{slice_get_within}
 use Rattle.brc_words.specs.declared.kind.Kind.{Kind}
-use Rattle.brc_count.specs.law.world.declared.event.Step.TheVariants.{Birth, Claim, InitLocal, InitShared}
+use Rattle.brc_count.specs.law.declared.world.event.Step.TheVariants.{Birth, Claim, InitLocal, InitShared}
 use Rattle.brc_count.proofs.law.known.Kept_Law.{places_kept}
-use Rattle.brc_count.specs.law.rule.declared.contents.Contents.{Contents}
-use Rattle.brc_count.specs.law.rule.declared.told.Moved.TheVariants as moves
-use Rattle.brc_count.specs.law.rule.declared.told.LogItem.{LogItem}
-use Rattle.brc_count.specs.law.rule.declared.told.LogItem.TheVariants.{Stepped, Loaded, Lost}
+use Rattle.brc_count.specs.law.declared.rule.contents.Contents.{Contents}
+use Rattle.brc_count.specs.law.declared.rule.told.Moved.TheVariants as moves
+use Rattle.brc_count.specs.law.declared.rule.told.LogItem.{LogItem}
+use Rattle.brc_count.specs.law.declared.rule.told.LogItem.TheVariants.{Stepped, Loaded, Lost}
 use Rattle.brc_count.specs.law.rule.Logs.{kind_in, log_items}
 use Rattle.brc_count.specs.law.rule.Seen.{part_seen}
 use Rattle.brc_count.specs.table.Seated.{TableSeen}

@@ -8,13 +8,13 @@ use Rattle.brc_plain.specs.Outcomes.{leaving}
 use Rattle.brc_plain.specs.Lists as lists
 use Rattle.brc_plain.specs.Queues as queues
 use Rattle.brc_plain.specs.Dicts as dicts
-use Rattle.brc_count.specs.law.rule.declared.contents.PlainKey.{PlainKey}
-use Rattle.brc_count.specs.law.rule.declared.contents.Contents.{Contents}
-use Rattle.brc_count.specs.law.rule.declared.contents.Contents.TheVariants as contents
+use Rattle.brc_count.specs.law.declared.rule.contents.PlainKey.{PlainKey}
+use Rattle.brc_count.specs.law.declared.rule.contents.Contents.{Contents}
+use Rattle.brc_count.specs.law.declared.rule.contents.Contents.TheVariants as contents
 use Rattle.brc_count.specs.table.Shown.{plain_key}
 use Rattle.brc_things.specs.Changing.{PlainCall}
-use Rattle.brc_lists.specs.Plain.{left_in, plain_push, plain_pop, plain_get, plain_set, plain_send, plain_receive}
-use Rattle.brc_dicts.specs.Plain.{key_of, pairs_of, dict_of, leaving_dict, plain_put, plain_find, plain_del}
+use Rattle.brc_things.specs.Plain_Lists.{left_in, plain_push, plain_pop, plain_get, plain_set, plain_send, plain_receive}
+use Rattle.brc_things.specs.Plain_Dicts.{key_of, pairs_of, dict_of, leaving_dict, plain_put, plain_find, plain_del}
 use Rattle.brc_meaning.specs.declared.reference.Reference.{Reference}
 use Rattle.brc_meaning.specs.declared.call.Call.TheVariants as calls
 use Rattle.brc_meaning.specs.declared.call.KeyedCall.TheVariants as keyed

@@ -5,8 +5,8 @@ use Rattle.std.specs.Option.{option_map}
 use Rattle.std.proofs.lemmas.List.Elements.{All-head, All-tail}
 use Rattle.std.proofs.lemmas.Option.{slice_get-map, slice_get-get_or}
 use Rattle.brc_words.specs.declared.key.Key.{Key}
-use Rattle.brc_count.specs.law.rule.declared.contents.PlainKey.{PlainKey}
-use Rattle.brc_count.specs.law.rule.declared.contents.Contents.TheVariants as contents
+use Rattle.brc_count.specs.law.declared.rule.contents.PlainKey.{PlainKey}
+use Rattle.brc_count.specs.law.declared.rule.contents.Contents.TheVariants as contents
 use Rattle.brc_count.specs.law.rule.Logs.{entries_in}
 use Rattle.brc_count.specs.table.Shown.{plain_key}
 use Rattle.brc_meaning.specs.declared.reference.Reference.{Reference}

@@ -1,6 +1,6 @@
 -- After quiet items a frame shows what it showed, where its registers' places have what they had.
 use Rattle.std.proofs.Common.{◌≡◌, ℕ, Bool, List, Option, Some, None, IfSome, slice_index_or, refl, sym, ◌∙◌, subst}
-use Rattle.brc_count.specs.law.rule.declared.told.LogItem.{LogItem}
+use Rattle.brc_count.specs.law.declared.rule.told.LogItem.{LogItem}
 use Rattle.brc_count.specs.table.Seated.{TableSeen}
 use Rattle.brc_count.specs.Frames.{FrameSeen, HandleSeen, IsAsBefore, place_seen}
 use Rattle.brc_lock.specs.Waiting.{Waits, NoTry, OneMore as OneTry}

@@ -3,10 +3,10 @@ use Rattle.std.proofs.Common.{◌≡◌, ℕ, ◌==◌, ◌&&◌, not, Bool, tru
 use Rattle.std.proofs.Common.{None, is_some, slice_get, refl, sym, ◌∙◌, ap, inl, inr, arith}
 use Rattle.std.proofs.lemmas.Bool.{cases_Bool, eqb-true, true≢false}
 use Rattle.std.proofs.lemmas.List.{get_or_past}
-use Rattle.brc_count.specs.law.world.declared.event.Step.TheVariants.{Free}
-use Rattle.brc_count.specs.law.rule.declared.contents.Contents.{Contents}
-use Rattle.brc_count.specs.law.rule.declared.told.LogItem.{LogItem}
-use Rattle.brc_count.specs.law.rule.declared.told.LogItem.TheVariants.{Stepped}
+use Rattle.brc_count.specs.law.declared.world.event.Step.TheVariants.{Free}
+use Rattle.brc_count.specs.law.declared.rule.contents.Contents.{Contents}
+use Rattle.brc_count.specs.law.declared.rule.told.LogItem.{LogItem}
+use Rattle.brc_count.specs.law.declared.rule.told.LogItem.TheVariants.{Stepped}
 use Rattle.brc_count.specs.law.rule.Logs.{entries_in}
 use Rattle.brc_count.specs.law.rule.Seen.{part_seen}
 use Rattle.brc_count.specs.Frames.{place_seen}

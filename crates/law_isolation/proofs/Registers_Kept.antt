@@ -5,7 +5,7 @@ use Rattle.std.proofs.lemmas.Bool.{cases_eq, cases_lt}
 use Rattle.std.proofs.lemmas.List.{get_or_past, get_or-set_same, get_or-set_other, get_or-replicate, length-set}
 use Rattle.brc_words.specs.declared.fault.Fault.TheVariants as faults
 use Rattle.brc_plain.specs.Outcomes.{or_fault}
-use Rattle.brc_count.specs.law.rule.declared.told.LogItem.{LogItem}
+use Rattle.brc_count.specs.law.declared.rule.told.LogItem.{LogItem}
 use Rattle.brc_count.specs.Frames.{FrameSeen, HandleSeen, ledger_seen}
 use Rattle.brc_handles.specs.Handles.{slot, IsBare}
 use Rattle.brc_meaning.specs.declared.reference.Reference.{Reference}

@@ -5,7 +5,7 @@ use Rattle.std.proofs.Common.{Some, None, IfSome, slice_get, ◌⊎◌, inl, inr
 use Rattle.std.proofs.lemmas.Bool.{cases_eq, eq-eqb, ne_eqb, cond-true, cond-false}
 use Rattle.std.proofs.lemmas.List.{length-set, get_or-set_same, get_or-set_other}
 use Rattle.std.proofs.lemmas.Option.{slice_get-get_or, slice_get_within, get_or_from_slice_get}
-use Rattle.brc_count.specs.law.rule.declared.told.LogItem.{LogItem}
+use Rattle.brc_count.specs.law.declared.rule.told.LogItem.{LogItem}
 use Rattle.brc_count.specs.Frames.{FrameSeen, HandleSeen}
 use Rattle.brc_count.specs.Locking.{cell_in}
 use Rattle.brc_handles.specs.Handles.{slot}

@@ -2,16 +2,16 @@
 -- that is private; and where it keeps what it found, all is left alone.
 use Rattle.std.proofs.Common.{◌≡◌, ◌∙◌, sym, ap, ℕ, ◌+◌, eqb, cond, true, List, ◌∷◌, Some, inl, inr}
 use Rattle.std.proofs.lemmas.Bool.{cases_Bool, cases_lt, eqb-true, cond-true, cond-false}
-use Rattle.brc_count.specs.law.world.declared.event.Change.{Change}
-use Rattle.brc_count.specs.law.world.declared.event.Change.TheVariants as changes
-use Rattle.brc_count.specs.law.world.declared.event.Source.{Source}
-use Rattle.brc_count.specs.law.world.declared.event.Source.TheVariants as sources
-use Rattle.brc_count.specs.law.world.declared.event.Step.TheVariants.{Lock, Unlock, LocalUp, SharedUp}
+use Rattle.brc_count.specs.law.declared.world.event.Change.{Change}
+use Rattle.brc_count.specs.law.declared.world.event.Change.TheVariants as changes
+use Rattle.brc_count.specs.law.declared.world.event.Source.{Source}
+use Rattle.brc_count.specs.law.declared.world.event.Source.TheVariants as sources
+use Rattle.brc_count.specs.law.declared.world.event.Step.TheVariants.{Lock, Unlock, LocalUp, SharedUp}
 use Rattle.brc_words.specs.declared.limits.TheConstants.{FIRST_MORTAL}
-use Rattle.brc_count.specs.law.rule.declared.contents.Contents.{Contents}
-use Rattle.brc_count.specs.law.rule.declared.told.Moved.TheVariants as moves
-use Rattle.brc_count.specs.law.rule.declared.told.LogItem.{LogItem}
-use Rattle.brc_count.specs.law.rule.declared.told.LogItem.TheVariants.{Stepped}
+use Rattle.brc_count.specs.law.declared.rule.contents.Contents.{Contents}
+use Rattle.brc_count.specs.law.declared.rule.told.Moved.TheVariants as moves
+use Rattle.brc_count.specs.law.declared.rule.told.LogItem.{LogItem}
+use Rattle.brc_count.specs.law.declared.rule.told.LogItem.TheVariants.{Stepped}
 use Rattle.brc_count.specs.law.rule.Seen.{part_seen, counts_seen}
 use Rattle.brc_count.specs.Frames.{FrameSeen, HandleSeen, CountsUp, place_seen}
 use Rattle.brc_count.specs.Locking.{cell_in}

@@ -12,8 +12,8 @@ ghost use Rattle.brc_count.specs.Frames.{FrameSeen as frame, HandleSeen as handl
 ghost use Rattle.brc_handles.specs.Handles.{slot, IsApart};
 ghost use Rattle.brc_things.specs.Called.{Late};
 ghost use Rattle.brc_things.specs.Looking.{KindOf, LenOf, IntOf, TextOf};
-ghost use Rattle.brc_lists.specs.Calls.{ListPush, ListPop, ListGet, ListSet, MailboxSend, MailboxReceive};
-ghost use Rattle.brc_dicts.specs.Calls.{DictPut, DictFind, DictDel};
+ghost use Rattle.brc_things.specs.List_Calls.{ListPush, ListPop, ListGet, ListSet, MailboxSend, MailboxReceive};
+ghost use Rattle.brc_things.specs.Dict_Calls.{DictPut, DictFind, DictDel};
 ghost use Rattle.brc_meaning.specs.declared.reference.Reference.{Reference as reference};
 ghost use Rattle.brc_meaning.specs.declared.call.Call.TheVariants as calls;
 ghost use Rattle.brc_meaning.specs.declared.call.KeyedCall.TheVariants as keyed;

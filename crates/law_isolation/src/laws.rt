@@ -2,8 +2,8 @@
 //! nothing to do.
 
 ghost use Rattle.std.specs.Prelude.{◌≡◌, ◌<◌, ℕ, ℤ, List, Option, Some, None, length, slice_set, slice_index_or};
-ghost use Rattle.brc_count.specs.law.world.declared.event.Source.TheVariants as sources;
-ghost use Rattle.brc_count.specs.law.rule.declared.contents.Contents.TheVariants as contents;
+ghost use Rattle.brc_count.specs.law.declared.world.event.Source.TheVariants as sources;
+ghost use Rattle.brc_count.specs.law.declared.rule.contents.Contents.TheVariants as contents;
 ghost use Rattle.brc_count.specs.Frames.{FrameSeen as frame, HandleSeen as handle, GivenHandle, ReleasedOf, Turns};
 ghost use Rattle.brc_count.specs.Frames.{KeepsHandles, IsAsBefore, place_seen, ledger_seen};
 ghost use Rattle.brc_count.specs.Making.{Made};

@@ -4,7 +4,7 @@ use Rattle.std.proofs.Common.{ap, subst}
 use Rattle.brc_block.specs.declared.payload.Payload.{Payload}
 use Rattle.law.specs.world.Lists.{is_marked}
 use Rattle.law.proofs.world.Changes.{read_here}
-use Rattle.law.specs.rule.declared.told.LogItem.{LogItem}
+use Rattle.law.specs.declared.rule.told.LogItem.{LogItem}
 use Rattle.law.specs.rule.Seen.{part_seen}
 use Rattle.brc_table.specs.Moving.{is_there}
 use Rattle.brc_biased.proofs.Marking.{marks_wide}

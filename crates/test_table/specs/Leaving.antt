@@ -2,12 +2,12 @@
 use Rattle.std.specs.Prelude.{◌≡◌, ◌<◌, ◌≤◌, ℕ, ◌==◌, nat_le, true, if◌then◌else◌, List, [], replicate, None}
 use Rattle.std.specs.Prelude.{slice_set}
 use Rattle.brc_words.specs.declared.limits.TheConstants.{FIRST_MORTAL}
-use Rattle.law.specs.world.declared.row.Stage.{Stage}
-use Rattle.law.specs.world.declared.row.Stage.TheVariants as stages
+use Rattle.law.specs.declared.world.row.Stage.{Stage}
+use Rattle.law.specs.declared.world.row.Stage.TheVariants as stages
 use Rattle.law.specs.world.Lists.{is_bare, is_unmarked}
 use Rattle.law.specs.world.Steps.{is_free_hand}
 use Rattle.law.specs.known.Items.{Part}
-use Rattle.law.specs.rule.declared.told.LogItem.{LogItem}
+use Rattle.law.specs.declared.rule.told.LogItem.{LogItem}
 use Rattle.law.specs.rule.Seen.{part_seen, counts_seen}
 
 -- an active thread with an empty frame and a free hand; it has nothing locked, popped or to be taken apart

@@ -3,25 +3,25 @@
 use Rattle.std.specs.Prelude.{◌≡◌, ℕ, ◌+◌, ◌*◌, ◌%◌, ◌^◌, ℤ, pos, true, List, [], ◌∷◌}
 use Rattle.brc_words.specs.declared.kind.Kind.{Kind}
 use Rattle.brc_words.specs.declared.kind.Kind.TheVariants as kinds
-use Rattle.law.specs.world.declared.event.Change.{Change}
-use Rattle.law.specs.world.declared.event.Change.TheVariants as changes
-use Rattle.law.specs.world.declared.event.Dropped.TheVariants as dropped
-use Rattle.law.specs.world.declared.event.Source.TheVariants as sources
-use Rattle.law.specs.world.declared.event.Step.TheVariants.{Claim, InitLocal, InitShared, Birth, LocalUp, LocalDown}
-use Rattle.law.specs.world.declared.event.Step.TheVariants.{SeeZero, Untie, MergeZero, MergeAdd, SharedUp, Ask}
-use Rattle.law.specs.world.declared.event.Step.TheVariants.{Enqueue, Lock, Unlock, Free, Offer}
-use Rattle.law.specs.world.declared.row.Hand.TheVariants as hands
+use Rattle.law.specs.declared.world.event.Change.{Change}
+use Rattle.law.specs.declared.world.event.Change.TheVariants as changes
+use Rattle.law.specs.declared.world.event.Dropped.TheVariants as dropped
+use Rattle.law.specs.declared.world.event.Source.TheVariants as sources
+use Rattle.law.specs.declared.world.event.Step.TheVariants.{Claim, InitLocal, InitShared, Birth, LocalUp, LocalDown}
+use Rattle.law.specs.declared.world.event.Step.TheVariants.{SeeZero, Untie, MergeZero, MergeAdd, SharedUp, Ask}
+use Rattle.law.specs.declared.world.event.Step.TheVariants.{Enqueue, Lock, Unlock, Free, Offer}
+use Rattle.law.specs.declared.world.row.Hand.TheVariants as hands
 use Rattle.law.specs.world.Lists.{bit_of}
 use Rattle.law.specs.world.Steps.{is_active, is_free_hand, stage_ok, lock_ok}
-use Rattle.law.specs.known.declared.word.Field.TheVariants as fields
-use Rattle.law.specs.known.declared.word.Word.TheVariants as words
+use Rattle.law.specs.declared.known.word.Field.TheVariants as fields
+use Rattle.law.specs.declared.known.word.Word.TheVariants as words
 use Rattle.law.specs.known.Items.{Part}
-use Rattle.law.specs.rule.declared.contents.PlainKey.TheVariants as plain
-use Rattle.law.specs.rule.declared.contents.Contents.{Contents}
-use Rattle.law.specs.rule.declared.contents.Contents.TheVariants as contents
-use Rattle.law.specs.rule.declared.told.Moved.TheVariants as moves
-use Rattle.law.specs.rule.declared.told.LogItem.{LogItem}
-use Rattle.law.specs.rule.declared.told.LogItem.TheVariants.{Stepped, Loaded}
+use Rattle.law.specs.declared.rule.contents.PlainKey.TheVariants as plain
+use Rattle.law.specs.declared.rule.contents.Contents.{Contents}
+use Rattle.law.specs.declared.rule.contents.Contents.TheVariants as contents
+use Rattle.law.specs.declared.rule.told.Moved.TheVariants as moves
+use Rattle.law.specs.declared.rule.told.LogItem.{LogItem}
+use Rattle.law.specs.declared.rule.told.LogItem.TheVariants.{Stepped, Loaded}
 use Rattle.law.specs.rule.Opening.{first_view}
 use Rattle.law.specs.rule.Seen.{part_seen}
 use Rattle.law.specs.steps.Joining.{registering}

@@ -2,7 +2,7 @@
 
 ghost use Rattle.std.specs.Prelude.{◌≡◌, ◌<◌, ℕ, [], length, replicate, slice_index};
 ghost use Rattle.law.specs.world.Heap.{words_for};
-ghost use Rattle.law.specs.world.declared.event.Dropped.TheVariants as drops;
+ghost use Rattle.law.specs.declared.world.event.Dropped.TheVariants as drops;
 ghost use Rattle.brc_table.specs.Seated.{Continues};
 ghost use Rattle.brc_biased.specs.Counter.{first_count};
 ghost use Rattle.brc_biased.specs.Standing.{MayDrop};

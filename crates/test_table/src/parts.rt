@@ -1,10 +1,10 @@
 //! The parts that worked runs share, as calls on one seat or on two.
 
 ghost use Rattle.std.specs.Prelude.{◌≡◌, ◌≢◌, ◌%◌, [], None, pos};
-ghost use Rattle.law.specs.world.declared.event.Change.TheVariants as changes;
-ghost use Rattle.law.specs.world.declared.event.Dropped.TheVariants as drops;
-ghost use Rattle.law.specs.world.declared.event.Source.TheVariants as sources;
-ghost use Rattle.law.specs.world.declared.event.Step.TheVariants as steps;
+ghost use Rattle.law.specs.declared.world.event.Change.TheVariants as changes;
+ghost use Rattle.law.specs.declared.world.event.Dropped.TheVariants as drops;
+ghost use Rattle.law.specs.declared.world.event.Source.TheVariants as sources;
+ghost use Rattle.law.specs.declared.world.event.Step.TheVariants as steps;
 ghost use Rattle.law.specs.rule.Seen.{part_seen};
 ghost use Rattle.law.specs.steps.Owing.{MayCarry, EndsRisen, Enqueues, MayRaiseImmortal, MayRaiseShared, MayRelease};
 ghost use Rattle.law.specs.steps.Owing.{MayUnlock};

@@ -2,7 +2,7 @@
 
 use brc_meaning::plain_run;
 use brc_program::{Invocation, program, read_words};
-use brc_run_text::write_section;
+use brc_run::write_section;
 use brc_script::{Section, is_private, parse};
 use std::alloc::{AllocError, AllocGlobal, Global};
 use std::io::{self, Write};

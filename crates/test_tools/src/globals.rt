@@ -5,7 +5,7 @@ ghost use Rattle.test_tools.specs.Calls.{GainsOrKeeps, OwnsBoth, OwnsOne, Parts}
 
 use brc_count::biased::HasTable;
 use brc_count::{Frame, Handle};
-use brc_dicts::{dict_del, dict_put};
+use brc_things::{dict_del, dict_put};
 use brc_words::{Fault, GLOBALS, Key};
 use std::alloc::Allocator;
 use std::sync::Wait;

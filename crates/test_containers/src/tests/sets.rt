@@ -11,7 +11,7 @@ use crate::tests::threads::{a_heap, a_thread, is_empty};
 use brc_count::biased::HasTable;
 use brc_count::block::KeyRef;
 use brc_count::{Frame, HandedBack, Handle};
-use brc_dicts::{dict_set, try_dict_set};
+use brc_things::{dict_set, try_dict_set};
 use brc_things::none;
 use brc_words::{Fault, Key, Text};
 use linked_list_allocator::LocalHeap;

@@ -7,7 +7,7 @@ ghost use Rattle.brc_count.specs.Frames.{IsUnlocked};
 use crate::tests::comparing::same;
 use crate::tests::limits::LEAST;
 use crate::tests::phases::{SMALL, ends, says};
-use brc_close::close_or_end;
+use brc_heap::close_or_end;
 use brc_thread::{Heap, Mutator, Resting, Root, take_apart};
 use brc_words::Fault;
 use std::alloc::Global;

@@ -12,7 +12,7 @@ use crate::tests::phases::{ends, entered, leaves, leaves_late, opened_with, says
 use brc_count::biased::HasTable;
 use brc_count::{Frame, Handle};
 use brc_handles::Handles;
-use brc_lists::try_list_push;
+use brc_things::try_list_push;
 use linked_list_allocator::LocalHeap;
 use std::alloc::{Allocator, Global};
 use std::process::Abort;

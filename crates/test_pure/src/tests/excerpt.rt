@@ -1,6 +1,6 @@
 //! A word as it stands in an error line.
 
-use brc_excerpt::{Excerpt, put_quoted};
+use brc_text::{Excerpt, put_quoted};
 use std::test::Fail;
 
 #[test]

@@ -1,5 +1,5 @@
 use Rattle.std.proofs.Common.{reverse}
-use Rattle.law_world.proofs.Reached.{run_histories}
+use Rattle.law.proofs.world.Reached.{run_histories}
 use Rattle.brc_core.proofs.Turns.{both_ok}
 use Rattle.brc_core.proofs.replaying.replay.Goals as goal
 

@@ -1,6 +1,6 @@
 use Rattle.std.proofs.Common.{reverse}
-use Rattle.law_world.proofs.Reached.{reached_headline}
-use Rattle.law_world.proofs.Recounting.{run_histories_since}
+use Rattle.law.proofs.world.Reached.{reached_headline}
+use Rattle.law.proofs.world.Recounting.{run_histories_since}
 use Rattle.brc_core.proofs.Turns.{leads_whole, leads_reached}
 use Rattle.brc_core.proofs.replaying.replay_in.Goals as goal
 

@@ -1,6 +1,6 @@
 use Rattle.std.proofs.Common.{take, reverse}
 use Rattle.brc_core.proofs.Turns.{LeadsTo}
-use Rattle.law_world.specs.Heap.{opening_in}
+use Rattle.law.specs.world.Heap.{opening_in}
 use Rattle.brc_core.proofs.replaying.replay_in.Given as goal
 
 abbrev pub invariant-loop-at : goal.invariant-loop-at

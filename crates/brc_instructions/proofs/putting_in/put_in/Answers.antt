@@ -1,9 +1,9 @@
 use Rattle.std.proofs.Common.{Some, None, Ok, Err, sym, subst}
 use Rattle.brc_count.specs.block.Lent_Keys.{key_lent}
 use Rattle.brc_things.specs.Called.{Late}
-use Rattle.brc_dicts.specs.Calls.{DictPut}
+use Rattle.brc_things.specs.Dict_Calls.{DictPut}
 use Rattle.brc_count.specs.Frames.{HandleSeen}
-use Rattle.brc_lists.specs.Plain.{plain_push, plain_set, plain_send}
+use Rattle.brc_things.specs.Plain_Lists.{plain_push, plain_set, plain_send}
 use Rattle.brc_meaning.specs.declared.call.Call.TheVariants as calls
 use Rattle.brc_meaning.specs.declared.call.KeyedCall.TheVariants as keyed
 use Rattle.brc_meaning.specs.Objects.{object_call, keyed_call}

@@ -1,5 +1,5 @@
-use Rattle.brc_lists.specs.Plain.{plain_pop, plain_get, plain_receive}
-use Rattle.brc_dicts.specs.Plain.{plain_find, plain_del}
+use Rattle.brc_things.specs.Plain_Lists.{plain_pop, plain_get, plain_receive}
+use Rattle.brc_things.specs.Plain_Dicts.{plain_find, plain_del}
 use Rattle.law_isolation.proofs.Calls_Mean.{pop_means, get_means, receive_means, find_means, delete_means}
 use Rattle.brc_instructions.proofs.Follows_Of.{late_takes, late_shares}
 use Rattle.brc_instructions.proofs.Causes_Of.{takes_caused, shares_caused}

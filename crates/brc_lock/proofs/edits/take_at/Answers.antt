@@ -1,5 +1,5 @@
 use Rattle.std.proofs.Common.{sym, ◌∙◌, ap, slice_get, map}
-use Rattle.brc_count.specs.law.rule.declared.contents.Contents.TheVariants as contents
+use Rattle.brc_count.specs.law.declared.rule.contents.Contents.TheVariants as contents
 use Rattle.brc_count.specs.law.rule.Logs.{entries_in}
 use Rattle.brc_count.specs.table.Shown.{contents_of}
 use Rattle.brc_lock.specs.Edits.{without}

@@ -2,7 +2,7 @@ use Rattle.std.proofs.Common.{◌++◌, refl}
 use Rattle.std.proofs.lemmas.Result.{err_from_is_err_and}
 use Rattle.brc_text.proofs.PutLaws.{starts, goes_on, fails, rest_puts}
 use Rattle.brc_text.specs.Parts.{joined}
-use Rattle.brc_excerpt.specs.Excerpts.{quoted}
+use Rattle.brc_text.specs.Excerpts.{quoted}
 use Rattle.brc_mistakes.proofs.writing.put_word.Goals as goal
 
 pub returns-in_err-put_quoted : goal.returns-in_err-put_quoted

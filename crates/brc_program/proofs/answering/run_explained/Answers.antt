@@ -1,6 +1,6 @@
 use Rattle.std.proofs.Common.{Ok, Err, ap, refl, subst}
-use Rattle.brc_run_text.specs.Notes.{nowhere}
-use Rattle.brc_run_text.specs.Scripts_Run.{Runs}
+use Rattle.brc_run.specs.Notes.{nowhere}
+use Rattle.brc_run.specs.Scripts_Run.{Runs}
 use Rattle.brc_program.proofs.Of_Input.{fails_of_input}
 use Rattle.brc_program.proofs.answering.run_explained.Goals as goal
 

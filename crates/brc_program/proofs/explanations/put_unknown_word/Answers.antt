@@ -1,6 +1,6 @@
 use Rattle.std.proofs.Common.{ℕ, List, [], ◌∷◌, ◌++◌, refl, codes}
 use Rattle.std.proofs.lemmas.Result.{err_from_is_err_and}
-use Rattle.brc_excerpt.specs.Excerpts.{quoted}
+use Rattle.brc_text.specs.Excerpts.{quoted}
 use Rattle.brc_text.proofs.PutLaws.{starts, goes_on, fails, rest_puts}
 use Rattle.brc_program.proofs.explanations.put_unknown_word.Goals as goal
 

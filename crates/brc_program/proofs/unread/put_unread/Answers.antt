@@ -1,7 +1,7 @@
 use Rattle.std.proofs.Common.{◌++◌, ◌∙◌, ap, sym, ℕ, List, [], ◌∷◌, rules}
 use Rattle.std.proofs.lemmas.Result.{err_from_is_err_and}
 use Rattle.brc_text.proofs.PutLaws.{starts, goes_on, fails, rest_puts}
-use Rattle.brc_excerpt.specs.Excerpts.{quoted}
+use Rattle.brc_text.specs.Excerpts.{quoted}
 use Rattle.brc_program.specs.Unreads.{behind_word, word_of, unread_line}
 use Rattle.brc_program.proofs.unread.put_unread.Goals as goal
 

@@ -1,4 +1,4 @@
-use Rattle.brc_run.proofs.Telling.{done_unrun, done_run}
+use Rattle.brc_run.proofs.Run_Told.{done_unrun, done_run}
 use Rattle.brc_run.proofs.crew.run_one.Goals as goal
 use Rattle.brc_run.proofs.crew.run_one.Goals.{then-has_ended, else-has_ended}
 

@@ -1,5 +1,5 @@
-use Rattle.law.specs.rule.declared.told.Moved.TheVariants.{Nothing}
-use Rattle.law.specs.rule.declared.told.LogItem.TheVariants.{Stepped}
+use Rattle.law.specs.declared.rule.told.Moved.TheVariants.{Nothing}
+use Rattle.law.specs.declared.rule.told.LogItem.TheVariants.{Stepped}
 use Rattle.brc_table.proofs.machine.exchange.Given as goal
 
 abbrev pub ghosts-exchange_as : goal.ghosts-exchange_as

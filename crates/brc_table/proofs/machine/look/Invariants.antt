@@ -1,4 +1,4 @@
-use Rattle.law.specs.rule.declared.told.LogItem.TheVariants.{Loaded}
+use Rattle.law.specs.declared.rule.told.LogItem.TheVariants.{Loaded}
 use Rattle.brc_table.proofs.machine.look.Given as goal
 
 abbrev pub ghosts-look_as : goal.ghosts-look_as

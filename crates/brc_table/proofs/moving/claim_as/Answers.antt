@@ -1,7 +1,7 @@
 use Rattle.std.proofs.Common.{◌==◌, ◌/◌, ◌%◌}
 use Rattle.std.specs.Prelude.{bit_and}
 use Rattle.std.specs.Int.{bit_at}
-use Rattle.law.specs.known.declared.word.Word.TheVariants.{FreeWord}
+use Rattle.law.specs.declared.known.word.Word.TheVariants.{FreeWord}
 use Rattle.law.specs.steps.Taking.{Claimed}
 use Rattle.brc_table.specs.Shown.{shows}
 use Rattle.brc_table.proofs.Placing.{step_allowed, free_inside}

@@ -1,4 +1,4 @@
-use Rattle.law.specs.rule.declared.told.LogItem.TheVariants.{Stepped}
+use Rattle.law.specs.declared.rule.told.LogItem.TheVariants.{Stepped}
 use Rattle.brc_table.specs.Moving.{put_home}
 use Rattle.brc_table.proofs.moving.give.Given as goal
 

@@ -1,7 +1,7 @@
 use Rattle.std.proofs.Common.{◌==◌}
 use prog.Atomic.{either}
-use Rattle.law.specs.known.declared.word.Field.TheVariants.{Mutex}
-use Rattle.law.specs.known.declared.word.Word.TheVariants.{Of}
+use Rattle.law.specs.declared.known.word.Field.TheVariants.{Mutex}
+use Rattle.law.specs.declared.known.word.Word.TheVariants.{Of}
 use Rattle.law.specs.steps.Taking.{LockedOrBusy}
 use Rattle.brc_table.specs.Shown.{shows}
 use Rattle.brc_table.proofs.Placing.{step_allowed}

@@ -1,7 +1,7 @@
 use Rattle.std.proofs.Common.{◌+◌, ◌-◌, ◌%◌}
 use Rattle.law.specs.world.Steps.{takes_block}
-use Rattle.law.specs.known.declared.word.Field.TheVariants.{Shared}
-use Rattle.law.specs.known.declared.word.Word.TheVariants.{Of}
+use Rattle.law.specs.declared.known.word.Field.TheVariants.{Shared}
+use Rattle.law.specs.declared.known.word.Word.TheVariants.{Of}
 use Rattle.law.specs.known.Items.{cell_told}
 use Rattle.law.specs.steps.Taking.{EndedObject}
 use Rattle.brc_table.specs.Shown.{shows}

@@ -1,6 +1,6 @@
 use Rattle.std.proofs.Common.{ℕ, List, Bool, subst}
 use Rattle.std.specs.Prelude.{IfOk}
-use Rattle.law_world.specs.declared.edition.Edition.{Edition}
+use Rattle.law.specs.declared.world.edition.Edition.{Edition}
 use Rattle.brc_trace.specs.Causes.{IsCause, piece_at}
 use Rattle.brc_trace.proofs.CauseLaws.{line_from}
 use Rattle.brc_trace.proofs.causes.cause_of.Goals as goal

@@ -1,5 +1,5 @@
 use Rattle.std.proofs.Common.{Option, ap, sym}
-use Rattle.law_world.specs.declared.edition.Edition.{Edition}
+use Rattle.law.specs.declared.world.edition.Edition.{Edition}
 use Rattle.brc_trace.specs.Causes.{edition_marked}
 use Rattle.brc_trace.specs.Traces.{mark_at}
 use Rattle.brc_trace.proofs.CauseLaws.{first_read, first_unread}

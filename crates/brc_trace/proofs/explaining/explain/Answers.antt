@@ -1,6 +1,6 @@
 use Rattle.std.proofs.Common.{◌≡◌, List, ℕ, Option, None, Result, Ok, Err}
 use Rattle.std.specs.Prelude.{IfOk}
-use Rattle.law_world.specs.Heap.{Heap}
+use Rattle.law.specs.world.Heap.{Heap}
 use Rattle.brc_trace.specs.declared.explaining.Why.{Why}
 use Rattle.brc_trace.specs.Replaying.{IsReplayed}
 use Rattle.brc_trace.specs.Explaining.{Explains}

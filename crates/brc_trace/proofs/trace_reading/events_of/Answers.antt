@@ -1,6 +1,6 @@
 use Rattle.std.proofs.Common.{◌∙◌, ◌+◌, List, length, Ok, ap, sym, append-nil, arith}
 use Rattle.std.proofs.lemmas.Bool.{eqb-true}
-use Rattle.law_world.specs.declared.event.Event.{Event}
+use Rattle.law.specs.declared.world.event.Event.{Event}
 use Rattle.brc_text.specs.Lines.{pieces}
 use Rattle.brc_text.proofs.NumberLaws.{above_zero}
 use Rattle.brc_trace.specs.Traces.{events_at}

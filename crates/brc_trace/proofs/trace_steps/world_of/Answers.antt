@@ -1,5 +1,5 @@
 use Rattle.std.proofs.Common.{subst}
-use Rattle.law_world.specs.Heap.{Heap}
+use Rattle.law.specs.world.Heap.{Heap}
 use Rattle.brc_text.specs.Lines.{pieces}
 use Rattle.brc_trace.specs.Traces.{first_number, events_at}
 use Rattle.brc_trace.specs.Replaying.{AreMade}

@@ -2,8 +2,8 @@ use Rattle.std.proofs.Common.{◌≡◌, ◌∙◌, ℕ, true, false, [], ◌++�
 use Rattle.std.proofs.lemmas.Result.{err_from_is_err_and}
 use Rattle.std.proofs.KnownBytes.{Appends-nil}
 use Rattle.std.specs.Io.KnownBytes.{Appends}
-use Rattle.law_world.specs.Heap.{Heap, cell_at, entries_at}
-use Rattle.law_world.specs.Holding.{lives_at}
+use Rattle.law.specs.world.Heap.{Heap, cell_at, entries_at}
+use Rattle.law.specs.world.Holding.{lives_at}
 use Rattle.brc_text.proofs.PutLaws.{starts, goes_on, fails}
 use Rattle.brc_trace.specs.Worlds.{object_line, entries_text, object_text}
 use Rattle.brc_trace.proofs.WorldLaws.{last_puts}

@@ -9,10 +9,10 @@ use Rattle.brc_words.specs.declared.owner.Owner.{Owner}
 use Rattle.brc_words.specs.declared.owner.Owner.TheVariants as owners
 use Rattle.brc_words.specs.declared.state.State.{State}
 use Rattle.brc_words.specs.declared.state.State.TheVariants as states
-use Rattle.law_world.specs.declared.cell.Cell.{Cell}
-use Rattle.law_world.specs.Heap.{cell_at, is_immortal, no_cell}
-use Rattle.law_world.specs.Holding.{lives_at, total_of}
-use Rattle.law_world.specs.Steps.{is_merged}
+use Rattle.law.specs.declared.world.cell.Cell.{Cell}
+use Rattle.law.specs.world.Heap.{cell_at, is_immortal, no_cell}
+use Rattle.law.specs.world.Holding.{lives_at, total_of}
+use Rattle.law.specs.world.Steps.{is_merged}
 use Rattle.brc_core.specs.Readings.{only_if, has_object}
 use Rattle.brc_text.specs.declared.keyword.Keyword.{Keyword}
 use Rattle.brc_text.specs.declared.keyword.Keyword.TheVariants as words

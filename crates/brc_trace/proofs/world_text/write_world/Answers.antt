@@ -1,8 +1,8 @@
 use Rattle.std.proofs.Common.{◌≡◌, ◌-◌, ℕ, List, ◌++◌, length, refl}
 use Rattle.std.proofs.lemmas.Result.{err_from_is_err_and}
-use Rattle.law_world.specs.declared.edition.Edition.{Edition}
-use Rattle.law_world.specs.Heap.{Heap, entries_at}
-use Rattle.law_world.specs.Holding.{live_count}
+use Rattle.law.specs.declared.world.edition.Edition.{Edition}
+use Rattle.law.specs.world.Heap.{Heap, entries_at}
+use Rattle.law.specs.world.Holding.{live_count}
 use Rattle.brc_core.specs.Readings.{ledgers_of}
 use Rattle.brc_trace.specs.Worlds.{over, edition_text, world_line, thread_text, entries_text, object_text, ledger_line}
 use Rattle.brc_trace.specs.Worlds.{world_text}

@@ -1,6 +1,6 @@
 use Rattle.std.proofs.Common.{sym, ap, arith, length}
 use Rattle.std.proofs.lemmas.Result.{err_from_is_err_and}
-use Rattle.law_world.specs.Heap.{frame_at}
+use Rattle.law.specs.world.Heap.{frame_at}
 use Rattle.brc_text.specs.declared.keyword.Keyword.TheVariants as words
 use Rattle.brc_trace.specs.Worlds.{frame_text, place_text}
 use Rattle.brc_trace.proofs.WorldLaws.{turns_begin, turn_puts, turn_fails, turns_end}

@@ -1,5 +1,5 @@
 use Rattle.std.proofs.Common.{length}
-use Rattle.law_world.specs.Heap.{frame_at}
+use Rattle.law.specs.world.Heap.{frame_at}
 use Rattle.brc_trace.specs.Worlds.{over, frame_text}
 use Rattle.brc_trace.proofs.WorldLaws.{PutsOver}
 use Rattle.brc_trace.proofs.world_thread.put_frame.Given as goal

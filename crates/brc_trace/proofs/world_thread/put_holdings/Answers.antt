@@ -1,7 +1,7 @@
 use Rattle.std.proofs.Common.{◌≡◌, ℕ, List, ◌++◌, length, refl, sym, ap}
 use Rattle.std.proofs.lemmas.Result.{err_from_is_err_and}
-use Rattle.law_world.specs.declared.row.Hand.{Hand}
-use Rattle.law_world.specs.Heap.{Heap, row_at, frame_at}
+use Rattle.law.specs.declared.world.row.Hand.{Hand}
+use Rattle.law.specs.world.Heap.{Heap, row_at, frame_at}
 use Rattle.brc_trace.specs.declared.world_thread.Pile.TheVariants as piles
 use Rattle.brc_trace.specs.Worlds.{over, hand_text, locked_text, frame_text, pile_text, holdings_text}
 use Rattle.brc_text.proofs.PutLaws.{starts, goes_on, fails}

@@ -2,7 +2,7 @@ use Rattle.std.proofs.Common.{◌≡◌, ◌∙◌, ℕ, ◌++◌, [], List, Boo
 use Rattle.std.proofs.lemmas.Result.{err_from_is_err_and}
 use Rattle.brc_core.specs.declared.readers.Status.{Status}
 use Rattle.brc_core.specs.Readings.{only_if}
-use Rattle.law_world.specs.Heap.{Heap, is_registered}
+use Rattle.law.specs.world.Heap.{Heap, is_registered}
 use Rattle.brc_text.proofs.PutLaws.{starts, goes_on, fails, ends}
 use Rattle.brc_trace.specs.Worlds.{is_over, status_at, thread_line, thread_text, holdings_text}
 use Rattle.brc_trace.proofs.WorldLaws.{last_puts}

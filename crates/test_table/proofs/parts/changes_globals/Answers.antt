@@ -1,5 +1,5 @@
 use Rattle.std.proofs.Common.{List, sym, subst, ◌∙◌}
-use Rattle.law.specs.rule.declared.told.LogItem.{LogItem}
+use Rattle.law.specs.declared.rule.told.LogItem.{LogItem}
 use Rattle.law.specs.steps.Owing.{MayUnlock}
 use Rattle.brc_table.specs.Moving.{found_locked}
 use Rattle.brc_table.specs.Shown.{contents_of, shows}

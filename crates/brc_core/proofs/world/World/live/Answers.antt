@@ -1,9 +1,9 @@
 use Rattle.std.proofs.Common.{◌≡◌, ◌+◌, ◌∙◌, drop, sum_by, subst, arith}
 use Rattle.brc_words.specs.declared.limits.TheConstants.{FIRST_MORTAL}
-use Rattle.law_world.proofs.Reached.{reached_headline}
+use Rattle.law.proofs.world.Reached.{reached_headline}
 use Rattle.brc_core.proofs.Bounds.{live_fits, live-count_by}
-use Rattle.law_world.specs.Heap.{Heap}
-use Rattle.law_world.specs.Holding.{live_count}
+use Rattle.law.specs.world.Heap.{Heap}
+use Rattle.law.specs.world.Holding.{live_count}
 use Rattle.brc_core.proofs.world.World.live.Goals as goal
 
 pub overflow_cast-result : goal.overflow_cast-result

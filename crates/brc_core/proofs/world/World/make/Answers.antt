@@ -1,12 +1,12 @@
 use Rattle.std.proofs.Common.{◌≡◌, true, subst, sym, ◌∙◌}
-use Rattle.law_world.specs.declared.event.Event.{Event}
-use Rattle.law_world.specs.Heap.{Heap}
-use Rattle.law_world.specs.Steps.{enabled, after}
-use Rattle.law_world.specs.Runs.{IsReached}
-use Rattle.law_moves.specs.Moves.{MakesMoves, map_of, moves_by}
-use Rattle.law_moves.proofs.Allowing.{reached_moves}
-use Rattle.law_world.proofs.Reached.{reached_allocs, reached_frees}
-use Rattle.law_world.proofs.Sizes.{reached_count_range}
+use Rattle.law.specs.declared.world.event.Event.{Event}
+use Rattle.law.specs.world.Heap.{Heap}
+use Rattle.law.specs.world.Steps.{enabled, after}
+use Rattle.law.specs.world.Runs.{IsReached}
+use Rattle.law.specs.moves.Moves.{MakesMoves, map_of, moves_by}
+use Rattle.law.proofs.moves.Allowing.{reached_moves}
+use Rattle.law.proofs.world.Reached.{reached_allocs, reached_frees}
+use Rattle.law.proofs.world.Sizes.{reached_count_range}
 use Rattle.brc_core.proofs.Bounds.{cells_fit, registers_few, past_allocs_fit, past_frees_fit}
 use Rattle.brc_core.proofs.Closing.{reached_closers}
 use Rattle.brc_core.proofs.Reaching.{reached_after}

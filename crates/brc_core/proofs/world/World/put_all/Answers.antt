@@ -1,8 +1,8 @@
 use Rattle.std.proofs.Common.{◌++◌, List, sym, subst, ap, ◌∙◌}
 use Rattle.brc_core.proofs.Eaches.{one_more, holders_by_parts}
 use Rattle.brc_model.specs.declared.holder.Holder.{Holder}
-use Rattle.law_world.proofs.Reached.{reached_sound}
-use Rattle.law_world.specs.Sound.{IsShaped}
+use Rattle.law.proofs.world.Reached.{reached_sound}
+use Rattle.law.specs.world.Sound.{IsShaped}
 use Rattle.brc_core.proofs.world.World.put_all.Goals as goal
 
 pub returns : goal.returns

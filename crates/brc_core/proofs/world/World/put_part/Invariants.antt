@@ -1,6 +1,6 @@
 use Rattle.brc_core.proofs.Eaches.{Found}
 use Rattle.brc_core.specs.Holders.{holds, holder_in}
-use Rattle.law_world.specs.Holding.{if_so}
+use Rattle.law.specs.world.Holding.{if_so}
 use Rattle.brc_core.proofs.world.World.put_part.Given as goal
 
 abbrev pub invariant-loop-number : goal.invariant-loop-number

@@ -1,9 +1,9 @@
 use Rattle.std.proofs.Common.{◌≡◌, true, sym, subst, ap, ◌∙◌, arith, pos, length}
 use Rattle.std.proofs.lemmas.Int.{to_z-of_z, ints}
-use Rattle.law_world.proofs.Sizes.{reached_count_range}
+use Rattle.law.proofs.world.Sizes.{reached_count_range}
 use Rattle.brc_core.proofs.Bounds.{references}
-use Rattle.law_world.specs.Heap.{Heap}
-use Rattle.law_world.specs.Holding.{holders_of, lives_at, total_of}
+use Rattle.law.specs.world.Heap.{Heap}
+use Rattle.law.specs.world.Holding.{holders_of, lives_at, total_of}
 use mir.Val.{SFits}
 use mir.Syntax.{w64}
 use Rattle.brc_core.proofs.world.World.total.Goals as goal

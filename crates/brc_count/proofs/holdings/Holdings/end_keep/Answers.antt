@@ -1,5 +1,5 @@
 use Rattle.std.proofs.Common.{◌≡◌, Some, sym, subst}
-use Rattle.brc_table.specs.law.world.declared.event.Change.TheVariants as changes
+use Rattle.brc_table.specs.law.declared.world.event.Change.TheVariants as changes
 use Rattle.brc_count.specs.Frames.{FrameSeen}
 use Rattle.brc_count.specs.Locking.{IsLocked, cell_locked}
 use Rattle.brc_count.proofs.Locks.{after_end}

@@ -1,6 +1,6 @@
 use Rattle.std.proofs.Common.{◌≡◌, Some, sym, subst, refl, false}
-use Rattle.brc_table.specs.law.world.declared.event.Change.TheVariants as changes
-use Rattle.brc_table.specs.law.world.declared.row.Hand.TheVariants as hands
+use Rattle.brc_table.specs.law.declared.world.event.Change.TheVariants as changes
+use Rattle.brc_table.specs.law.declared.world.row.Hand.TheVariants as hands
 use Rattle.brc_table.specs.law.rule.Seen.{part_seen}
 use Rattle.brc_table.specs.law.steps.Owing.{MayUnlock}
 use Rattle.brc_table.specs.Moving.{found_locked}

@@ -1,8 +1,8 @@
 use Rattle.std.proofs.Common.{◌≡◌, ◌<◌, Some, None, ◌∙◌, sym, ap, subst, refl, false}
 use Rattle.slab.specs.Slab.{Updates}
 use Rattle.brc_words.specs.declared.limits.TheConstants.{MOST_PLACES}
-use Rattle.brc_table.specs.law.world.declared.event.Change.TheVariants as changes
-use Rattle.brc_table.specs.law.world.declared.row.Hand.TheVariants as hands
+use Rattle.brc_table.specs.law.declared.world.event.Change.TheVariants as changes
+use Rattle.brc_table.specs.law.declared.world.row.Hand.TheVariants as hands
 use Rattle.brc_table.specs.law.rule.Seen.{part_seen}
 use Rattle.brc_table.specs.law.steps.Owing.{MayUnlock}
 use Rattle.brc_table.specs.Moving.{found_locked}

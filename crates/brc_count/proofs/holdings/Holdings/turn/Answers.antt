@@ -1,6 +1,6 @@
 use Rattle.std.proofs.Common.{◌∙◌, sym, ap, subst, false}
 use Rattle.brc_table.specs.block.Blocks.{front_cell, front_entries}
-use Rattle.brc_table.specs.law.world.declared.event.Dropped.TheVariants as drops
+use Rattle.brc_table.specs.law.declared.world.event.Dropped.TheVariants as drops
 use Rattle.brc_biased.specs.Standing.{MayDrop}
 use Rattle.brc_count.specs.Frames.{IsUnlocked, MayGiveUp, pushed, EntryReleased, BlockFreed}
 use Rattle.brc_count.proofs.Changes.{same_cell, entry_inside, entry_held, after_entry, front_inside, free_carries}

@@ -1,4 +1,4 @@
-use Rattle.brc_table.specs.law.world.declared.event.Source.TheVariants as sources
+use Rattle.brc_table.specs.law.declared.world.event.Source.TheVariants as sources
 use Rattle.brc_count.specs.Frames.{handle_at}
 use Rattle.brc_count.proofs.Locked_Entries.{entry_named, entry_up}
 use Rattle.brc_count.proofs.holdings.Holdings.up_entry.Goals as goal

@@ -1,6 +1,6 @@
 use Rattle.std.proofs.Common.{subst, rules, ℤ, w64}
 use Rattle.std.proofs.lemmas.Int.{to_z-of_z}
-use Rattle.brc_count.specs.law.rule.declared.contents.Contents.TheVariants as contents
+use Rattle.brc_count.specs.law.declared.rule.contents.Contents.TheVariants as contents
 use Rattle.brc_things.specs.Makers.{Answered, small_cell}
 use Rattle.brc_instructions.proofs.Follows_Of.{later_held, later_answered, makes_int}
 use Rattle.std.proofs.lemmas.Result.{err_from_is_err_and}

@@ -1,5 +1,5 @@
 use Rattle.std.proofs.Common.{subst, ℕ, List}
-use Rattle.brc_count.specs.law.rule.declared.contents.Contents.TheVariants as contents
+use Rattle.brc_count.specs.law.declared.rule.contents.Contents.TheVariants as contents
 use Rattle.brc_count.specs.Making.{Made}
 use Rattle.law_isolation.proofs.Later_Calls.{later_made}
 use Rattle.brc_instructions.proofs.Follows_Of.{later_held, makes_text}

@@ -1,5 +1,5 @@
 use Rattle.std.proofs.Common.{refl, sym, ◌∙◌, subst}
-use Rattle.brc_count.specs.law.world.declared.event.Source.TheVariants as sources
+use Rattle.brc_count.specs.law.declared.world.event.Source.TheVariants as sources
 use Rattle.brc_count.specs.Frames.{GivenHandle}
 use Rattle.brc_count.specs.Locking.{contents_found}
 use Rattle.brc_lock.proofs.Edited.{found_entry, some_same}

@@ -1,6 +1,6 @@
 use Rattle.std.proofs.Common.{◌≡◌}
-use Rattle.law_world.specs.Heap.{worklist_at}
-use Rattle.law_world.specs.Steps.{owned_are_marked}
+use Rattle.law.specs.world.Heap.{worklist_at}
+use Rattle.law.specs.world.Steps.{owned_are_marked}
 use Rattle.brc_state.proofs.tables.Tables.owned_are_marked.Given as goal
 
 abbrev pub invariant-loop-cell : goal.invariant-loop-cell

@@ -1,9 +1,9 @@
 use Rattle.std.proofs.Common.{◌≡◌, ℕ, ◌/◌, ◌<◌, ◌∷◌, None, sym, subst}
 use Rattle.std.specs.Prelude.{bit_or}
 use Rattle.atomic_table.specs.Table.{rest}
-use Rattle.law.specs.world.declared.event.Step.TheVariants.{Free}
-use Rattle.law.specs.known.declared.word.Word.TheVariants.{FreeWord}
-use Rattle.law.specs.rule.declared.told.LogItem.TheVariants.{Stepped}
+use Rattle.law.specs.declared.world.event.Step.TheVariants.{Free}
+use Rattle.law.specs.declared.known.word.Word.TheVariants.{FreeWord}
+use Rattle.law.specs.declared.rule.told.LogItem.TheVariants.{Stepped}
 use Rattle.brc_table.specs.Moving.{MayGiveBy, put_home}
 use Rattle.brc_table.specs.Seated.{SeatSeen}
 use Rattle.brc_table.specs.Shown.{shows}

@@ -1,4 +1,4 @@
-use Rattle.law.specs.world.declared.event.Step.TheVariants.{MergeAdd}
+use Rattle.law.specs.declared.world.event.Step.TheVariants.{MergeAdd}
 use Rattle.law.specs.rule.Seen.{part_seen, own_may}
 use Rattle.brc_table.proofs.Bounding.{cell_of}
 use Rattle.brc_table.proofs.table.HeapTable.load_local.Given as goal

@@ -1,6 +1,6 @@
 use Rattle.std.proofs.Common.{◌+◌, ◌%◌, ◌^◌}
-use Rattle.law.specs.rule.declared.told.Moved.TheVariants.{Nothing}
-use Rattle.law.specs.rule.declared.told.LogItem.TheVariants.{Stepped}
+use Rattle.law.specs.declared.rule.told.Moved.TheVariants.{Nothing}
+use Rattle.law.specs.declared.rule.told.LogItem.TheVariants.{Stepped}
 use Rattle.brc_table.proofs.table.HeapTable.merge_add.Given as goal
 
 abbrev pub ghosts-add_up : goal.ghosts-add_up

@@ -1,5 +1,5 @@
 use Rattle.std.proofs.Common.{ℕ, ◌<◌, ◌+◌, ◌*◌, ◌%◌, ◌^◌, sym, subst}
-use Rattle.law.specs.world.declared.event.Step.TheVariants.{MergeAdd}
+use Rattle.law.specs.declared.world.event.Step.TheVariants.{MergeAdd}
 use Rattle.brc_table.specs.Moving.{MayEndAt}
 use Rattle.brc_table.specs.Seated.{SeatSeen}
 use Rattle.brc_table.specs.Shown.{shows}

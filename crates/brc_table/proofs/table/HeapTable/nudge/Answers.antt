@@ -1,9 +1,9 @@
 use Rattle.std.proofs.Common.{ℕ, ◌<◌, ◌≤◌, sym, subst, bit_or}
-use Rattle.law.specs.world.declared.event.Step.TheVariants.{Nudge}
-use Rattle.law.specs.known.declared.word.Word.TheVariants.{NotifyWord}
+use Rattle.law.specs.declared.world.event.Step.TheVariants.{Nudge}
+use Rattle.law.specs.declared.known.word.Word.TheVariants.{NotifyWord}
 use Rattle.brc_table.proofs.Placing.{notify_bit, told_inside}
-use Rattle.law.specs.rule.declared.told.Moved.TheVariants.{Nothing}
-use Rattle.law.specs.rule.declared.told.LogItem.TheVariants.{Stepped}
+use Rattle.law.specs.declared.rule.told.Moved.TheVariants.{Nothing}
+use Rattle.law.specs.declared.rule.told.LogItem.TheVariants.{Stepped}
 use Rattle.brc_table.specs.Machine.{MayTell}
 use Rattle.brc_words.specs.declared.limits.TheConstants.{MOST_CELLS}
 use Rattle.brc_table.specs.Seated.{TableSeen, SeatSeen}

@@ -1,8 +1,8 @@
 use Rattle.std.proofs.Common.{ℕ, ◌<◌, ◌≤◌, sym, subst}
-use Rattle.law.specs.rule.declared.told.Moved.TheVariants.{Nothing}
-use Rattle.law.specs.rule.declared.told.LogItem.TheVariants.{Stepped}
-use Rattle.law.specs.world.declared.event.Step.TheVariants.{Reopen}
-use Rattle.law.specs.known.declared.word.Word.TheVariants.{Queue}
+use Rattle.law.specs.declared.rule.told.Moved.TheVariants.{Nothing}
+use Rattle.law.specs.declared.rule.told.LogItem.TheVariants.{Stepped}
+use Rattle.law.specs.declared.world.event.Step.TheVariants.{Reopen}
+use Rattle.law.specs.declared.known.word.Word.TheVariants.{Queue}
 use Rattle.brc_table.specs.Machine.{MayTell}
 use Rattle.brc_table.specs.Seated.{SeatSeen}
 use Rattle.brc_table.specs.Shown.{shows}

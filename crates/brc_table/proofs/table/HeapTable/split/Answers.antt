@@ -1,10 +1,10 @@
 use Rattle.std.proofs.Common.{rules, arith, ◌≡◌, ◌∷◌, [], ◌+◌, sym, subst, ap, ◌∙◌, if◌then◌else◌}
 use Rattle.std.proofs.lemmas.Bool.{eq-eqb, ne_eqb}
-use Rattle.law.specs.world.declared.event.Step.TheVariants.{Register}
+use Rattle.law.specs.declared.world.event.Step.TheVariants.{Register}
 use Rattle.law.specs.known.Root.{marks_of, rows_of}
-use Rattle.law.specs.rule.declared.told.Moved.TheVariants as moves
-use Rattle.law.specs.rule.declared.told.LogItem.{LogItem}
-use Rattle.law.specs.rule.declared.told.LogItem.TheVariants.{Stepped}
+use Rattle.law.specs.declared.rule.told.Moved.TheVariants as moves
+use Rattle.law.specs.declared.rule.told.LogItem.{LogItem}
+use Rattle.law.specs.declared.rule.told.LogItem.TheVariants.{Stepped}
 use Rattle.law.specs.rule.Logs.{log_items}
 use Rattle.brc_table.specs.Numbers.{AreFree}
 use Rattle.brc_table.proofs.Numbering.{taken_number, taken_rows}

@@ -1,11 +1,11 @@
 use Rattle.std.proofs.Common.{◌≡◌, ℕ, ◌<◌, ◌∷◌, Option, Some, sym, ◌∙◌, ap, subst}
 use Rattle.atomic_table.specs.Table.{Me, rest}
 use Rattle.brc_block.specs.declared.payload.Payload.{Payload}
-use Rattle.law.specs.world.declared.event.Step.TheVariants.{Unlock}
-use Rattle.law.specs.known.declared.word.Field.TheVariants.{Mutex}
-use Rattle.law.specs.known.declared.word.Word.TheVariants.{Of}
-use Rattle.law.specs.rule.declared.told.LogItem.TheVariants.{Stepped}
-use Rattle.law.specs.rule.declared.view.View.{View}
+use Rattle.law.specs.declared.world.event.Step.TheVariants.{Unlock}
+use Rattle.law.specs.declared.known.word.Field.TheVariants.{Mutex}
+use Rattle.law.specs.declared.known.word.Word.TheVariants.{Of}
+use Rattle.law.specs.declared.rule.told.LogItem.TheVariants.{Stepped}
+use Rattle.law.specs.declared.rule.view.View.{View}
 use Rattle.brc_table.specs.Moving.{MayGive, put_home, found_locked}
 use Rattle.brc_table.specs.Seated.{SeatSeen}
 use Rattle.brc_table.specs.Shown.{shows}

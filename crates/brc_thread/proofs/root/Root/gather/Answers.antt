@@ -1,5 +1,5 @@
 use Rattle.std.proofs.Common.{ap, sym, subst, ◌∙◌}
-use Rattle.brc_count.specs.law.rule.declared.view.View.{View}
+use Rattle.brc_count.specs.law.declared.rule.view.View.{View}
 use Rattle.brc_count.specs.table.Seated.{view_of}
 use Rattle.brc_thread.specs.Counting.{Counts}
 use Rattle.brc_thread.proofs.Counted.{counts_gathered}

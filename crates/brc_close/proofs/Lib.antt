@@ -1,7 +1,0 @@
-mod Mortal_Kinds
-mod Few_Births
-mod Held
-mod Listing
-mod Collected
-mod Closed
-mod Ended

@@ -1,2 +1,0 @@
-pub mod Excerpts
-pub mod Padding

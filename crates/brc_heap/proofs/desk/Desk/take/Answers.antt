@@ -1,0 +1,10 @@
+use Rattle.std.proofs.Common.{◌∙◌, ap, sym, arith, ◌∷◌, Some}
+use Rattle.atomic_table.specs.Table as tables
+use Rattle.brc_heap.proofs.desk.Desk.take.Goals as goal
+
+pub exchange-requires : goal.exchange-requires
+exchange-requires c =
+    let taken = c.swap_new_seat-found.ensures.1.taken (omega (arith, c.if-found-ne0.false)) in (
+      c.swap_new_seat-found.ensures.0,
+      (Some taken.0, taken.1 ∙ ap (λ others. (0, Some taken.0) ∷ others) (sym (ap tables.rest taken.1))),
+    )

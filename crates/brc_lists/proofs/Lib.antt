@@ -1,3 +1,0 @@
-pub mod Rows_Law
-pub mod Within_Law
-pub mod Joining

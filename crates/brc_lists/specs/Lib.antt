@@ -1,4 +1,0 @@
-pub mod Plain
-pub mod Calls
-pub mod Rows
-pub mod Within

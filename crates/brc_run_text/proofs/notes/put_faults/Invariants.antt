@@ -1,5 +1,0 @@
-use Rattle.brc_run_text.specs.Notes.{AppendsSome}
-use Rattle.brc_run_text.proofs.notes.put_faults.Given as goal
-
-abbrev pub invariant-loop-index : goal.invariant-loop-index
-invariant-loop-index g l = AppendsSome (g.W.Write.contents l.fn.errors) (g.W.Write.contents l.errors)

@@ -1,4 +1,0 @@
-use Rattle.brc_run_text.proofs.words.put_register.Goals as goal
-
-pub returns : goal.returns
-returns g c = (_, c.put_parts.ensures)

@@ -1,4 +1,0 @@
-use Rattle.brc_run_text.proofs.words.put_text.Goals as goal
-
-pub returns : goal.returns
-returns g c = (c.args.text.now, c.put_bytes.ensures)

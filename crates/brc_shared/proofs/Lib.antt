@@ -1,2 +1,0 @@
-pub mod At_Desk
-pub mod Sent

@@ -1,0 +1,20 @@
+use Rattle.brc_count.specs.block.Lent_Keys.{key_lent}
+use Rattle.brc_things.specs.Changing.{Shares, RefusedPlace}
+use Rattle.brc_things.specs.Plain_Dicts.{plain_find}
+use Rattle.brc_things.proofs.Since_Law.{locked_late, hands_out}
+use Rattle.brc_things.proofs.values.dict_find_by.Goals as goal
+
+pub returns-clause-shares : goal.returns-clause-shares
+returns-clause-shares g c =
+    let late = c.begin_late-block.ensures in
+    let locked = c.begin_late-block.new.frame in
+    let k = c.args.dict.now.place in
+    let up = c.find_locked.ensures in (
+      late.mid,
+      late.waits,
+      hands_out late.mid locked c.find_locked.new.frame k c.begin_late-block.result
+          (λ before j given. Shares before c.find_locked.new.frame j (plain_find {A = g.row.A.Denot} (key_lent c.args.key)) given)
+          (λ before j fault. RefusedPlace before c.find_locked.new.frame j (plain_find {A = g.row.A.Denot} (key_lent c.args.key)) fault)
+          c.find_locked.result (locked_late c.args.frame.now locked k c.begin_late-block.result late) up.thread
+          up.shares up.places up.refused,
+    )

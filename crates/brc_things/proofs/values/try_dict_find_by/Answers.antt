@@ -1,0 +1,16 @@
+use Rattle.brc_count.specs.block.Lent_Keys.{key_lent}
+use Rattle.brc_things.specs.Changing.{Shares, RefusedPlace}
+use Rattle.brc_things.specs.Plain_Dicts.{plain_find}
+use Rattle.brc_things.specs.Since.{JustLocked}
+use Rattle.brc_things.proofs.Since_Law.{hands_out}
+use Rattle.brc_things.proofs.values.try_dict_find_by.Goals as goal
+
+pub returns-clause-shares : goal.returns-clause-shares
+returns-clause-shares g c =
+    let since : JustLocked c.args.frame.now c.begin.new.self c.args.dict.now.place c.in-Some.block =
+    record { began = c.in-Some.ensures.began; keeps = c.begin.ensures.keeps; frame = c.begin.ensures.frame } in
+    let up = c.find_locked.ensures in
+    hands_out c.args.frame.now c.begin.new.self c.find_locked.new.frame c.args.dict.now.place c.in-Some.block
+    (λ before k given. Shares before c.find_locked.new.frame k (plain_find {A = g.row.A.Denot} (key_lent c.args.key)) given)
+    (λ before k fault. RefusedPlace before c.find_locked.new.frame k (plain_find {A = g.row.A.Denot} (key_lent c.args.key)) fault)
+    c.find_locked.result since up.thread up.shares up.places up.refused

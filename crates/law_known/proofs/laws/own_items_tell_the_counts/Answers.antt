@@ -1,5 +1,0 @@
-use Rattle.law_known.proofs.Counts_Law.{counts_are_told}
-use Rattle.law_known.proofs.laws.own_items_tell_the_counts.Goals as goal
-
-pub returns : goal.returns
-returns c = counts_are_told

@@ -1,5 +1,0 @@
-use Rattle.law_known.proofs.Owners_Law.{owners_are_registered}
-use Rattle.law_known.proofs.laws.own_looks_tell_the_owners.Goals as goal
-
-pub returns : goal.returns
-returns c = owners_are_registered

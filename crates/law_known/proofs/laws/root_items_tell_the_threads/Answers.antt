@@ -1,5 +1,0 @@
-use Rattle.law_known.proofs.Root_Law.{rows_are_told, gathered_are_told}
-use Rattle.law_known.proofs.laws.root_items_tell_the_threads.Goals as goal
-
-pub returns : goal.returns
-returns c = record { rows = rows_are_told; gathered = gathered_are_told }

@@ -1,5 +1,0 @@
-use Rattle.law_lasting.proofs.Standing.{gathered_hold_nothing}
-use Rattle.law_lasting.proofs.laws.gathered_threads_hold_nothing.Goals as goal
-
-pub returns : goal.returns
-returns c = gathered_hold_nothing

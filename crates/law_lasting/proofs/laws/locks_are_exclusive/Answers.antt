@@ -1,5 +1,0 @@
-use Rattle.law_lasting.proofs.Standing.{locked_held, locked_by_one}
-use Rattle.law_lasting.proofs.laws.locks_are_exclusive.Goals as goal
-
-pub returns : goal.returns
-returns c = record { held = locked_held; one = locked_by_one }

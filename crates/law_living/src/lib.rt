@@ -1,4 +1,0 @@
-//! What a thread's own log tells of what lives, and items by which it only lets go: definitions and laws.
-#![tactic(auto)]
-
-pub mod laws;

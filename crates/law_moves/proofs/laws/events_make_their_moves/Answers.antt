@@ -1,5 +1,0 @@
-use Rattle.law_moves.proofs.Allowing.{reached_moves}
-use Rattle.law_moves.proofs.laws.events_make_their_moves.Goals as goal
-
-pub returns : goal.returns
-returns c = reached_moves (Unit {0})

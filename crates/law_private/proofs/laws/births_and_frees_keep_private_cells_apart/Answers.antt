@@ -1,8 +1,0 @@
-use Rattle.law_private.proofs.Births_Frees.{own_birth, own_free}
-use Rattle.law_private.proofs.laws.births_and_frees_keep_private_cells_apart.Goals as goal
-
-pub returns-clause-birth : goal.returns-clause-birth
-returns-clause-birth c = own_birth
-
-pub returns-clause-free : goal.returns-clause-free
-returns-clause-free c = own_free

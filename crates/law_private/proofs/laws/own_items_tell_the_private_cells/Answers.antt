@@ -1,8 +1,0 @@
-use Rattle.law_private.proofs.Private_Law.{private_cells_stay, others_never_mean}
-use Rattle.law_private.proofs.laws.own_items_tell_the_private_cells.Goals as goal
-
-pub returns-clause-apart : goal.returns-clause-apart
-returns-clause-apart c = private_cells_stay
-
-pub returns-clause-alone : goal.returns-clause-alone
-returns-clause-alone c = others_never_mean

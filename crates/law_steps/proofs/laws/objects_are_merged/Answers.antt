@@ -1,8 +1,0 @@
-use Rattle.law_steps.proofs.Untying_Steps.{unties_offered, unties_popped}
-use Rattle.law_steps.proofs.laws.objects_are_merged.Goals as goal
-
-pub returns-clause-offered : goal.returns-clause-offered
-returns-clause-offered g c = unties_offered
-
-pub returns-clause-popped : goal.returns-clause-popped
-returns-clause-popped g c = unties_popped

@@ -1,5 +1,0 @@
-use Rattle.law_world.proofs.Reached.{run_histories}
-use Rattle.law_world.proofs.laws.lives_are_told_by_the_run.Goals as goal
-
-pub returns : goal.returns
-returns c = run_histories
