@@ -6,9 +6,8 @@ ghost use Rattle.brc_count.specs.Frames.{Owns};
 use crate::operations::Operation;
 use brc_count::biased::HasTable;
 use brc_count::{Frame, Handle};
-use brc_things::{list_pop, list_push};
 use brc_loops::{Passing, pass_on};
-use brc_things::new_int;
+use brc_things::{list_pop, list_push, new_int};
 use std::alloc::Allocator;
 use std::sync::Wait;
 

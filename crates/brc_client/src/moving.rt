@@ -11,9 +11,9 @@ ghost use Rattle.brc_client.specs.Calls.{OfNamed, ByHeap, RefusedOf, Adds, WithK
 use crate::client::{Client, find, insert};
 use crate::numbers::Numbers;
 use crate::status::Status;
-use brc_things::try_dict_pair;
 use brc_handles::Handles;
 use brc_places::{GiveBy, Make, TakeBy, make_by, try_give_by, try_take_at};
+use brc_things::try_dict_pair;
 use brc_words::Key;
 use std::alloc::Global;
 

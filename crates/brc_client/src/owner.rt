@@ -11,9 +11,8 @@ ghost use Rattle.brc_client.specs.Ends.{Shows, report_of, text_in, shown_from, R
 
 use crate::status::Status;
 use crate::thread::{Thread, register};
-use brc_heap::write_report;
+use brc_heap::{NotClosed, RootCounts, Shared, Stays, write_report};
 use brc_report::Report;
-use brc_heap::{NotClosed, RootCounts, Shared, Stays};
 use brc_thread::Options;
 use brc_words::Fault;
 use std::alloc::Global;

@@ -24,17 +24,17 @@ mod shared;
 pub use asking::{same_object, truth_of};
 
 // the heap and its threads
-pub use closing::{CloseFault, close};
-pub use ending::{NoReport, close_or_end};
 pub use brc_count::Ledger;
 pub use brc_count::table::Rest;
 pub use brc_report::{Cells, Content, Remain, Report, check_report, write_report};
 pub use brc_thread::{Heap, Options, Resting, Retired, Root, give_back, take_apart};
+pub use closing::{CloseFault, close};
+pub use ending::{NoReport, close_or_end};
 pub use fixed::{Leaving, Mutator};
 
 // a heap by a count, and its threads
-pub use shared::{NotClosed, RootCounts, Shared, Stays};
 pub use fixed::SharedMutator;
+pub use shared::{NotClosed, RootCounts, Shared, Stays};
 
 // references
 pub use brc_count::{HandedBack, Handle};
@@ -48,16 +48,11 @@ pub use brc_things::{new_dict, new_int, new_list, new_mailbox, new_text, none, t
 pub use brc_count::block::KeyRef;
 pub use brc_things::{
     dict_del, dict_del_by, dict_find, dict_find_by, dict_key, dict_key_by, dict_pair, dict_put,
-    dict_set, try_dict_del, try_dict_del_by, try_dict_find, try_dict_find_by, try_dict_key,
-    try_dict_key_by, try_dict_pair, try_dict_put, try_dict_set,
-};
-pub use brc_things::{
-    list_get, list_pop, list_push, list_set, list_take, recv, send, try_list_get, try_list_pop,
-    try_list_push, try_list_set, try_list_take, try_recv, try_send,
-};
-pub use brc_things::{
-    int_of, kind_of, len_of, text_into, text_of, try_int_of, try_kind_of, try_len_of,
-    try_text_into, try_text_of,
+    dict_set, int_of, kind_of, len_of, list_get, list_pop, list_push, list_set, list_take, recv,
+    send, text_into, text_of, try_dict_del, try_dict_del_by, try_dict_find, try_dict_find_by,
+    try_dict_key, try_dict_key_by, try_dict_pair, try_dict_put, try_dict_set, try_int_of,
+    try_kind_of, try_len_of, try_list_get, try_list_pop, try_list_push, try_list_set,
+    try_list_take, try_recv, try_send, try_text_into, try_text_of,
 };
 
 // plain values

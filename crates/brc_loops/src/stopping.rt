@@ -16,8 +16,7 @@ ghost use Rattle.brc_loops.specs.Stopping.{IfGot, UnlessGot, IfStopped, IfRefuse
 use brc_count::biased::HasTable;
 use brc_count::block::KeyRef;
 use brc_count::{Frame, Handle};
-use brc_things::try_dict_find_by;
-use brc_things::try_recv;
+use brc_things::{try_dict_find_by, try_recv};
 use brc_words::Fault;
 use std::alloc::Allocator;
 use std::sync::Wait;

@@ -18,8 +18,8 @@ use crate::line_opening::Opening;
 use crate::mistake::Mistake;
 use crate::text_lines::{first_line, first_of};
 use crate::words::opening_of;
-use brc_text::Excerpt;
 use brc_script::MOST_SECTIONS;
+use brc_text::Excerpt;
 
 // ---- what a line begins with
 

@@ -9,8 +9,7 @@ ghost use Rattle.brc_mistakes.specs.Texts.{together, nearest_text, mistake_text}
 
 use crate::line_opening::Opening;
 use crate::mistake::Mistake;
-use brc_text::{Excerpt, put_quoted};
-use brc_text::{put_bytes, put_parts};
+use brc_text::{Excerpt, put_bytes, put_parts, put_quoted};
 use brc_words::Fault;
 use itoa::Buffer;
 use std::io::Write;

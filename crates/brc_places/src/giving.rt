@@ -13,10 +13,10 @@ use crate::placing::{To, close, fill, open};
 use brc_count::biased::HasTable;
 use brc_count::block::KeyRef;
 use brc_count::{Frame, Handle};
-use brc_things::{dict_del_by, dict_find_by, try_dict_del_by, try_dict_find_by};
 use brc_handles::Handles;
 use brc_things::{
-    list_get, list_pop, list_take, recv, try_list_get, try_list_pop, try_list_take, try_recv,
+    dict_del_by, dict_find_by, list_get, list_pop, list_take, recv, try_dict_del_by,
+    try_dict_find_by, try_list_get, try_list_pop, try_list_take, try_recv,
 };
 use brc_words::Fault;
 use std::alloc::Allocator;

@@ -13,9 +13,10 @@ ghost use Rattle.brc_places.specs.Placing.{TakesFrom, TakesNot};
 use brc_count::biased::HasTable;
 use brc_count::block::KeyRef;
 use brc_count::{Frame, HandedBack, Handle};
-use brc_things::{dict_set, try_dict_set};
 use brc_handles::Handles;
-use brc_things::{list_push, list_set, send, try_list_push, try_list_set, try_send};
+use brc_things::{
+    dict_set, list_push, list_set, send, try_dict_set, try_list_push, try_list_set, try_send,
+};
 use brc_words::Fault;
 use std::alloc::Allocator;
 use std::sync::Wait;

@@ -7,8 +7,7 @@ ghost use Rattle.brc_program.specs.Explanations.{together, form_of, cause_text, 
 ghost use Rattle.brc_program.specs.Explanations.{why_line, condition_of as condition_told};
 
 use crate::facts::{LineFact, put_facts};
-use brc_text::{Excerpt, put_quoted};
-use brc_text::{Keyword, put_bytes, put_parts};
+use brc_text::{Excerpt, Keyword, put_bytes, put_parts, put_quoted};
 use brc_trace::{Cause, Refused, Why};
 use brc_words::Fault;
 use std::io::Write;

@@ -12,9 +12,8 @@ use crate::command::{behind_name, brc_command};
 use crate::taken::{
     argument_at, is_behind_dashes, is_command, is_dashed, is_option, is_taken, is_word, wants_value,
 };
-use brc_text::{Excerpt, put_quoted};
 use brc_run::MOST_TURNS;
-use brc_text::{number_of, put_bytes, put_parts};
+use brc_text::{Excerpt, number_of, put_bytes, put_parts, put_quoted};
 use brc_words::{FEWEST_CELLS, Fault, MOST_CELLS, MOST_LOCAL};
 use clap::Error;
 use clap::error::ErrorKind;

@@ -29,12 +29,12 @@ mod whole;
 mod words;
 
 pub use brc_section::{Gate, Operands, SectionEnd, first_operand, second_operand};
-pub use options::{MOST_TURNS, RunOptions};
-pub use sections::{RunReport, run_sections};
 pub use ended::RunEnded;
 pub use explained::{Explained, run_script_explained};
 pub use names::name_of_number;
 pub use notes::{Notes, put_notes};
+pub use options::{MOST_TURNS, RunOptions};
 pub use section::write_section;
+pub use sections::{RunReport, run_sections};
 pub use telling::write_run;
 pub use whole::run_script;

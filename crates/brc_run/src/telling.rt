@@ -6,8 +6,8 @@ ghost use Rattle.brc_text.specs.Puts.{PutsText};
 ghost use Rattle.brc_run.specs.Tellings.{sections_text, run_text, ends_by_fault};
 
 use crate::section::write_section;
-use brc_report::write_report;
 use crate::{RunReport, SectionEnd};
+use brc_report::write_report;
 use brc_script::{Script, Section};
 use brc_words::Fault;
 use std::alloc::Allocator;

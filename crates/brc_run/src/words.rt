@@ -3,9 +3,8 @@
 ghost use Rattle.brc_run.specs.Notes.{PutsSome};
 
 use crate::phrases::Phrase;
-use brc_text::{Excerpt, put_quoted};
 use brc_script::Register;
-use brc_text::{put_bytes, put_parts};
+use brc_text::{Excerpt, put_bytes, put_parts, put_quoted};
 use brc_words::{Fault, Text};
 use itoa::Buffer;
 use std::alloc::Allocator;

@@ -17,13 +17,13 @@ mod quoting;
 mod token;
 mod whole_input;
 
+pub use excerpt::{Excerpt, MOST_SHOWN};
 pub use headed::{put_headed_line, put_numbers_line};
 pub use keyword::Keyword;
 pub use line::Words;
 pub use number::number_of;
 pub use parts::put_parts;
 pub use putting::{put_bytes, put_line};
+pub use quoting::put_quoted;
 pub use token::{Letter, Token};
 pub use whole_input::read_input;
-pub use excerpt::{Excerpt, MOST_SHOWN};
-pub use quoting::put_quoted;

@@ -6,8 +6,8 @@ ghost use Rattle.brc_text.specs.Puts.{PutsText};
 ghost use Rattle.brc_text.specs.Excerpts.{is_printable, digit_of, shown, quoted};
 
 use crate::excerpt::Excerpt;
-use arrayvec::ArrayVec;
 use crate::put_bytes;
+use arrayvec::ArrayVec;
 use brc_words::Fault;
 use std::io::Write;
 

@@ -26,17 +26,17 @@ mod waiting_calls;
 mod waiting_readers;
 mod within;
 
+pub use indexing::{dict_key, dict_pair, try_dict_key, try_dict_pair};
 pub use laws::{calls_on_an_object_are_one_history, lost_tries_change_nothing};
-pub use makers::{new_dict, new_int, new_list, new_mailbox, new_text, none, truth};
-pub use readers::{try_int_of, try_kind_of, try_len_of, try_text_into, try_text_of};
-pub use waiting_readers::{int_of, kind_of, len_of, text_into, text_of};
 pub use lists::{try_list_get, try_list_pop, try_list_push, try_list_set, try_list_take};
 pub use mailboxes::{try_recv, try_send};
-pub use waiting_calls::{list_get, list_pop, list_push, list_set, list_take, recv, send};
-pub use indexing::{dict_key, dict_pair, try_dict_key, try_dict_pair};
+pub use makers::{new_dict, new_int, new_list, new_mailbox, new_text, none, truth};
 pub use placing::{dict_key_by, try_dict_key_by};
 pub use putting::{dict_put, dict_set, try_dict_put, try_dict_set};
+pub use readers::{try_int_of, try_kind_of, try_len_of, try_text_into, try_text_of};
 pub use values::{
     dict_del, dict_del_by, dict_find, dict_find_by, try_dict_del, try_dict_del_by, try_dict_find,
     try_dict_find_by,
 };
+pub use waiting_calls::{list_get, list_pop, list_push, list_set, list_take, recv, send};
+pub use waiting_readers::{int_of, kind_of, len_of, text_into, text_of};

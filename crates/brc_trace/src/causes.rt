@@ -12,8 +12,7 @@ ghost use Rattle.brc_trace.specs.Causes.{piece_at};
 
 use crate::event_line::{is_two, step_of};
 use crate::trace_reading::{head_number, read_mark};
-use brc_text::Excerpt;
-use brc_text::{Keyword, Token, Words};
+use brc_text::{Excerpt, Keyword, Token, Words};
 use law::world::Edition;
 use std::alloc::{AllocError, Allocator};
 

@@ -1,7 +1,7 @@
 //! What a seat has done and seen. No value of these types is made.
 
-use crate::rule::contents::Contents;
 use crate::known::Word;
+use crate::rule::contents::Contents;
 use crate::world::Step;
 
 /// The contents that go with a step.

@@ -10,10 +10,8 @@ use crate::tests::objects::number_of;
 use brc_count::biased::HasTable;
 use brc_count::{Frame, HandedBack, Handle};
 use brc_things::{
-    dict_del, dict_find, dict_pair, dict_put, try_dict_del, try_dict_find, try_dict_put,
-};
-use brc_things::{
-    list_get, list_pop, list_push, list_set, list_take, recv, send, try_list_get, try_list_pop,
+    dict_del, dict_find, dict_pair, dict_put, list_get, list_pop, list_push, list_set, list_take,
+    recv, send, try_dict_del, try_dict_find, try_dict_put, try_list_get, try_list_pop,
     try_list_push, try_list_set, try_list_take, try_recv, try_send,
 };
 use brc_words::{Fault, Key};

@@ -6,8 +6,10 @@ ghost use Rattle.test_tools.specs.Calls.{Adds, OwnsOne, Stays};
 use crate::tests::guards::Way;
 use brc_count::biased::HasTable;
 use brc_count::{Frame, Handle};
-use brc_things::{dict_key, dict_pair, try_dict_key, try_dict_pair, try_dict_put};
-use brc_things::{none, text_into, text_of, try_text_into, try_text_of};
+use brc_things::{
+    dict_key, dict_pair, none, text_into, text_of, try_dict_key, try_dict_pair, try_dict_put,
+    try_text_into, try_text_of,
+};
 use brc_words::{Fault, Key, Text};
 use std::alloc::Allocator;
 use std::process::Abort;

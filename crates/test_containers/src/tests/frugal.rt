@@ -9,11 +9,11 @@ use crate::tests::places::{DICT, INT, LIST, MAILBOX, NEW_LIST, NEW_MAILBOX, NOTH
 use brc_count::Frame;
 use brc_count::biased::HasTable;
 use brc_count::block::KeyRef;
-use brc_things::{dict_key_by, try_dict_key_by};
 use brc_handles::Handles;
 use brc_places::{
     TakeBy, int_at, kind_at, len_at, take_at, try_int_at, try_kind_at, try_len_at, try_take_at,
 };
+use brc_things::{dict_key_by, try_dict_key_by};
 use brc_words::{Fault, Kind};
 use std::alloc::Allocator;
 use std::process::Abort;
