@@ -110,7 +110,7 @@ impl Client {
     }
 
     /// A copy of the key at this index of a dictionary, and a reference more to the value beside it, under a number.
-    /// Foreign, Stale; then as `try_dict_pair` of `brc_dicts`: Busy, WrongKind, NoSuchPlace, FrameFull, OutOfMemory.
+    /// Foreign, Stale; then as `try_dict_pair` of `brc_things`: Busy, WrongKind, NoSuchPlace, FrameFull, OutOfMemory.
     #[tactic(auto, using(crate::proofs::Placed::owned, crate::proofs::Placed::vacant, crate::proofs::Placed::apart, crate::proofs::Placed::gained, crate::proofs::Placed::keeps, crate::proofs::Named::names_kept, crate::proofs::Named::names_given))]
     pub fn pair(
         &mut self,

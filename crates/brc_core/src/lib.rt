@@ -2,7 +2,7 @@
 //!
 //! Each `World` is reached by some run of events from an opening one: that is the invariant of its
 //! type, so counts are references in every world that a caller has. What an event is and does is
-//! `law_world`, `specs/Steps.antt`, and the argument is its `proofs/Reached.antt`. The steps
+//! `law::world`, `specs/world/Steps.antt`, and the argument is its `proofs/world/Reached.antt`. The steps
 //! themselves, a few writes to tables each, are `brc_state`.
 #![tactic(auto)]
 

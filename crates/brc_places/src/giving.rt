@@ -91,7 +91,7 @@ pub fn try_give_by<H: HasTable<A>, A: Allocator>(
 
 /// What the container in a place gives goes where it is to go, once no other thread has the container locked.
 /// NoSuchPlace where no handle is in that place, or the one to be filled isn't there; then OutOfMemory for a new place;
-/// then what the call answers (`brc_lists`, `brc_dicts`). A refusal changes nothing: an entry that has no place stays.
+/// then what the call answers (`brc_things`). A refusal changes nothing: an entry that has no place stays.
 pub fn give_at<H: HasTable<A>, A: Allocator>(
     rt: &impl Wait,
     frame: &mut Frame<H, A>,

@@ -136,7 +136,7 @@ fn put_back<A: Allocator>(handles: &mut Handles<A>, index: usize, handle: Handle
 
 /// The handle in the value's place goes into the container in another place, once no other thread has that locked. The
 /// value's place has what came out for it then, which lies in the same place of the frame, or is empty. NoSuchPlace
-/// where no handle is in one of them, or they are one place; then what the call answers (`brc_lists`, `brc_dicts`): the
+/// where no handle is in one of them, or they are one place; then what the call answers (`brc_things`): the
 /// value stays in its place.
 pub fn take_at<H: HasTable<A>, A: Allocator + Copy>(
     rt: &impl Wait,

@@ -1,4 +1,4 @@
--- What a thread's step does to one of the tables, whole: one item of it changes, by the definitions of `law_world`.
+-- What a thread's step does to one of the tables, whole: one item of it changes, by the definitions of `law::world`.
 use Rattle.std.specs.Prelude.{ℕ, Bool, List, [], Option, slice_index_or, slice_set}
 use Rattle.law.specs.declared.world.event.Change.{Change}
 use Rattle.law.specs.declared.world.event.Dropped.{Dropped}

@@ -1,6 +1,6 @@
 //! The tables of a world as a program: whether an event is enabled, which condition it fails, and what it does.
 //!
-//! What an event is and does is `law_world`, `specs/Steps.antt`. Here each test is proved to be the one that is defined
+//! What an event is and does is `law::world`, `specs/world/Steps.antt`. Here each test is proved to be the one that is defined
 //! there, and each step, a few writes to tables, to lead where it says. No table keeps an invariant: what a step needs
 //! to index or to add is asked of the caller, `brc_core`, whose worlds are reached by runs.
 //!

@@ -1,7 +1,7 @@
-//! What a running thread may rely on while others step: definitions and laws on runs of `law_world`.
+//! What a running thread may rely on while others step: definitions and laws on runs of `law::world`.
 //!
-//! `specs/Staying.antt` says which facts last and what a hand tells without a look, `specs/Ranges.antt` which numbers
-//! stand for what is there, and `specs/Progress.antt` which step a thread can go on with. Nothing runs here; the
+//! `specs/lasting/Staying.antt` says which facts last and what a hand tells without a look, `specs/lasting/Ranges.antt` which numbers
+//! stand for what is there, and `specs/lasting/Progress.antt` which step a thread can go on with. Nothing runs here; the
 //! running table cites these laws.
 
 mod laws;
