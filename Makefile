@@ -21,7 +21,7 @@ check:
 	.ci/c check
 
 try:
-	.ci/try_c $(if $(CHECKS),--checks) $(if $(CLIENT),$(CLIENT) $(ARGS))
+	@.ci/try_c $(if $(CHECKS),--checks) $(if $(CLIENT),$(CLIENT) $(ARGS))
 
 install:
 	@test -f dist/lib/libbrc.a || { echo "install: there is no dist/: make"; exit 1; }
