@@ -1,7 +1,7 @@
 """What each name in the code leads to: read by tools/rename and tools/refs.
 
 A thing has one identity, wherever it is named: ("spec", module, name) for a definition of specs/ or proofs/, such as
-("spec", "law_steps.specs.Owing", "Tells"); ("mod", crate, path) for a file of src/; ("item", crate, path, name) for what such a file declares;
+("spec", "law.specs.steps.Owing", "Tells"); ("mod", crate, path) for a file of src/; ("item", crate, path, name) for what such a file declares;
 ("part", crate, path, item, name) for a case, a method or a constant of an item."""
 import os
 import re
@@ -119,7 +119,7 @@ class Names:
     # the paths of specifications and proofs
 
     def home(self, words):
-        """A path by the crate that it leads to: brc_count.specs.law.world.Heap is law_world.specs.Heap. Also how many words are its front."""
+        """A path by the crate that it leads to: brc_count.specs.law.world.Heap is law.specs.world.Heap. Also how many words are its front."""
         if len(words) > 2 and words[1] in ("specs", "proofs"):
             low = self.passed.get(words[0], {}).get(words[2])
             if low:

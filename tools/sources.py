@@ -260,7 +260,7 @@ class Definitions:
         return found
 
     def home(self, module):
-        """The module's own name: `brc_count.specs.law.world.Heap` is `law_world.specs.Heap`."""
+        """The module's own name: `brc_count.specs.law.world.Heap` is `law.specs.world.Heap`."""
         crate, _, rest = module.partition(".")
         kind, _, rest = rest.partition(".")
         name, _, more = rest.partition(".")

@@ -1,9 +1,13 @@
-//! The sections of a script, each on a thread of its own over one heap, and the heap's report.
+//! A script from bytes to bytes: its sections, each on a thread of its own over one heap, what they print, and the
+//! heap's report.
 //!
 //! All sections are registered in order before the first starts, section `i` as thread `i`. Each runs on a thread of
 //! the machine (`run_section`), and hands back its seat and how it ended; then all are gathered in order, one more
 //! thread, which has the number 1 again, clears the globals, and the heap is closed (`run_sections`). The heap's
 //! allocator is `Global`, since a thread that is started takes no other along.
+//!
+//! `run_script` reads the script before, and writes the text of what came of it once all sections have ended
+//! (`specs/Scripts_Run.antt`). `run_script_explained` also keeps notes of why a run ended so.
 #![tactic(auto)]
 
 mod clearing;

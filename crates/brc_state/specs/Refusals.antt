@@ -1,4 +1,5 @@
--- Which condition of an event fails first, of the tests of `law::world`, `specs/world/Steps.antt`, in the order of its table.
+-- Which condition of an event fails first, of the tests of `law::world`, `specs/world/Steps.antt`, in the order of its
+-- table.
 use Rattle.std.specs.Prelude.{ℕ, ◌==◌, nat_lt, nat_le, ◌&&◌, not, Bool, true, false, if◌then◌else◌, Option, Some, None}
 use Rattle.std.specs.Prelude.{length}
 use Rattle.brc_words.specs.declared.limits.TheConstants.{MOST_THREADS}

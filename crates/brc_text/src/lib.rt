@@ -1,5 +1,5 @@
 //! What all texts of the heap share: numbers, words, the tokens of a line, lines, reading an input whole, and putting
-//! a text, or several, to a writer.
+//! a text, or several, to a writer. An error line shows a word of an input by its first bytes (`specs/Excerpts.antt`).
 //!
 //! A text has one spelling: what a reader here takes is what the writer here puts, byte for byte. The readers equal
 //! the definitions of `specs/`; that these read again what is spelled, and nothing else, is `proofs/NumberLaws.antt`,

@@ -1,5 +1,5 @@
 //! The forms that wait: they try again until the object isn't locked by another thread. What each does then is what its
-//! form with `try_` does, from the frame that the lost tries left (`lost_tries_change_nothing` of `brc_things`).
+//! form with `try_` does, from the frame that the lost tries left (`lost_tries_change_nothing`).
 
 ghost use Rattle.std.specs.Prelude.{◌≡◌, ◌≢◌, IfOk, IfErr, OnOk, OnErr};
 ghost use Rattle.brc_words.specs.declared.fault.Fault.TheVariants as faults;

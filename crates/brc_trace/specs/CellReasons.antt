@@ -1,5 +1,5 @@
--- Why the one cell that a step means isn't as the step needs it: the tests of `law::world`, `specs/world/Steps.antt`, and which
--- fails first.
+-- Why the one cell that a step means isn't as the step needs it: the tests of `law::world`, `specs/world/Steps.antt`,
+-- and which fails first.
 use Rattle.std.specs.Prelude.{◌≡◌, ◌≤◌, ◌≢◌, ℕ, ◌==◌, nat_lt, nat_le, ◌||◌, not, true, false, if◌then◌else◌}
 use Rattle.std.specs.Prelude.{Option, Some, None}
 use Rattle.brc_words.specs.declared.limits.TheConstants.{FIRST_MORTAL}

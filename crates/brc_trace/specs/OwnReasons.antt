@@ -1,4 +1,5 @@
--- Why a step doesn't fit its thread's own part: the tests of `law::world`, `specs/world/Steps.antt`, and which fails first.
+-- Why a step doesn't fit its thread's own part: the tests of `law::world`, `specs/world/Steps.antt`, and which fails
+-- first.
 use Rattle.std.specs.Prelude.{◌≡◌, ◌≤◌, ℕ, ◌==◌, nat_lt, not, Bool, true, false, if◌then◌else◌, length}
 use Rattle.std.specs.Prelude.{Option, Some, None, is_some, is_none}
 use Rattle.brc_words.specs.declared.limits.TheConstants.{MOST_ENTRIES, MOST_BIRTHS, MOST_PLACES}

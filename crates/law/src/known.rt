@@ -1,12 +1,13 @@
 //! What a thread knows from its own items, the steps that it made with what they found: definitions and laws on runs of
 //! `law::world`.
 //!
-//! All of it is read off the items alone, by recursion: its part of the world (`specs/known/Items.antt`), the local counts of
-//! its own objects (`specs/known/Counts.antt`), what it has seen queued or merged (`specs/known/Risen.antt`), the blocks that it
-//! has taken (`specs/known/Taken.antt`) and what it has locked (`specs/known/Locked.antt`). One induction says that all of it is so
-//! in the world (`proofs/known/Items_Tells.antt`), and one table what each further step makes of it (`specs/known/Going_On.antt`).
-//! The root's items tell which threads there are (`specs/known/Root.antt`), and looks at owner words tell of some
-//! (`specs/known/Owners_Seen.antt`). Nothing runs here; the running table and the frames above it cite these laws.
+//! All of it is read off the items alone, by recursion: its part of the world (`specs/known/Items.antt`), the local
+//! counts of its own objects (`specs/known/Counts.antt`), what it has seen queued or merged (`specs/known/Risen.antt`),
+//! the blocks that it has taken (`specs/known/Taken.antt`) and what it has locked (`specs/known/Locked.antt`). One
+//! induction says that all of it is so in the world (`proofs/known/Items_Tells.antt`), and one table what each further
+//! step makes of it (`specs/known/Going_On.antt`). The root's items tell which threads there are
+//! (`specs/known/Root.antt`), and looks at owner words tell of some (`specs/known/Owners_Seen.antt`). Nothing runs
+//! here; the running table and the frames above it cite these laws.
 
 mod laws;
 mod word;

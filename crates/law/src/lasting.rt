@@ -1,8 +1,8 @@
 //! What a running thread may rely on while others step: definitions and laws on runs of `law::world`.
 //!
-//! `specs/lasting/Staying.antt` says which facts last and what a hand tells without a look, `specs/lasting/Ranges.antt` which numbers
-//! stand for what is there, and `specs/lasting/Progress.antt` which step a thread can go on with. Nothing runs here; the
-//! running table cites these laws.
+//! `specs/lasting/Staying.antt` says which facts last and what a hand tells without a look, `specs/lasting/Ranges.antt`
+//! which numbers stand for what is there, and `specs/lasting/Progress.antt` which step a thread can go on with. Nothing
+//! runs here; the running table cites these laws.
 
 mod laws;
 

@@ -1,4 +1,4 @@
-//! The theory of worlds under one name: what each crate above it names.
+//! The theory of worlds: what the crates above it cite.
 //!
 //! `world` has worlds, events and runs; `moves`, `lasting`, `known` and `private` what an event moves, what lasts while
 //! others step, and what a thread's own items tell it; `rule`, `payloads`, `living` and `steps` what the table of the

@@ -1,10 +1,10 @@
 //! The rule of the running table, "what stands here is the world of one run": definitions and laws.
 //!
 //! There is a run of `law::world` in which the own items of each seat stand, each once and in that seat's order, and no
-//! others; and the world that it reaches is what the table's words and the blocks at home show (`specs/rule/Rule.antt`).
-//! What holds of the world of every run, such as "counts equal references", so holds of a running table, and nothing is
-//! said of counts here. Nothing runs here: `brc_table` makes the steps, and each of its calls owes that its step keeps
-//! the rule.
+//! others; and the world that it reaches is what the table's words and the blocks at home show
+//! (`specs/rule/Rule.antt`). What holds of the world of every run, such as "counts equal references", so holds of a
+//! running table, and nothing is said of counts here. Nothing runs here: `brc_table` makes the steps, and each of its
+//! calls owes that its step keeps the rule.
 
 mod contents;
 mod laws;

@@ -1,8 +1,9 @@
 //! Each kind of step keeps the rule of the running table: what it asks of its seat's log, and what it tells it.
 //!
-//! What a step asks stands in `specs/steps/Owing.antt`, all of it as facts about the seat's own log; what it tells, where a
-//! block moves, in `specs/steps/Taking.antt`; how seats are split and joined in `specs/steps/Joining.antt`. Each law has the form
-//! that a step of `atomic_table` asks (`Allows`, `Splits`, `Joins`). Nothing runs here; `brc_table` makes the steps.
+//! What a step asks stands in `specs/steps/Owing.antt`, all of it as facts about the seat's own log; what it tells,
+//! where a block moves, in `specs/steps/Taking.antt`; how seats are split and joined in `specs/steps/Joining.antt`.
+//! Each law has the form that a step of `atomic_table` asks (`Allows`, `Splits`, `Joins`). Nothing runs here;
+//! `brc_table` makes the steps.
 
 mod laws;
 

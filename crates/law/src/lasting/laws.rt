@@ -1,7 +1,8 @@
 //! The laws that a running thread rests on while others step, each as the contract of a function with nothing to do:
 //! what lasts, what a hand tells without a look, and that no condition stands in its way.
 //!
-//! What lasts over one event of another thread's lasts over any number of them: `proofs/lasting/Standing.antt`, `lasts_over`.
+//! What lasts over one event of another thread's lasts over any number of them: `proofs/lasting/Standing.antt`,
+//! `lasts_over`.
 
 ghost use Rattle.std.specs.Prelude.{[], ◌≡◌, ◌≢◌, ◌≤◌, ℕ, ◌<◌, List, Some, true, false, length, slice_get};
 ghost use Rattle.brc_words.specs.declared.kind.Kind.{Kind as kind};

@@ -1,5 +1,5 @@
-//! The laws of the rule, each as the contract of a function with nothing to do. Its lemmas are in `proofs/rule/`; that each
-//! kind of step keeps the rule is `law::steps`.
+//! The laws of the rule, each as the contract of a function with nothing to do. Its lemmas are in `proofs/rule/`; that
+//! each kind of step keeps the rule is `law::steps`.
 
 ghost use Rattle.std.specs.Prelude.{◌≡◌, ℕ, ◌<◌, ◌≤◌, List, ◌∷◌, Option, Some, true};
 ghost use mathlib.Core.Option.{some};
