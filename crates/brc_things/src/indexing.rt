@@ -17,7 +17,7 @@ ghost use Rattle.brc_things.specs.Since.{Since};
 use brc_count::biased::HasTable;
 use brc_count::block::{Block, Payload};
 use brc_count::{Frame, Handle};
-use brc_lock::begin_late;
+use crate::waiting::begin_late;
 use brc_words::{Fault, Key, MOST_PLACES};
 use std::alloc::Allocator;
 use std::sync::Wait;

@@ -22,6 +22,7 @@ mod readers;
 mod rows;
 mod seeking;
 mod values;
+mod waiting;
 mod waiting_calls;
 mod waiting_readers;
 mod within;
@@ -38,5 +39,6 @@ pub use values::{
     dict_del, dict_del_by, dict_find, dict_find_by, try_dict_del, try_dict_del_by, try_dict_find,
     try_dict_find_by,
 };
+pub use waiting::begin_late;
 pub use waiting_calls::{list_get, list_pop, list_push, list_set, list_take, recv, send};
 pub use waiting_readers::{int_of, kind_of, len_of, text_into, text_of};

@@ -20,7 +20,7 @@ use crate::seeking::{Sought, seek};
 use brc_count::biased::HasTable;
 use brc_count::block::{Block, KeyRef, Payload};
 use brc_count::{Frame, HandedBack, Handle};
-use brc_lock::begin_late;
+use crate::waiting::begin_late;
 use brc_words::{Fault, Key, MOST_ENTRIES};
 use std::alloc::Allocator;
 use std::sync::Wait;

@@ -17,7 +17,7 @@ use crate::seeking::{Sought, seek};
 use brc_count::biased::HasTable;
 use brc_count::block::{Block, KeyRef};
 use brc_count::{Frame, Handle};
-use brc_lock::begin_late;
+use crate::waiting::begin_late;
 use brc_words::{Fault, Key};
 use std::alloc::Allocator;
 use std::sync::Wait;

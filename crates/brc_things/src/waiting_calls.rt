@@ -11,7 +11,7 @@ ghost use Rattle.brc_things.specs.List_Calls.{ListPush, ListPop, ListTake, ListG
 use crate::within::{put_locked, share_locked, swap_locked, take_locked};
 use brc_count::biased::HasTable;
 use brc_count::{Frame, HandedBack, Handle};
-use brc_lock::begin_late;
+use crate::waiting::begin_late;
 use brc_words::{Fault, Kind};
 use std::alloc::Allocator;
 use std::sync::Wait;
