@@ -10,7 +10,7 @@ use lives::{Life, lives};
 use std::alloc::{AllocGlobal, Allocator, Global};
 use std::io::{self, Write};
 use std::sync::Wait;
-use test_tools::{Heaps, Memories};
+use test_heap::{Heaps, Memories};
 
 /// The least heap.
 pub(crate) const SIZES: Options = Options {
