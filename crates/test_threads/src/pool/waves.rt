@@ -2,7 +2,7 @@
 
 ghost use Rattle.std.specs.Prelude.{◌≡◌};
 
-use crate::worker::{Serving, WORKERS};
+use crate::pool::worker::{Serving, WORKERS};
 use brc_heap::{Heap, Root};
 use brc_loops::{Tally, waves};
 use std::alloc::Global;

@@ -4,7 +4,7 @@
 ghost use Rattle.std.specs.Prelude.{◌≡◌, IfSome, IfNone};
 ghost use Rattle.brc_heap.specs.Words.{Gains, IsUnlocked, Keeps, Owns};
 
-use crate::worker::WORKERS;
+use crate::pool::worker::WORKERS;
 use brc_heap::{Frame, Handle, Heap, Key, Root, dict_find, dict_put, list_push, new_int, new_list};
 use std::alloc::Global;
 use std::sync::Wait;
@@ -139,17 +139,4 @@ pub(crate) fn opens_all(rt: &impl Wait, alloc: Global, heap: &Heap, root: &mut R
     };
     let _ledger = first.settle_and_join(rt, root, heap);
     opened
-}
-
-/// A thread clears the globals, and frees the sessions that were left there: whether it could.
-pub(crate) fn ends_all(rt: &impl Wait, alloc: Global, heap: &Heap, root: &mut Root) -> bool
-    requires root { root.old.table ≡ heap.now.table }
-    ensures root { root.new.table ≡ root.old.table }
-{
-    let Ok(mut last) = root.register(alloc, heap) else {
-        return false;
-    };
-    let cleared = last.clear_globals().is_ok();
-    let _ledger = last.settle_and_join(rt, root, heap);
-    cleared
 }

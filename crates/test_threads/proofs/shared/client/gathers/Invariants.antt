@@ -1,5 +1,5 @@
 use Rattle.std.proofs.Common.{◌≡◌}
-use Rattle.test_shared.proofs.client.gathers.Given as goal
+use Rattle.test_threads.proofs.shared.client.gathers.Given as goal
 
 abbrev pub invariant-loop : goal.invariant-loop
 invariant-loop g l =

@@ -1,6 +1,6 @@
 //! A worker: what a thread of the machine does between its waking and its end.
 
-use crate::sessions::{asks, opens};
+use crate::pool::sessions::{asks, opens};
 use brc_heap::Mutator;
 use brc_loops::Life;
 use std::alloc::Global;

@@ -3,8 +3,8 @@
 ghost use Rattle.std.specs.Prelude.{◌≡◌};
 ghost use Rattle.brc_heap.specs.Words.{IsUnlocked, Keeps};
 
-use crate::client::Client;
-use crate::sessions::{asks, opens, opens_each};
+use crate::shared::client::Client;
+use crate::shared::sessions::{asks, opens, opens_each};
 use brc_count::Frame;
 use brc_heap::Shared;
 use std::alloc::Global;

@@ -1,6 +1,6 @@
 //! Why a shared heap isn't closed, one reason after the other, and the thread that clears its globals.
 
-use crate::client::Client;
+use crate::shared::client::Client;
 use brc_heap::{Shared, Stays};
 use std::alloc::Global;
 use std::io;
