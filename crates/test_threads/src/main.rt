@@ -13,7 +13,11 @@ mod pool;
 mod shared;
 mod two_threads;
 
-use std::{env, io};
+use std::alloc::AllocGlobal;
+use std::env;
+use std::io::{self, Write};
+use std::sync::Wait;
+use std::thread::Threads;
 
 /// The programs, by name, in the order in which all of them run.
 const PROGRAMS: [&str; 6] = [
@@ -26,14 +30,18 @@ const PROGRAMS: [&str; 6] = [
 ];
 
 /// Runs the program with this name.
-fn runs(rt: &HostRuntime, name: &str) -> io::Result<()> {
+fn runs<R: AllocGlobal + Print + Threads + Wait + Sync, W: Write>(
+    rt: &R,
+    output: &mut W,
+    name: &str,
+) -> io::Result<()> {
     match name {
         "two_threads" => two_threads::says(rt),
-        "letters" => letters::says(rt, &mut rt.stdout()),
+        "letters" => letters::says(rt, output),
         "crowd" => crowd::says(rt),
-        "closing" => closing::says(rt, &mut rt.stdout()),
-        "pool" => pool::says(rt, &mut rt.stdout()),
-        "shared" => shared::says(rt, &mut rt.stdout()),
+        "closing" => closing::says(rt, output),
+        "pool" => pool::says(rt, output),
+        "shared" => shared::says(rt, output),
         _ => println!(rt; "{name} is no program"),
     }
 }
@@ -48,11 +56,12 @@ fn word(rt: &HostRuntime) -> io::Result<Option<String>> {
 }
 
 fn main(rt: HostRuntime) -> io::Result<()> {
+    let mut output = rt.stdout();
     if let Some(name) = word(&rt)? {
-        return runs(&rt, name.as_str());
+        return runs(&rt, &mut output, name.as_str());
     }
     for name in PROGRAMS {
-        runs(&rt, name)?;
+        runs(&rt, &mut output, name)?;
     }
     Ok(())
 }
