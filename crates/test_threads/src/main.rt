@@ -8,6 +8,7 @@
 mod closing;
 mod crowd;
 mod ending;
+mod globals;
 mod letters;
 mod pool;
 mod shared;

@@ -3,18 +3,16 @@
 //! finds there what the wave before left, and bears its numbers. At last the globals are cleared, and the heap's report
 //! has no object left.
 
-mod sessions;
 mod waves;
 mod worker;
 
 use crate::ending::{clears, shows};
 use brc_heap::{Heap, Options, close_or_end};
-use sessions::opens_all;
 use std::alloc::AllocGlobal;
 use std::io::{self, Write};
 use std::sync::Wait;
 use std::thread::Threads;
-use waves::serves_all;
+use waves::{opens_all, serves_all};
 
 /// All waves serve on one heap; how many workers served, and the heap's report, are printed.
 pub(crate) fn says<R: AllocGlobal + Print + Threads + Wait + Sync, W: Write>(
@@ -29,7 +27,8 @@ pub(crate) fn says<R: AllocGlobal + Print + Threads + Wait + Sync, W: Write>(
     let ended = clears(rt, rt.alloc(), &heap, &mut root);
     let (registered, next) = (root.registered(), root.next());
     let closed = close_or_end(rt.alloc(), heap, root);
-    println!(rt; "opened {opened}, served {served}, ended {ended}")?;
-    println!(rt; "threads {registered}, the next is {next}")?;
+    println!(rt;
+        "opened {opened}, served {served}, ended {ended}\nthreads {registered}, the next is {next}"
+    )?;
     shows(rt, output, closed)
 }

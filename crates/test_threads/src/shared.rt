@@ -8,7 +8,6 @@
 mod client;
 mod crew;
 mod refusals;
-mod sessions;
 
 use crate::ending::writes;
 use brc_heap::{Fault, Options, Report, Shared, Stays};
@@ -52,10 +51,13 @@ pub(crate) fn says<R: AllocGlobal + Print + Threads + Wait + Sync, W: Write>(
     let Some(shared) = shows_refusals(rt, rt.alloc(), shared)? else {
         return println!(rt; "the heap is gone");
     };
-    println!(rt; "opened {}", opens_all(rt, rt.alloc(), &shared))?;
+    let opened = opens_all(rt, rt.alloc(), &shared);
     let lived = all_live(rt, rt.alloc(), &shared);
-    println!(rt; "lives {}, numbers {}", lived.whole, lived.numbers)?;
-    println!(rt; "cleared {}", clears(rt, rt.alloc(), &shared))?;
+    let cleared = clears(rt, rt.alloc(), &shared);
+    println!(rt;
+        "opened {opened}\nlives {}, numbers {}\ncleared {cleared}",
+        lived.whole, lived.numbers
+    )?;
     if let Some(counts) = shared.counts() {
         println!(rt;
             "registered {}, gathered {}",

@@ -3,8 +3,8 @@
 ghost use Rattle.std.specs.Prelude.{◌≡◌};
 ghost use Rattle.brc_heap.specs.Words.{IsUnlocked, Keeps};
 
+use crate::globals::{New, puts_each, puts_new, writes_to};
 use crate::shared::client::Client;
-use crate::shared::sessions::{asks, opens, opens_each};
 use brc_count::Frame;
 use brc_heap::Shared;
 use std::alloc::Global;
@@ -60,8 +60,8 @@ fn works(rt: &impl Wait, alloc: Global, frame: &mut Frame<Shared, Global>, key: 
         return false;
     };
     let neighbour = (key % CREW + 1) % CREW;
-    let opened = opens(rt, alloc, frame, &globals, i64::from(key));
-    let asked = asks(rt, alloc, frame, &globals, i64::from(neighbour), 1_000);
+    let opened = puts_new(rt, alloc, frame, &globals, i64::from(key), New::List);
+    let asked = writes_to(rt, alloc, frame, &globals, i64::from(neighbour), 1_000);
     frame.release(globals);
     opened.is_some() && asked.is_some()
 }
@@ -75,7 +75,7 @@ fn opens_first(rt: &impl Wait, alloc: Global, frame: &mut Frame<Shared, Global>)
     let Ok(globals) = frame.globals() else {
         return false;
     };
-    let opened = opens_each(rt, alloc, frame, &globals, CREW);
+    let opened = puts_each(rt, alloc, frame, &globals, 0, CREW, New::List);
     frame.release(globals);
     opened
 }
