@@ -15,10 +15,10 @@ ghost use Rattle.brc_things.specs.Plain_Dicts.{plain_place};
 ghost use Rattle.brc_things.specs.Since.{Since};
 
 use crate::seeking::{Sought, seek};
+use crate::waiting::begin_late;
 use brc_count::biased::HasTable;
 use brc_count::block::{Block, KeyRef};
 use brc_count::{Frame, Handle};
-use crate::waiting::begin_late;
 use brc_words::Fault;
 use std::alloc::Allocator;
 use std::sync::Wait;

@@ -17,10 +17,10 @@ ghost use Rattle.brc_things.specs.Seeking.{HasKeyAt, IsAbsent};
 ghost use Rattle.brc_things.specs.Since.{Since};
 
 use crate::seeking::{Sought, seek};
+use crate::waiting::begin_late;
 use brc_count::biased::HasTable;
 use brc_count::block::{Block, KeyRef, Payload};
 use brc_count::{Frame, HandedBack, Handle};
-use crate::waiting::begin_late;
 use brc_words::{Fault, Key, MOST_ENTRIES};
 use std::alloc::Allocator;
 use std::sync::Wait;

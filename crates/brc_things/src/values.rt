@@ -14,10 +14,10 @@ ghost use Rattle.brc_things.specs.Plain_Dicts.{plain_find, plain_del};
 ghost use Rattle.brc_things.specs.Since.{Since};
 
 use crate::seeking::{Sought, seek};
+use crate::waiting::begin_late;
 use brc_count::biased::HasTable;
 use brc_count::block::{Block, KeyRef};
 use brc_count::{Frame, Handle};
-use crate::waiting::begin_late;
 use brc_words::{Fault, Key};
 use std::alloc::Allocator;
 use std::sync::Wait;

@@ -11,9 +11,9 @@ ghost use Rattle.brc_things.specs.Called.{Late};
 ghost use Rattle.brc_things.specs.Looking.{KindOf, LenOf, IntOf, TextOf, TextInto};
 
 use crate::looking::{append_text, container_len, copy_of_text, int_in, is_text};
+use crate::waiting::begin_late;
 use brc_count::biased::HasTable;
 use brc_count::{Frame, Handle};
-use crate::waiting::begin_late;
 use brc_words::{Fault, Kind, Text};
 use std::alloc::{AllocError, Allocator};
 use std::sync::Wait;

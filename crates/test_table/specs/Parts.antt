@@ -27,8 +27,8 @@ use Rattle.law.specs.rule.Seen.{part_seen}
 use Rattle.law.specs.steps.Joining.{registering}
 use Rattle.brc_table.specs.Seated.{TableSeen, SeatSeen, RootSeen, Continues}
 use Rattle.brc_biased.specs.Standing.{MayCountDown}
-use Rattle.test_table.specs.declared.globals.Held.{Held}
-use Rattle.test_table.specs.declared.globals.Held.TheVariants as held
+use Rattle.test_table.specs.declared.holding.Held.{Held}
+use Rattle.test_table.specs.declared.holding.Held.TheVariants as held
 
 -- the globals without entries, with one of this key, and with two of the keys 1 and 2
 abbrev pub bare_globals : Contents

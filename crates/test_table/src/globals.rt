@@ -5,22 +5,13 @@ ghost use Rattle.brc_words.specs.declared.key.Key.TheVariants as keys;
 ghost use Rattle.brc_table.specs.Shown.{contents_of};
 ghost use Rattle.test_table.specs.Parts.{bare_globals, with_entry, with_entries, globals_with};
 
+use crate::holding::Held;
 use brc_block::{Block, Pairs, Payload};
 use brc_words::Key;
 use std::alloc::Allocator;
 
-/// What the globals hold in a worked run.
-#[derive(Clone, Copy)]
-pub enum Held {
-    Nothing,
-    /// One entry.
-    One { key: i64, cell: u32 },
-    /// The cell, under the keys 1 and 2.
-    Two { cell: u32 },
-}
-
 /// Whether the block is of a dictionary without entries.
-pub fn is_bare<A: Allocator>(block: &Block<A>) -> bool
+pub(crate) fn is_bare<A: Allocator>(block: &Block<A>) -> bool
     ensures { IsTrue result ↔ contents_of block.now.1 ≡ bare_globals }
 {
     match block.payload() {
@@ -41,7 +32,7 @@ fn has_at<A: Allocator>(pairs: &Pairs<A>, index: usize, key: i64, cell: u32) -> 
 
 /// Whether it is of one whose only entry has this key, and this cell.
 #[tactic(auto, using(crate::proofs::FewPairs::shows_one))]
-pub fn has_one<A: Allocator>(block: &Block<A>, key: i64, cell: u32) -> bool
+pub(crate) fn has_one<A: Allocator>(block: &Block<A>, key: i64, cell: u32) -> bool
     ensures { IsTrue result → contents_of block.now.1 ≡ with_entry key cell }
 {
     match block.payload() {
@@ -52,7 +43,7 @@ pub fn has_one<A: Allocator>(block: &Block<A>, key: i64, cell: u32) -> bool
 
 /// Whether it is of one with two entries, of the keys 1 and 2, which both have this cell.
 #[tactic(auto, using(crate::proofs::FewPairs::shows_two))]
-pub fn has_two<A: Allocator>(block: &Block<A>, cell: u32) -> bool
+pub(crate) fn has_two<A: Allocator>(block: &Block<A>, cell: u32) -> bool
     ensures { IsTrue result → contents_of block.now.1 ≡ with_entries cell }
 {
     match block.payload() {
@@ -64,7 +55,7 @@ pub fn has_two<A: Allocator>(block: &Block<A>, cell: u32) -> bool
 }
 
 /// Whether it is of a dictionary that holds these.
-pub fn shows<A: Allocator>(block: &Block<A>, held: Held) -> bool
+pub(crate) fn shows<A: Allocator>(block: &Block<A>, held: Held) -> bool
     ensures { IsTrue result → contents_of block.now.1 ≡ globals_with held }
 {
     match held {

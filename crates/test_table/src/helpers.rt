@@ -19,7 +19,8 @@ ghost use Rattle.test_table.specs.Parts.{HasTwo, globals_with};
 
 use crate::comparing::is;
 use crate::ends::end_all;
-use crate::globals::{Held, shows};
+use crate::globals::shows;
+use crate::holding::Held;
 use brc_block::{Block, CellList, Entries, KeyRef, Pairs, Payload};
 use brc_table::{HeapTable, RootSeat, ThreadSeat};
 use brc_words::{GLOBALS, Key};

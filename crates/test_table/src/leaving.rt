@@ -5,7 +5,7 @@
 ghost use Rattle.std.specs.Prelude.{◌≡◌, [], pos};
 ghost use Rattle.law.specs.rule.Seen.{part_seen};
 ghost use Rattle.brc_table.specs.Seated.{IsSameSeat};
-ghost use Rattle.test_table.specs.declared.globals.Held.TheVariants as held;
+ghost use Rattle.test_table.specs.declared.holding.Held.TheVariants as held;
 ghost use Rattle.test_table.specs.Leaving.{HoldsNothing, CountsNone, IsAsNew, left_with, opening_at};
 ghost use Rattle.test_table.specs.Parts.{StandsAt, Went, asked_log, given_log, handed_log, taken_log};
 

@@ -6,9 +6,9 @@
 //! also how a caller uses them; and each answer is compared with what the trace's step finds.
 #![tactic(auto)]
 
-mod globals;
+mod holding;
 
-pub use globals::{Held, has_one, has_two, is_bare, shows};
+pub use holding::Held;
 
 #[cfg(test)]
 mod comparing;
@@ -16,6 +16,8 @@ mod comparing;
 mod counters;
 #[cfg(test)]
 mod ends;
+#[cfg(test)]
+mod globals;
 #[cfg(test)]
 mod helpers;
 #[cfg(test)]

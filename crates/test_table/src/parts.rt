@@ -9,15 +9,15 @@ ghost use Rattle.law.specs.rule.Seen.{part_seen};
 ghost use Rattle.law.specs.steps.Owing.{MayCarry, EndsRisen, Enqueues, MayRaiseImmortal, MayRaiseShared, MayRelease};
 ghost use Rattle.law.specs.steps.Owing.{MayUnlock};
 ghost use Rattle.brc_table.specs.Seated.{Continues};
-ghost use Rattle.test_table.specs.declared.globals.Held.TheVariants as held;
+ghost use Rattle.test_table.specs.declared.holding.Held.TheVariants as held;
 ghost use Rattle.test_table.specs.Parts.{StandsAt, Went, HasPopped, MayFree, globals_with, globals_log, locked_log};
 ghost use Rattle.test_table.specs.Parts.{changed_log, more_log, asked_log, enqueued_log, seen_log, added_log};
 ghost use Rattle.test_table.specs.Parts.{last_shared, born_log, shared_log, given_log, taken_back_log, merged_log};
 ghost use Rattle.test_table.specs.Parts.{kept_log, shared_twice_log, counted_log, taken_log};
 
 use crate::comparing::is;
-use crate::globals::Held;
 use crate::helpers::{a_list, alive, claimed, gone, holding, locked};
+use crate::holding::Held;
 use crate::seats::{Seat, Table};
 use brc_table::Found;
 use brc_words::Kind;

@@ -5,8 +5,8 @@ ghost use Rattle.std.specs.Prelude.{◌≡◌, []};
 ghost use Rattle.test_table.specs.Parts.{StandsAt};
 
 use crate::comparing::is;
-use crate::globals::Held;
 use crate::helpers::{ends, gone, opened, opened_for_two};
+use crate::holding::Held;
 use crate::parts::{
     asks, asks_and_enqueues, changes_globals, counts_more, counts_what_is_shared,
     ends_what_is_merged, keeps_a_list_twice, keeps_and_shares_one, lives, makes_a_list,

@@ -8,16 +8,15 @@
 mod cases;
 mod examples;
 mod instructions;
-mod library;
 mod listed;
 mod programs;
 mod scripts;
 mod traces;
 mod ways;
+mod worlds;
 
 use cases::{Case, read_cases};
 use examples::run_examples;
-use library::count_and_holders;
 use std::alloc::AllocGlobal;
 use std::io::Print;
 use std::rt::Files;
@@ -27,10 +26,11 @@ use std::{fs, io, str};
 use ways::come_of;
 
 /// The files, by name.
-const FILES: [&str; 15] = [
+const FILES: [&str; 16] = [
     "traces",
     "worked_runs",
     "editions",
+    "worlds",
     "explaining",
     "scripts",
     "meaning",
@@ -113,9 +113,5 @@ fn main(rt: HostRuntime) -> io::Result<()> {
     for name in FILES {
         run_file(&rt, name)?;
     }
-    run_examples(&rt)?;
-    match count_and_holders(rt.alloc()) {
-        Ok((total, holders)) => println!(rt; "by the library: total {total}, {holders} holders"),
-        Err(_) => println!(rt; "by the library: NO WORLD"),
-    }
+    run_examples(&rt)
 }

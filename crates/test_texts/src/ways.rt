@@ -6,6 +6,7 @@ use crate::traces::{
     explaining, explaining_whole, in_both_editions, reading, replaying, replaying_explained,
     spelling,
 };
+use crate::worlds::asking;
 use std::alloc::AllocGlobal;
 use std::io;
 use std::sync::Wait;
@@ -27,6 +28,7 @@ pub(crate) fn come_of<R: AllocGlobal + Threads + Wait + Sync>(
         "explain" => explaining(alloc, bytes, out),
         "explain whole" => explaining_whole(alloc, bytes, out),
         "editions" => in_both_editions(alloc, bytes, out),
+        "ask" => asking(alloc, text, out),
         "parse" => parsing(alloc, bytes, out),
         "mean" => meaning(alloc, bytes, out),
         "options" => options(alloc, text, out),

@@ -1,2 +1,3 @@
 mod Each
 mod Sent
+mod Written

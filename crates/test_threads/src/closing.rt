@@ -4,13 +4,14 @@
 mod late;
 mod lives;
 
-use brc_heap::{Heap, NoReport, Options, Report, close_or_end, write_report};
+use crate::ending::writes;
+use brc_heap::{Heap, NoReport, Options, Report, close_or_end};
 use late::closed_late;
 use lives::{Life, lives};
 use std::alloc::{AllocGlobal, Allocator, Global};
 use std::io::{self, Write};
 use std::sync::Wait;
-use test_tools::{Heaps, Memories};
+use test_heap::{Heaps, Memories};
 
 /// The least heap.
 pub(crate) const SIZES: Options = Options {
@@ -84,10 +85,7 @@ fn shows(
     let Some(report) = report else {
         return println!(rt; "no report");
     };
-    match write_report(&report, output) {
-        Ok(()) => Ok(()),
-        Err(_) => println!(rt; "not written"),
-    }
+    writes(rt, output, &report)
 }
 
 /// Heaps are made and closed, one after the other; what their reports say is printed.

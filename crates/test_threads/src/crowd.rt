@@ -34,10 +34,11 @@ fn shows_report(rt: &impl Print, report: Option<Report<Global>>) -> io::Result<(
     let Some(report) = report else {
         return println!(rt; "no report can be had");
     };
-    println!(rt; "allocs {}", report.ledger.allocs)?;
-    println!(rt; "frees {}", report.ledger.frees)?;
-    println!(rt; "live {}", report.live)?;
-    println!(rt; "remains {}", report.remains.len())
+    let (ledger, live, remains) = (report.ledger, report.live, report.remains.len());
+    println!(rt;
+        "allocs {}\nfrees {}\nlive {live}\nremains {remains}",
+        ledger.allocs, ledger.frees
+    )
 }
 
 /// The crowd lives on one heap, and two threads on each of many others; what they counted is printed.

@@ -7,29 +7,15 @@ mod mail;
 mod registering;
 mod starving;
 
-use brc_heap::{Heap, NoReport, Options, Report, close_or_end, write_report};
-use crew::{all_live, clears};
+use crate::ending::{clears, shows};
+use brc_heap::{Heap, Options, close_or_end};
+use crew::all_live;
 use registering::registers_apart;
 use starving::{Awaited, answers_are_refused, is_refused};
-use std::alloc::{AllocGlobal, Global};
+use std::alloc::AllocGlobal;
 use std::io::{self, Write};
 use std::sync::Wait;
 use std::thread::Threads;
-
-/// The report's text, or why there is none.
-fn shows(
-    rt: &impl Print,
-    output: &mut impl Write,
-    closed: Result<Report<Global>, NoReport>,
-) -> io::Result<()> {
-    match closed {
-        Ok(report) => match write_report(&report, output) {
-            Ok(()) => Ok(()),
-            Err(_) => println!(rt; "not written"),
-        },
-        Err(reason) => println!(rt; "no report: {reason:?}"),
-    }
-}
 
 /// All threads live on one heap, and growths are refused on others; what came of it is printed.
 pub(crate) fn says<R: AllocGlobal + Print + Threads + Wait + Sync, W: Write>(

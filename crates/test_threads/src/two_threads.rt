@@ -2,12 +2,9 @@
 //! all dies with it.
 
 ghost use Rattle.std.specs.Prelude.{◌≡◌};
-ghost use Rattle.brc_heap.specs.Words.{IsUnlocked, Keeps, Owns};
 
-use brc_heap::{
-    Frame, Handle, Heap, Key, Ledger, Mutator, Options, Root, dict_del, dict_find, dict_put,
-    give_back, list_push, new_int, new_list, take_apart,
-};
+use crate::globals::{New, puts_new, writes_to};
+use brc_heap::{Heap, Key, Ledger, Mutator, Options, Root, dict_del, give_back, take_apart};
 use brc_loops::{Ended, Life, Nothing, end_all, gather_all, rest_more, run_all};
 use std::alloc::{AllocGlobal, Global};
 use std::io;
@@ -15,38 +12,6 @@ use std::sync::Wait;
 use std::thread::Threads;
 
 const LIST: i64 = 1; // the list's key in the globals
-
-/// A new list goes into the globals, unless something is refused.
-fn shares(rt: &impl Wait, alloc: Global, frame: &mut Frame, globals: &Handle)
-    requires owned { Owns frame.old globals.now }
-    requires unlocked { IsUnlocked frame.old }
-    ensures keeps { Keeps frame.old frame.new }
-    ensures unlocked { IsUnlocked frame.new }
-{
-    let Ok(list) = new_list(alloc, frame) else {
-        return;
-    };
-    match dict_put(rt, frame, globals, Key::Int(LIST), list) {
-        Ok(None) => {}
-        Ok(Some(old)) => frame.release(old),
-        Err(handed) => frame.release(handed.value.1),
-    }
-}
-
-/// The number becomes the list's last entry, unless something is refused.
-fn pushes(rt: &impl Wait, alloc: Global, frame: &mut Frame, list: &Handle, number: i64)
-    requires owned { Owns frame.old list.now }
-    requires unlocked { IsUnlocked frame.old }
-    ensures keeps { Keeps frame.old frame.new }
-    ensures unlocked { IsUnlocked frame.new }
-{
-    let Ok(number) = new_int(alloc, frame, number) else {
-        return;
-    };
-    if let Err(handed) = list_push(rt, frame, list, number) {
-        frame.release(handed.value);
-    }
-}
 
 /// What a thread of the machine does: it finds the list in the globals, and pushes a number of its own.
 #[derive(Drop)]
@@ -61,10 +26,7 @@ impl<R: Wait> Life<R> for Pushing {
         let number = 1_000 * mutator.thread() as i64 + 1;
         if let Ok(globals) = mutator.globals() {
             let frame = mutator.frame();
-            if let Ok(list) = dict_find(rt, frame, &globals, &Key::Int(LIST)) {
-                pushes(rt, self.alloc, frame, &list, number);
-                frame.release(list);
-            }
+            let _written = writes_to(rt, self.alloc, frame, &globals, LIST, number);
             frame.release(globals);
         }
     }
@@ -108,7 +70,7 @@ pub(crate) fn says<R: AllocGlobal + Print + Threads + Wait + Sync>(rt: &R) -> io
     let mut ledgers = (None, None);
     if let Ok(mut last) = root.register(rt.alloc(), &heap) {
         if let Ok(globals) = last.globals() {
-            shares(rt, rt.alloc(), last.frame(), &globals);
+            let _put = puts_new(rt, rt.alloc(), last.frame(), &globals, LIST, New::List);
             ledgers.0 = two_work(rt, rt.alloc(), &heap, &mut root);
             if let Ok(list) = dict_del(rt, last.frame(), &globals, &Key::Int(LIST)) {
                 last.frame().release(list);

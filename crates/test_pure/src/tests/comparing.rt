@@ -27,6 +27,18 @@ pub(crate) fn shows<R: Abort + AllocGlobal, T: Debug>(rt: &R, case: &str, found:
     same(rt, case, shown.as_str(), wanted);
 }
 
+/// The same of a step of a case, which are both named.
+pub(crate) fn comes<R: Abort + AllocGlobal, T: Debug>(
+    rt: &R,
+    case: &str,
+    step: &str,
+    found: &T,
+    wanted: &str,
+) {
+    let shown = format!(in rt.alloc(); "{found:?}").expect(rt, "memory");
+    assert_eq!(rt; shown.as_str(), wanted, "{case}, {step}");
+}
+
 /// It is so, or the test ends and names the case.
 pub(crate) fn holds(rt: &impl Abort, case: &str, is_so: bool) {
     assert!(rt; is_so, "{case}");

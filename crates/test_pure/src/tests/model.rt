@@ -1,45 +1,168 @@
-//! Lives of objects in the map, told by hand.
+//! Lives of objects in the map, told by hand: rows of steps, which one player takes. What a word of a step means says
+//! `move_of`, and of a holder `holder_of`.
 
-use crate::tests::comparing::holds;
+use crate::tests::comparing::{comes, same};
 use brc_model::{Exchange, Handover, Handovers, Holder, HolderWorld, Move, Refused, Spot};
 use brc_words::Kind;
 use linked_list_allocator::LocalHeap;
-use std::alloc::{Allocator, Global};
+use std::alloc::{AllocGlobal, Allocator, Global};
 use std::process::Abort;
 
-const FRAME: Holder = Holder::Frame {
-    thread: 1,
-    place: 0,
-};
+/// The map allows it, and it is made.
+const MADE: &str = "Ok(true)";
 
-const NEXT: Holder = Holder::Frame {
-    thread: 1,
-    place: 1,
-};
+const NOT_ALLOWED: &str = "Err(NotAllowed)";
 
-const HAND: Holder = Holder::Hand {
-    thread: 1,
-    cell: 266,
-};
+const NO_MEMORY: &str = "Err(Memory)";
 
-/// A handover of object 266.
-fn handover(from: Holder, to: Holder) -> Handover {
-    Handover {
-        object: 266,
-        from,
-        to,
+const YES: &str = "Ok(true)";
+
+const NO: &str = "Ok(false)";
+
+/// A step of a life: its name, what is asked of the map, and what comes of it.
+type Row = (&'static str, &'static str, &'static str);
+
+/// A life, and its steps.
+type Life = (&'static str, &'static [Row]);
+
+const LIVES: &[Life] = &[
+    (
+        "an object lives as long as its holder",
+        &[
+            ("an immortal is not born", "born 265 f0", NOT_ALLOWED),
+            ("nothing lives in the cell", "dies 266", NOT_ALLOWED),
+            ("an object is born", "born 266 f0", MADE),
+            ("it lives already", "born 266 f1", NOT_ALLOWED),
+            ("its place is taken", "born 267 f0", NOT_ALLOWED),
+            ("it is held", "dies 266", NOT_ALLOWED),
+            ("the hand does not hold it", "remove 266 hand", NOT_ALLOWED),
+            ("its place lets go", "remove 266 f0", MADE),
+            ("nothing holds it", "remove 266 f0", NOT_ALLOWED),
+            ("it dies", "dies 266", MADE),
+            ("it is dead", "dies 266", NOT_ALLOWED),
+            ("it doesn't live", "lives 266", NO),
+        ],
+    ),
+    // The second of two handovers asks for what the first has given away, or for what it has given.
+    (
+        "references are handed over together",
+        &[
+            ("born", "born 266 f0", MADE),
+            ("twice", "pass 266 f0>hand f0>hand", NOT_ALLOWED),
+            ("its holder", "has 266 f0", YES),
+            ("not the hand", "has 266 hand", NO),
+            ("there and on", "pass 266 f0>hand hand>f1", MADE),
+            ("its next holder", "has 266 f1", YES),
+            ("no more the other", "has 266 f0", NO),
+        ],
+    ),
+    // At last None comes out, and no place holds an immortal.
+    (
+        "entries and places change together",
+        &[
+            ("a list", "born 266 f0", MADE),
+            ("an object", "born 267 f1", MADE),
+            ("it goes in", "put 267 f1", MADE),
+            ("its entry", "has 267 entry", YES),
+            ("no more its place", "has 267 f1", NO),
+            ("None goes in and it comes out", "swap 267 f2", MADE),
+            ("its new place", "has 267 f2", YES),
+            ("no more its entry", "has 267 entry", NO),
+            ("None comes out", "take 0 f3", MADE),
+            ("twice", "take 0 f3", NOT_ALLOWED),
+        ],
+    ),
+];
+
+/// In little memory. What lets go asks for nothing, and leaves room for one.
+const STARVED: &[Life] = &[
+    (
+        "what is refused for memory changes nothing",
+        &[
+            ("objects are born", "from 266: born n hand", NO_MEMORY),
+            ("more than one lives", "lives 267", YES),
+            ("the last lives", "lives n-1", YES),
+            ("the refused one doesn't", "lives n", NO),
+            ("let go", "remove n-1 hand", MADE),
+            ("dead", "dies n-1", MADE),
+            ("the first lives", "lives 266", YES),
+            ("the last is dead", "lives n-1", NO),
+        ],
+    ),
+    (
+        "each move that grows is refused",
+        &[
+            ("a list", "born 266 f0", MADE),
+            ("an object", "born 267 f1", MADE),
+            ("it goes in", "put 267 f1", MADE),
+            (
+                "one place more after the other",
+                "from 10: add 266 fn",
+                NO_MEMORY,
+            ),
+            ("the refused place holds nothing", "has 266 fn", NO),
+            ("a birth", "born 268 f1", NO_MEMORY),
+            ("None would go in", "put 0 f1", NO_MEMORY),
+            ("None would be swapped in", "swap 267 f2", NO_MEMORY),
+            ("its entry", "has 267 entry", YES),
+            ("not its old place", "has 267 f1", NO),
+            ("not born", "lives 268", NO),
+            ("let go", "remove 266 f10", MADE),
+            ("None goes in", "put 0 f1", MADE),
+        ],
+    ),
+];
+
+/// A number of a step: `n` is the one at which memory was refused.
+fn number(rt: &impl Abort, word: &str, n: u32) -> u32 {
+    match word {
+        "n" => n,
+        "n-1" => n.saturating_sub(1),
+        _ => word.parse::<u32>().expect(rt, "a number"),
     }
 }
 
-/// Both are handed over, at once.
-fn pass(rt: &impl Abort, alloc: Global, first: Handover, second: Handover) -> Move<Global> {
-    let both = Vec::from_slice(alloc, &[first, second]).expect(rt, "memory");
+/// A place of the first thread's frame.
+fn place_of(rt: &impl Abort, word: &str, n: u32) -> u32 {
+    number(rt, word.strip_prefix("f").expect(rt, "a place"), n)
+}
+
+/// A holder of an object: the first thread's hand, the first entry of the list in cell 266, or a place of its frame.
+fn holder_of(rt: &impl Abort, word: &str, object: u32, n: u32) -> Holder {
+    match word {
+        "hand" => Holder::Hand {
+            thread: 1,
+            cell: object,
+        },
+        "entry" => Holder::Entry {
+            cell: 266,
+            index: 0,
+        },
+        _ => Holder::Frame {
+            thread: 1,
+            place: place_of(rt, word, n),
+        },
+    }
+}
+
+/// An object's references are handed over, all at once: each word has two holders.
+fn pass(rt: &impl Abort, alloc: Global, object: u32, words: &str) -> Move<Global> {
+    let mut list = Vec::new(alloc);
+    for word in words.split(' ') {
+        let (from, to) = word.split_once('>').expect(rt, "two holders");
+        let handover = Handover {
+            object,
+            from: holder_of(rt, from, object, 0),
+            to: holder_of(rt, to, object, 0),
+        };
+        list.push(handover).expect(rt, "memory");
+    }
     Move::Pass {
-        list: Handovers::new(both),
+        list: Handovers::new(list),
     }
 }
 
-/// An entry of the list in cell 266 and place 0 of the first thread change together.
+/// An entry of the list in cell 266 and a place of the first thread change together; its first place holds the list.
 fn change(change: Exchange) -> Move<Global> {
     Move::Change {
         cell: 266,
@@ -51,262 +174,125 @@ fn change(change: Exchange) -> Move<Global> {
     }
 }
 
-/// What is asked of the map, by its name in the rows, of this object.
-fn move_of(rt: &impl Abort, alloc: Global, asked: &str, object: u32) -> Move<Global> {
-    let hand = Holder::Hand {
-        thread: 1,
-        cell: object,
-    };
-    let kind = Kind::List;
-    match asked {
+/// What is asked of the map. An object is put from a place to the list's end, swapped for None, or taken.
+fn move_of(
+    rt: &impl Abort,
+    alloc: Global,
+    verb: &str,
+    object: u32,
+    with: &str,
+    n: u32,
+) -> Move<Global> {
+    match verb {
         "born" => Move::Born {
             object,
-            kind,
-            holder: FRAME,
+            kind: Kind::List,
+            holder: holder_of(rt, with, object, n),
         },
-        "born in the next place" => Move::Born {
+        "add" => Move::Add {
             object,
-            kind,
-            holder: NEXT,
+            holder: holder_of(rt, with, object, n),
         },
-        "let go" => Move::Remove {
+        "remove" => Move::Remove {
             object,
-            holder: FRAME,
-        },
-        "let go by place 10" => Move::Remove {
-            object,
-            holder: Holder::Frame {
-                thread: 1,
-                place: 10,
-            },
-        },
-        "let go by the hand" => Move::Remove {
-            object,
-            holder: hand,
+            holder: holder_of(rt, with, object, n),
         },
         "dies" => Move::Dies { object },
-        // The second asks for what the first has given away.
-        "handed over twice" => { pass(rt, alloc, handover(FRAME, HAND), handover(FRAME, HAND)) }
-        "handed over and on" => { pass(rt, alloc, handover(FRAME, HAND), handover(HAND, NEXT)) }
-        "put from the next place" => change(Exchange::Put {
-            from: 1,
+        "pass" => pass(rt, alloc, object, with),
+        "put" => change(Exchange::Put {
+            from: place_of(rt, with, n),
             cell: object,
         }),
-        "swapped out for None" => change(Exchange::Swap {
+        "swap" => change(Exchange::Swap {
             index: 0,
-            at: 2,
+            at: place_of(rt, with, n),
             cell: 0,
             old: object,
         }),
-        "taken" => change(Exchange::Take {
+        "take" => change(Exchange::Take {
             index: 0,
-            to: 3,
+            to: place_of(rt, with, n),
             cell: object,
         }),
-        _ => panic!(rt; "{asked}"),
+        _ => panic!(rt; "{verb}"),
     }
 }
 
-/// A row of a life: its name, what is asked and of which object, and whether the map allows it.
-type Row = (&'static str, &'static str, u32, bool);
-
-/// Each row is asked of the map in turn, and made or refused as it says.
-fn follows<A: Allocator + Copy>(
+/// What comes of a step: a move that is made, or what is so.
+fn comes_of<A: Allocator + Copy>(
     rt: &impl Abort,
     alloc: Global,
     world: &mut HolderWorld<A>,
-    rows: &[Row],
-) {
-    for &(case, asked, object, allowed) in rows {
-        let found = world.apply(&move_of(rt, alloc, asked, object));
-        let wanted = if allowed {
-            Ok(())
-        } else {
-            Err(Refused::NotAllowed)
-        };
-        holds(rt, case, found == wanted);
+    asked: &str,
+    n: u32,
+) -> Result<bool, Refused> {
+    let (verb, rest) = asked.split_once(' ').expect(rt, "a step");
+    let (object, with) = rest.split_once(' ').unwrap_or((rest, ""));
+    let object = number(rt, object, n);
+    match verb {
+        "lives" => Ok(world.is_live(object)),
+        "has" => Ok(world.has(object, &holder_of(rt, with, object, n))),
+        _ => match world.apply(&move_of(rt, alloc, verb, object, with, n)) {
+            Ok(()) => Ok(true),
+            Err(why) => Err(why),
+        },
     }
 }
 
-#[test]
-fn an_object_lives_as_long_as_its_holder(rt: HostRuntime) {
-    const ROWS: &[Row] = &[
-        ("an immortal is not born", "born", 265, false),
-        ("nothing lives in the cell", "dies", 266, false),
-        ("an object is born", "born", 266, true),
-        ("it lives already", "born in the next place", 266, false),
-        ("its place is taken", "born", 267, false),
-        ("it is held", "dies", 266, false),
-        (
-            "the hand does not hold it",
-            "let go by the hand",
-            266,
-            false,
-        ),
-        ("its place lets go", "let go", 266, true),
-        ("nothing holds it", "let go", 266, false),
-        ("it dies", "dies", 266, true),
-        ("it is dead", "dies", 266, false),
-    ];
-    let mut world = HolderWorld::new(rt.alloc());
-    follows(&rt, rt.alloc(), &mut world, ROWS);
-    assert!(rt; !world.is_live(266));
-}
-
-/// The object has the one holder, and not the other.
-fn has_alone<A: Allocator + Copy>(
-    rt: &impl Abort,
-    world: &HolderWorld<A>,
-    object: u32,
-    holder: &Holder,
-    other: &Holder,
-) {
-    holds(rt, "its holder", world.has(object, holder));
-    holds(rt, "no more the other", !world.has(object, other));
-}
-
-#[test]
-fn references_are_handed_over_together(rt: HostRuntime) {
-    const ROWS: &[Row] = &[
-        ("born", "born", 266, true),
-        ("twice", "handed over twice", 266, false),
-    ];
-    const BOTH: &[Row] = &[("there and on", "handed over and on", 266, true)];
-    let mut world = HolderWorld::new(rt.alloc());
-    follows(&rt, rt.alloc(), &mut world, ROWS);
-    has_alone(&rt, &world, 266, &FRAME, &HAND);
-    follows(&rt, rt.alloc(), &mut world, BOTH);
-    has_alone(&rt, &world, 266, &NEXT, &FRAME);
-}
-
-/// The first entry of the list in cell 266.
-const FIRST: Holder = Holder::Entry {
-    cell: 266,
-    index: 0,
-};
-
-/// Two objects are born, and the second goes into the first.
-const IN: &[Row] = &[
-    ("a list", "born", 266, true),
-    ("an object", "born in the next place", 267, true),
-    ("it goes in", "put from the next place", 267, true),
-];
-
-#[test]
-fn entries_and_places_change_together(rt: HostRuntime) {
-    const OUT: Holder = Holder::Frame {
-        thread: 1,
-        place: 2,
-    };
-    const AND_OUT: &[Row] = &[(
-        "None goes in and it comes out",
-        "swapped out for None",
-        267,
-        true,
-    )];
-    // None comes out, and no place holds an immortal.
-    const NONE: &[Row] = &[
-        ("None comes out", "taken", 0, true),
-        ("twice", "taken", 0, false),
-    ];
-    let mut world = HolderWorld::new(rt.alloc());
-    follows(&rt, rt.alloc(), &mut world, IN);
-    has_alone(&rt, &world, 267, &FIRST, &NEXT);
-    follows(&rt, rt.alloc(), &mut world, AND_OUT);
-    has_alone(&rt, &world, 267, &OUT, &FIRST);
-    follows(&rt, rt.alloc(), &mut world, NONE);
-}
-
-/// Objects are born, each in a hand, until memory is refused for one: the last that lives.
-fn last_born<A: Allocator + Copy>(rt: &impl Abort, world: &mut HolderWorld<A>) -> u32 {
-    for cell in 266..400 {
-        let holder = Holder::Hand { thread: 1, cell };
-        let born = Move::<Global>::Born {
-            object: cell,
-            kind: Kind::List,
-            holder,
-        };
-        match world.apply(&born) {
-            Ok(()) => {}
-            Err(why) => {
-                holds(rt, "for memory", why == Refused::Memory);
-                return cell - 1;
-            }
-        }
-    }
-    399
-}
-
-#[test]
-fn what_is_refused_for_memory_changes_nothing(rt: HostRuntime) {
-    let heap = LocalHeap::new(rt.alloc(), 1024).expect(&rt, "memory");
-    let mut world = HolderWorld::new(&heap);
-    holds(&rt, "nothing used", heap.used() == 0);
-    let last = last_born(&rt, &mut world);
-    assert!(rt; 266 < last && last < 399);
-    holds(&rt, "the last lives", world.is_live(last));
-    holds(&rt, "the refused one doesn't", !world.is_live(last + 1));
-
-    // What lets go asks for nothing.
-    let rows = [
-        ("let go", "let go by the hand", last, true),
-        ("dead", "dies", last, true),
-    ];
-    follows(&rt, rt.alloc(), &mut world, rows.as_slice());
-    holds(&rt, "the first lives", world.is_live(266));
-    holds(&rt, "the last is dead", !world.is_live(last));
-}
-
-/// Object 266 is held by one place more after the other, until memory is refused for one.
-fn hold_until_refused<A: Allocator + Copy>(rt: &impl Abort, world: &mut HolderWorld<A>) {
-    for place in 10..400 {
-        let holder = Holder::Frame { thread: 1, place };
-        let object = 266;
-        match world.apply(&Move::<Global>::Add { object, holder }) {
-            Ok(()) => {}
-            Err(why) => {
-                holds(rt, "for memory", why == Refused::Memory);
-                holds(rt, "not held", !world.has(object, &holder));
-                return;
-            }
-        }
-    }
-    panic!(rt; "memory that is never missing")
-}
-
-/// Each of these is asked of the map in turn, and refused for memory.
-fn are_refused<A: Allocator + Copy>(
+/// The step is taken of each number from this one on: the first of which it is refused.
+fn until_refused<A: Allocator + Copy>(
     rt: &impl Abort,
     alloc: Global,
     world: &mut HolderWorld<A>,
-    asked: &[(&str, u32)],
+    asked: &str,
+    from: u32,
+) -> u32 {
+    for n in from..400 {
+        if comes_of(rt, alloc, world, asked, n).is_err() {
+            return n;
+        }
+    }
+    panic!(rt; "{asked}: never refused")
+}
+
+/// Each step of a life in turn. One behind `from` and a number is taken of each number from there on until it is refused,
+/// and then of that one once more.
+fn plays<R: Abort + AllocGlobal, A: Allocator + Copy>(
+    rt: &R,
+    world: &mut HolderWorld<A>,
+    life: &Life,
 ) {
-    for &(asked, object) in asked {
-        let found = world.apply(&move_of(rt, alloc, asked, object));
-        holds(rt, asked, found == Err(Refused::Memory));
+    let &(case, rows) = life;
+    let mut n = 0;
+    for &(name, step, wanted) in rows {
+        let mut asked = step;
+        if let Some(rest) = step.strip_prefix("from ") {
+            let (from, again) = rest.split_once(": ").expect(rt, "a number and a step");
+            asked = again;
+            n = until_refused(rt, rt.alloc(), world, asked, number(rt, from, n));
+        }
+        let found = comes_of(rt, rt.alloc(), world, asked, n);
+        comes(rt, case, name, &found, wanted);
     }
 }
 
 #[test]
-fn each_move_that_grows_is_refused(rt: HostRuntime) {
-    const GROWING: &[(&str, u32)] = &[
-        ("born in the next place", 268),
-        ("put from the next place", 0),
-        ("swapped out for None", 267),
-    ];
-    // What goes leaves room for one.
-    const AFTERWARDS: &[Row] = &[
-        ("let go", "let go by place 10", 266, true),
-        ("None goes in", "put from the next place", 0, true),
-    ];
-    let heap = LocalHeap::new(rt.alloc(), 1024).expect(&rt, "memory");
-    let mut world = HolderWorld::new(&heap);
-    follows(&rt, rt.alloc(), &mut world, IN);
-    hold_until_refused(&rt, &mut world);
-    are_refused(&rt, rt.alloc(), &mut world, GROWING);
-    has_alone(&rt, &world, 267, &FIRST, &NEXT);
-    holds(&rt, "not born", !world.is_live(268));
-    follows(&rt, rt.alloc(), &mut world, AFTERWARDS);
-    drop(world);
-    assert_eq!(rt; heap.used(), 0);
+fn lives_of_objects(rt: HostRuntime) {
+    for life in LIVES {
+        let mut world = HolderWorld::new(rt.alloc());
+        plays(&rt, &mut world, life);
+    }
+}
+
+/// A map takes no memory at first, and leaves none behind.
+#[test]
+fn lives_in_little_memory(rt: HostRuntime) {
+    for life in STARVED {
+        let heap = LocalHeap::new(rt.alloc(), 1024).expect(&rt, "memory");
+        let mut world = HolderWorld::new(&heap);
+        same(&rt, life.0, heap.used(), 0);
+        plays(&rt, &mut world, life);
+        drop(world);
+        same(&rt, life.0, heap.used(), 0);
+    }
 }

@@ -3,7 +3,8 @@
 ghost use Rattle.brc_heap.specs.Words.{IsUnlocked, Keeps, Owns};
 
 use crate::crowd::counted::{Counted, Want};
-use brc_heap::{Fault, Frame, Handle, Key, Kind, Mutator, dict_find, dict_put, kind_of, new_list};
+use crate::globals::{New, puts_new};
+use brc_heap::{Fault, Frame, Handle, Key, Kind, Mutator, dict_find, kind_of};
 use std::alloc::Global;
 use std::sync::Wait;
 
@@ -12,29 +13,6 @@ const LIST: i64 = 1;
 
 /// How often each thread looks for it.
 const TRIES: u32 = 100;
-
-/// A new list goes into the globals, unless something is refused.
-fn puts_list(rt: &impl Wait, alloc: Global, frame: &mut Frame, globals: &Handle) -> Counted
-    requires owned { Owns frame.old globals.now }
-    requires unlocked { IsUnlocked frame.old }
-    ensures keeps { Keeps frame.old frame.new }
-    ensures unlocked { IsUnlocked frame.new }
-{
-    let Ok(list) = new_list(alloc, frame) else {
-        return Counted::wanting(Want::List);
-    };
-    match dict_put(rt, frame, globals, Key::Int(LIST), list) {
-        Ok(None) => Counted::NOTHING,
-        Ok(Some(old)) => {
-            frame.release(old);
-            Counted::NOTHING
-        }
-        Err(handed) => {
-            frame.release(handed.value.1);
-            Counted::wanting(Want::List)
-        }
-    }
-}
 
 /// The globals get a new list, to which no handle is kept, unless something is refused.
 pub(crate) fn shares_list(rt: &impl Wait, alloc: Global, mutator: &mut Mutator<'_>) -> Counted
@@ -45,9 +23,12 @@ pub(crate) fn shares_list(rt: &impl Wait, alloc: Global, mutator: &mut Mutator<'
     let Ok(globals) = mutator.globals() else {
         return Counted::wanting(Want::Handle);
     };
-    let put = puts_list(rt, alloc, mutator.frame(), &globals);
+    let put = puts_new(rt, alloc, mutator.frame(), &globals, LIST, New::List);
     mutator.frame().release(globals);
-    put
+    match put {
+        Some(()) => Counted::NOTHING,
+        None => Counted::wanting(Want::List),
+    }
 }
 
 /// One look for the list, which is let go at once.

@@ -60,16 +60,3 @@ where
         }
     }
 }
-
-/// A last thread clears the globals, and frees the mailbox that was left there: whether it could.
-pub(crate) fn clears(rt: &impl Wait, alloc: Global, heap: &Heap, root: &mut Root) -> bool
-    requires root { root.old.table ≡ heap.now.table }
-    ensures root { root.new.table ≡ root.old.table }
-{
-    let Ok(mut last) = root.register_apart(alloc, heap) else {
-        return false;
-    };
-    let cleared = last.clear_globals().is_ok();
-    let _ledger = last.settle_and_join(rt, root, heap);
-    cleared
-}

@@ -3,7 +3,8 @@
 ghost use Rattle.std.specs.Prelude.{⊤};
 ghost use Rattle.brc_heap.specs.Words.{IsUnlocked, Keeps, Owns};
 
-use brc_heap::{Frame, Handle, Key, KeyRef, Mutator, dict_put, int_of, new_int, new_mailbox, send};
+use crate::globals::{New, puts_new};
+use brc_heap::{Frame, Handle, KeyRef, Mutator, int_of, new_int, send};
 use brc_loops::{Duty, Stop, Waited, fetch_until, recv_until};
 use std::alloc::Global;
 use std::sync::Wait;
@@ -100,23 +101,6 @@ impl Mailing {
                 let _before = self.sent.fetch_add(1, Ordering::SeqCst);
             }
             Role::Receives => {}
-        }
-    }
-
-    /// A new mailbox goes into the globals, unless something is refused.
-    fn opens(&self, rt: &impl Wait, frame: &mut Frame, globals: &Handle)
-        requires owned { Owns frame.old globals.now }
-        requires unlocked { IsUnlocked frame.old }
-        ensures keeps { Keeps frame.old frame.new }
-        ensures unlocked { IsUnlocked frame.new }
-    {
-        let Ok(mailbox) = new_mailbox(self.alloc, frame) else {
-            return;
-        };
-        match dict_put(rt, frame, globals, Key::Int(MAILBOX), mailbox) {
-            Ok(None) => {}
-            Ok(Some(old)) => frame.release(old),
-            Err(handed) => frame.release(handed.value.1),
         }
     }
 
@@ -250,7 +234,8 @@ impl Mailing {
     {
         match role {
             Role::Opens => {
-                self.opens(rt, frame, globals);
+                // (if it is refused, no letter is sent)
+                let _opened = puts_new(rt, self.alloc, frame, globals, MAILBOX, New::Mailbox);
                 Counted::NOTHING
             }
             _ => self.mails(rt, frame, globals, role),

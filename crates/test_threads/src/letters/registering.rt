@@ -3,7 +3,7 @@
 use brc_heap::{Fault, Heap, Options, close_or_end};
 use std::alloc::{Allocator, Global};
 use std::sync::Wait;
-use test_tools::{Heaps, Memories};
+use test_heap::{Heaps, Memories};
 
 /// The least heap.
 pub(crate) const SIZES: Options = Options {

@@ -2,23 +2,24 @@
 
 ghost use Rattle.std.specs.Prelude.{◌≡◌};
 ghost use Rattle.brc_heap.specs.Words.{IsUnlocked, Keeps, Owns};
-ghost use Rattle.test_tools.specs.Calls.{EndsBare, IsBare, Parts};
+ghost use Rattle.test_heap.specs.Calls.{EndsBare, IsBare, OwnsAll};
 
 use crate::letters::registering::SIZES;
 use brc_count::Frame;
 use brc_count::biased::HasTable;
 use brc_heap::{
-    Fault, Handle, Handles, Heap, Key, KeyRef, Mutator, close_or_end, dict_put, none, send,
+    Fault, Handle, Handles, Heap, Key, KeyRef, Mutator, close_or_end, dict_put, new_dict,
+    new_mailbox, none, send,
 };
 use brc_loops::{
     Life, Never, Nothing, Waited, end_all, fetch_until, gather_all, gather_answers, recv_until,
     rest_more, run_all,
 };
 use linked_list_allocator::LocalHeap;
-use std::alloc::Global;
+use std::alloc::{Allocator, Global};
 use std::sync::Wait;
 use std::thread::Threads;
-use test_tools::{Heaps, Memories, Pieces, Thing, made, starves};
+use test_heap::{Heaps, Memories, Pieces};
 
 /// What is waited for.
 #[derive(Clone, Copy)]
@@ -112,6 +113,47 @@ fn waits_with_memory<'h, H: HasTable<&'h LocalHeap>>(
     false
 }
 
+/// References to None until one is refused: why. None where a thousand were had, or one wasn't kept.
+fn fills<H: HasTable<A>, A: Allocator>(
+    frame: &mut Frame<H, A>,
+    handles: &mut Handles<A>,
+) -> Option<Fault>
+    requires { OwnsAll frame.old handles.old }
+    ensures all { OwnsAll frame.new handles.new }
+    ensures heap { frame.new.heap ≡ frame.old.heap }
+{
+    for _ in 0..1_000 {
+        match none(frame) {
+            Err(fault) => return Some(fault),
+            Ok(handle) => {
+                if handles.keep(frame, handle).is_err() {
+                    return None;
+                }
+            }
+        }
+    }
+    None
+}
+
+/// All memory that is left is taken, and the frame's places filled, until one is refused for want of memory: the memory.
+/// None where it came otherwise.
+fn starves<'h, H: HasTable<A>, A: Allocator>(
+    alloc: Global,
+    scarce: &'h LocalHeap,
+    frame: &mut Frame<H, A>,
+    handles: &mut Handles<A>,
+) -> Option<Pieces<'h>>
+    requires { OwnsAll frame.old handles.old }
+    ensures all { OwnsAll frame.new handles.new }
+    ensures heap { frame.new.heap ≡ frame.old.heap }
+{
+    let pieces = Pieces::take_all(alloc, scarce)?;
+    match fills(frame, handles) {
+        Some(Fault::OutOfMemory) => Some(pieces),
+        _ => None,
+    }
+}
+
 /// The same, in a frame that has no handle before and afterwards.
 fn waits_bare<'h, H: HasTable<&'h LocalHeap>>(
     rt: &impl Wait,
@@ -123,11 +165,11 @@ fn waits_bare<'h, H: HasTable<&'h LocalHeap>>(
     requires { IsBare frame.old }
     ensures { EndsBare frame.old frame.new }
 {
-    let thing = match awaited {
-        Awaited::Letter => Thing::Mailbox,
-        Awaited::Value => Thing::Dict,
+    let made = match awaited {
+        Awaited::Letter => new_mailbox(memories.ample, frame),
+        Awaited::Value => new_dict(memories.ample, frame),
     };
-    let Ok(object) = made(memories.ample, frame, thing) else {
+    let Ok(object) = made else {
         return false;
     };
     puts(rt, frame, &object, awaited);

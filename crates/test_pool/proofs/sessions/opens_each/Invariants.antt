@@ -1,5 +1,0 @@
-use Rattle.brc_heap.specs.Words.{IsUnlocked, Keeps}
-use Rattle.test_pool.proofs.sessions.opens_each.Given as goal
-
-abbrev pub invariant-loop-number : goal.invariant-loop-number
-invariant-loop-number g l = Keeps l.fn.frame l.frame × IsUnlocked l.frame

@@ -1,5 +1,0 @@
-use Rattle.brc_heap.specs.Words.{IsUnlocked, Keeps}
-use Rattle.test_shared.proofs.sessions.opens_each.Given as goal
-
-abbrev pub invariant-loop-key : goal.invariant-loop-key
-invariant-loop-key g l = Keeps l.fn.frame l.frame × IsUnlocked l.frame

@@ -1,5 +1,0 @@
-use Rattle.std.proofs.Common.{length}
-use Rattle.test_tools.proofs.ends.cells_left.Given as goal
-
-abbrev pub decreases-loop-block : goal.decreases-loop-block
-decreases-loop-block g l = length l.rest
