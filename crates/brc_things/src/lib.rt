@@ -11,6 +11,7 @@
 #![tactic(auto)]
 
 mod indexing;
+mod late;
 mod laws;
 mod lists;
 mod looking;
@@ -22,12 +23,12 @@ mod readers;
 mod rows;
 mod seeking;
 mod values;
-mod waiting;
 mod waiting_calls;
 mod waiting_readers;
 mod within;
 
 pub use indexing::{dict_key, dict_pair, try_dict_key, try_dict_pair};
+pub use late::begin_late;
 pub use laws::{calls_on_an_object_are_one_history, lost_tries_change_nothing};
 pub use lists::{try_list_get, try_list_pop, try_list_push, try_list_set, try_list_take};
 pub use mailboxes::{try_recv, try_send};
@@ -39,6 +40,5 @@ pub use values::{
     dict_del, dict_del_by, dict_find, dict_find_by, try_dict_del, try_dict_del_by, try_dict_find,
     try_dict_find_by,
 };
-pub use waiting::begin_late;
 pub use waiting_calls::{list_get, list_pop, list_push, list_set, list_take, recv, send};
 pub use waiting_readers::{int_of, kind_of, len_of, text_into, text_of};

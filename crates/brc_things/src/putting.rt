@@ -16,8 +16,8 @@ ghost use Rattle.brc_things.specs.Putting.{RefusedRoomFor, HasPut, OwnsPut, Refu
 ghost use Rattle.brc_things.specs.Seeking.{HasKeyAt, IsAbsent};
 ghost use Rattle.brc_things.specs.Since.{Since};
 
+use crate::late::begin_late;
 use crate::seeking::{Sought, seek};
-use crate::waiting::begin_late;
 use brc_count::biased::HasTable;
 use brc_count::block::{Block, KeyRef, Payload};
 use brc_count::{Frame, HandedBack, Handle};

@@ -13,8 +13,8 @@ ghost use Rattle.brc_things.specs.Dict_Calls.{DictFind, DictDel};
 ghost use Rattle.brc_things.specs.Plain_Dicts.{plain_find, plain_del};
 ghost use Rattle.brc_things.specs.Since.{Since};
 
+use crate::late::begin_late;
 use crate::seeking::{Sought, seek};
-use crate::waiting::begin_late;
 use brc_count::biased::HasTable;
 use brc_count::block::{Block, KeyRef};
 use brc_count::{Frame, Handle};

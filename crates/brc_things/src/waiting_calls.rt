@@ -8,7 +8,7 @@ ghost use Rattle.brc_count.specs.Owned.{Keeps, Gains, Loses};
 ghost use Rattle.brc_things.specs.Called.{Late};
 ghost use Rattle.brc_things.specs.List_Calls.{ListPush, ListPop, ListTake, ListGet, ListSet, MailboxSend, MailboxReceive};
 
-use crate::waiting::begin_late;
+use crate::late::begin_late;
 use crate::within::{put_locked, share_locked, swap_locked, take_locked};
 use brc_count::biased::HasTable;
 use brc_count::{Frame, HandedBack, Handle};
