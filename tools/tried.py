@@ -1,5 +1,6 @@
 """The ledger of wrong bodies, docs/more-edits.tried: of each crate how many edits `.ci/long` tried last, how many were refused, a sum of the
 crate's contracts then, the date, the commit and the kit. A sum is of all that `.ci/contracts` compares of one crate."""
+import fcntl
 import glob
 import hashlib
 import importlib.machinery
@@ -43,6 +44,13 @@ def rows():
     """Of each crate in the ledger: tried, refused, sum, date, commit, kit."""
     lines = text_of(LEDGER).split("\n") if os.path.isfile(LEDGER) else []
     return {it.split()[0]: it.split()[1:] for it in lines if it and not it.startswith("#")}
+
+
+def note(crate, row):
+    """Writes the crate's row; of several runs of `.ci/long` at once each waits for the other."""
+    with open(f"{ROOT}/tools/tried.py", encoding="utf-8") as it:
+        fcntl.flock(it, fcntl.LOCK_EX)
+        write({**rows(), crate: row})
 
 
 def write(found):
