@@ -10,6 +10,8 @@ import os
 from sources import ROOT, text_of
 
 LEDGER = f"{ROOT}/docs/more-edits.tried"
+PAGE = f"{ROOT}/docs/TESTED.md"
+MARKS = ("<!-- made from docs/more-edits.tried -->\n", "<!-- end -->\n")
 HEAD = """# The wrong bodies of each crate, as `.ci/long` tried them last: how many there were, how many of them were refused, a sum of the
 # crate's public contracts, date, commit and kit. Made by `.ci/long`; `.ci/edits` compares it with the code.
 """
@@ -44,6 +46,25 @@ def rows():
     """Of each crate in the ledger: tried, refused, sum, date, commit, kit."""
     lines = text_of(LEDGER).split("\n") if os.path.isfile(LEDGER) else []
     return {it.split()[0]: it.split()[1:] for it in lines if it and not it.startswith("#")}
+
+
+def told():
+    """What TESTED says of the ledger."""
+    ledger = rows()
+    count, refused = (sum(int(row[at]) for row in ledger.values()) for at in (0, 1))
+    dates, commits, kits = (sorted({row[at] for row in ledger.values()}) for at in (3, 4, 5))
+    when = " to ".join(dict.fromkeys([dates[0], dates[-1]])) if dates else "never"
+    return f"""| crates | wrong bodies | refused | tried | at commit | kit |
+|---|---|---|---|---|---|
+| {len(ledger)} | {count} | {refused} | {when} | {", ".join(commits)} | {", ".join(kits)} |
+"""
+
+
+def page():
+    """TESTED as it is to be."""
+    text = text_of(PAGE)
+    head, behind = text.split(MARKS[0])
+    return head + MARKS[0] + told() + MARKS[1] + behind.split(MARKS[1], 1)[1]
 
 
 def note(crate, row):
