@@ -13,3 +13,4 @@ pub mod Quiet
 pub mod Refusing
 pub mod Handing
 pub mod Beginning
+pub mod Kept

@@ -115,3 +115,15 @@ pub record UnlockedBy {A : Type 0} (old new : FrameSeen A) (change : Change) (bl
   pub event : new.seat.log ≡ Stepped (Unlock change) 0 (moves.Put block.0 (contents_of block.1)) ∷ old.seat.log
   pub unlocked : IsUnlocked new
   pub keeps : KeepsThread old new
+
+-- The object in the place was locked, found with these contents, and put home with those; its unlocking moved a
+-- reference as the change says. Nothing else was done.
+pub record Changes {A : Type 0} (old new : FrameSeen A) (k : ℕ) (found : Contents) (change : Change)
+    (put : Contents) : Type 0 where
+  pub cell : ℕ
+  pub of_place : cell_in old k ≡ Some cell
+  pub events : new.seat.log ≡ Stepped (Unlock change) 0 (moves.Put cell put) ∷ Stepped (Lock k) 0
+      (moves.Found cell found)
+      ∷ old.seat.log
+  pub unlocked : IsUnlocked new
+  pub keeps : KeepsThread old new

@@ -11,4 +11,4 @@ mod locked;
 mod locking;
 
 pub use locked::Locked;
-pub use locking::{begin_late, lock, try_lock};
+pub use locking::{lock, try_lock};

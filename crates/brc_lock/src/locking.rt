@@ -7,17 +7,17 @@ ghost use Rattle.brc_count.specs.Frames.{IsUnlocked, Owns};
 ghost use Rattle.brc_count.specs.Owned.{Keeps};
 ghost use Rattle.brc_count.specs.Locking.{Began, KeepsThread, KeepsFrame};
 ghost use Rattle.brc_count.specs.contracts.frame.Frame.{the_row};
-ghost use Rattle.brc_lock.specs.Waiting.{IsBusy, BeginsLate};
+ghost use Rattle.brc_things.specs.Waiting.{IsBusy, BeginsLate};
 ghost use Rattle.brc_lock.specs.Holding.{HasLockedBlock};
 
 use crate::locked::Locked;
 use brc_count::biased::HasTable;
 use brc_count::block::Block;
 use brc_count::{Frame, Handle};
+use brc_things::begin_late;
 use brc_words::Fault;
 use std::alloc::Allocator;
 use std::sync::Wait;
-use std::thread::yield_now;
 
 /// Locks the handle's object and answers its block, or Busy.
 #[inline(always)]
@@ -35,46 +35,6 @@ fn begin_or_busy<H: HasTable<A>, A: Allocator>(
     match frame.begin(handle) {
         Some(block) => Ok(block),
         None => Err(Fault::Busy),
-    }
-}
-
-/// Locks the handle's object and answers its block, once no other thread has it locked, where the first try was lost.
-/// Before each further try it gives the processor up.
-#[cold]
-#[inline(never)]
-fn begin_again<H: HasTable<A>, A: Allocator>(
-    rt: &impl Wait,
-    frame: &mut Frame<H, A>,
-    handle: &Handle<A>,
-) -> Block<A>
-    requires owned { Owns frame.old handle.now }
-    requires unlocked { IsUnlocked frame.old }
-    ensures { BeginsLate frame.old frame.new handle.now.place result }
-{
-    for _ in rt.forever() {
-        yield_now();
-        if let Some(block) = frame.begin(handle) {
-            return block;
-        }
-    }
-    unreachable!()
-}
-
-/// Locks the handle's object and answers its block, once no other thread has it locked. Between two tries it holds
-/// nothing, and gives the processor up.
-#[inline(always)]
-pub fn begin_late<H: HasTable<A>, A: Allocator>(
-    rt: &impl Wait,
-    frame: &mut Frame<H, A>,
-    handle: &Handle<A>,
-) -> Block<A>
-    requires owned { Owns frame.old handle.now }
-    requires unlocked { IsUnlocked frame.old }
-    ensures { BeginsLate frame.old frame.new handle.now.place result }
-{
-    match frame.begin(handle) {
-        Some(block) => block,
-        None => begin_again(rt, frame, handle),
     }
 }
 

@@ -16,13 +16,14 @@ use Rattle.brc_count.specs.table.Seated.{SeatSeen}
 use Rattle.brc_count.specs.table.Shown.{contents_of}
 use Rattle.brc_count.specs.declared.handed.HandedBack.{HandedBack}
 use Rattle.brc_count.specs.Frames.{FrameSeen, HandleSeen}
+use Rattle.brc_count.specs.Locking.{Changes}
 use Rattle.brc_count.specs.Locking.{Began, KeepsThread, KeepsFrame, ChangesPlace, contents_found}
 use Rattle.brc_count.proofs.Refusing.{refused_alike}
 use Rattle.brc_things.specs.Called.{HandsOut}
-use Rattle.brc_things.specs.Changing.{PlainCall, Changes, KeepsAllPlaces, CallPuts, Swaps, CallTakes, Shares}
+use Rattle.brc_things.specs.Changing.{PlainCall, KeepsAllPlaces, CallPuts, Swaps, CallTakes, Shares}
 use Rattle.brc_things.specs.Changing.{RefusedPlainly}
 use Rattle.brc_things.specs.Changing.{RefusedForWant, RefusedCall, RefusedEntry, RefusedPlace}
-use Rattle.brc_lock.proofs.Kept.{thread_kept_on, frame_kept_on}
+use Rattle.brc_count.proofs.Kept.{thread_kept_on, frame_kept_on}
 use Rattle.brc_things.specs.List_Calls.{PutsValue, SwapsValue, TakesEntry, SharesEntry}
 use Rattle.brc_things.specs.Within.{EndsWith, PutsIn, SwapsIn, TakesOut, SharesOut, RefusesPlainly, RefusesEntry}
 use Rattle.brc_things.specs.Within.{RefusesPlace}

@@ -1,3 +1,4 @@
+pub mod Waited
 pub mod One_History
 pub mod Rows_Law
 pub mod Within_Law

@@ -17,13 +17,14 @@ use Rattle.brc_count.specs.law.declared.rule.told.LogItem.TheVariants.{Stepped}
 use Rattle.brc_count.specs.law.rule.Logs.{entries_in}
 use Rattle.brc_count.specs.table.Shown.{contents_of}
 use Rattle.brc_count.specs.Frames.{FrameSeen, HandleSeen, GivenHandle, Refused, IsAsBefore}
+use Rattle.brc_count.specs.Locking.{Changes}
 use Rattle.brc_count.specs.Locking.{IsLocked, Began, UnlockedBy, KeepsThread, KeepsFrame, ChangesPlace, cell_in}
 use Rattle.brc_count.specs.Locking.{contents_found, entries_found}
 use Rattle.brc_count.proofs.Refusing.{refused_alike}
-use Rattle.brc_things.specs.Changing.{PlainCall, Changes, KeepsAllPlaces, CallPuts, Swaps, CallTakes, Shares}
+use Rattle.brc_things.specs.Changing.{PlainCall, KeepsAllPlaces, CallPuts, Swaps, CallTakes, Shares}
 use Rattle.brc_things.specs.Changing.{RefusedPlainly}
 use Rattle.brc_things.specs.Changing.{RefusedForWant, RefusedPlace}
-use Rattle.brc_lock.proofs.Kept.{thread_kept_on}
+use Rattle.brc_count.proofs.Kept.{thread_kept_on}
 use Rattle.brc_things.specs.Since.{JustLocked}
 use Rattle.brc_things.specs.Plain_Dicts.{dict_of, plain_put}
 use Rattle.brc_things.specs.Putting.{RefusedRoomFor, RefusedPair}

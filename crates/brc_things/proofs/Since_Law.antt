@@ -6,8 +6,8 @@ use Rattle.brc_count.specs.block.declared.payload.Payload.{Payload}
 use Rattle.brc_count.specs.declared.handed.HandedBack.{HandedBack}
 use Rattle.brc_count.specs.Frames.{FrameSeen}
 use Rattle.brc_count.specs.Locking.{KeepsThread, KeepsFrame}
-use Rattle.brc_lock.specs.Waiting.{BeginsLate}
-use Rattle.brc_lock.proofs.Kept.{thread_kept_on, frame_kept_on}
+use Rattle.brc_things.specs.Waiting.{BeginsLate}
+use Rattle.brc_count.proofs.Kept.{thread_kept_on, frame_kept_on}
 use Rattle.brc_things.specs.Called.{Looked, HandsOut, TakesIn}
 use Rattle.brc_things.specs.Changing.{KeepsAllPlaces}
 use Rattle.brc_things.specs.Since.{JustLocked, Since}

@@ -7,7 +7,7 @@ use Rattle.brc_words.specs.declared.fault.Fault.{Fault}
 use Rattle.brc_count.specs.declared.handed.HandedBack.{HandedBack}
 use Rattle.brc_count.specs.Frames.{FrameSeen}
 use Rattle.brc_count.specs.Locking.{KeepsThread, KeepsFrame}
-use Rattle.brc_lock.specs.Waiting.{Waits}
+use Rattle.brc_things.specs.Waiting.{Waits}
 use Rattle.brc_things.specs.Changing.{KeepsAllPlaces}
 
 module _ {A : Type 0} where

@@ -13,25 +13,13 @@ use Rattle.brc_count.specs.law.declared.rule.told.Moved.TheVariants as moves
 use Rattle.brc_count.specs.law.declared.rule.told.LogItem.TheVariants.{Stepped}
 use Rattle.brc_count.specs.law.rule.Logs.{entries_in}
 use Rattle.brc_count.specs.Frames.{FrameSeen, HandleSeen, IsUnlocked, GivenHandle, Refused}
-use Rattle.brc_count.specs.Locking.{Busy, KeepsThread, KeepsFrame, ChangesPlace, cell_in}
+use Rattle.brc_count.specs.Locking.{Busy, Changes, KeepsThread, KeepsFrame, ChangesPlace, cell_in}
 
 -- A call on plain data: what is found goes in; the answer and what is left come out, or why there is none.
 abbrev pub PlainCall : Type 0 → Type 0
 PlainCall R = Contents → Result (R × Contents) Fault
 
 module _ {A : Type 0} where
-  -- The object in the place was locked, found with these contents, and put home with those; its unlocking moved a
-  -- reference as the change says. Nothing else was done.
-  pub record Changes (old new : FrameSeen A) (k : ℕ) (found : Contents) (change : Change)
-      (put : Contents) : Type 0 where
-    pub cell : ℕ
-    pub of_place : cell_in old k ≡ Some cell
-    pub events : new.seat.log ≡ Stepped (Unlock change) 0 (moves.Put cell put) ∷ Stepped (Lock k) 0
-        (moves.Found cell found)
-        ∷ old.seat.log
-    pub unlocked : IsUnlocked new
-    pub keeps : KeepsThread old new
-
   -- every place has what it had, and the next one is the same; but more of them may need no memory
   pub record KeepsAllPlaces (old new : FrameSeen A) : Type 0 where
     pub places : (k : ℕ) → cell_in new k ≡ cell_in old k

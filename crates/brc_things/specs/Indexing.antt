@@ -11,7 +11,8 @@ use Rattle.brc_count.specs.block.Payload.{kind_of}
 use Rattle.brc_count.specs.block.declared.payload.Payload.{Payload}
 use Rattle.brc_count.specs.block.declared.payload.Payload.TheVariants as payloads
 use Rattle.brc_count.specs.Frames.{FrameSeen, HandleSeen, Refused}
-use Rattle.brc_things.specs.Changing.{PlainCall, Changes, Shares}
+use Rattle.brc_count.specs.Locking.{Changes}
+use Rattle.brc_things.specs.Changing.{PlainCall, Shares}
 use Rattle.brc_things.specs.Plain_Dicts.{plain_key_at, plain_value_at}
 
 -- The object was looked at, and unlocked as it was found. The plain call answers so.

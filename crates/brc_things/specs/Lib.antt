@@ -1,3 +1,4 @@
+pub mod Waiting
 pub mod Makers
 pub mod Looking
 pub mod Changing

@@ -1,6 +1,5 @@
 -- What each call on a list or a mailbox does, told once for both its forms: from the frame `old` that its locking began
--- from (`brc_things`, `specs/Called.antt`), on the object in place k. The faults come in the order that
--- `brc_things` says.
+-- from (`specs/Called.antt`), on the object in place k. The faults come in the order that `specs/Changing.antt` says.
 use Rattle.std.specs.Prelude.{◌≡◌, ℕ, Some, Result}
 use Rattle.brc_words.specs.declared.fault.Fault.{Fault}
 use Rattle.brc_count.specs.declared.handed.HandedBack.{HandedBack}

@@ -7,8 +7,9 @@ use Rattle.brc_words.specs.declared.limits.TheConstants.{MOST_ENTRIES}
 use Rattle.brc_count.specs.law.declared.world.event.Change.TheVariants.{Keep}
 use Rattle.brc_count.specs.law.declared.rule.contents.Contents.{Contents}
 use Rattle.brc_count.specs.Frames.{FrameSeen, HandleSeen}
+use Rattle.brc_count.specs.Locking.{Changes}
 use Rattle.brc_count.specs.Locking.{Busy, cell_in}
-use Rattle.brc_things.specs.Changing.{PlainCall, Changes, CallPuts, Swaps, RefusedPlainly}
+use Rattle.brc_things.specs.Changing.{PlainCall, CallPuts, Swaps, RefusedPlainly}
 use Rattle.brc_count.specs.Owned.{Keeps, Loses}
 use Rattle.brc_things.specs.Plain_Dicts.{plain_put}
 

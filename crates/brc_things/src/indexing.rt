@@ -14,10 +14,10 @@ ghost use Rattle.brc_things.specs.Indexing.{IsAt, NoPair, ReadsUnlocked, SharesP
 ghost use Rattle.brc_things.specs.Plain_Dicts.{plain_key_at, plain_value_at};
 ghost use Rattle.brc_things.specs.Since.{Since};
 
+use crate::late::begin_late;
 use brc_count::biased::HasTable;
 use brc_count::block::{Block, Payload};
 use brc_count::{Frame, Handle};
-use brc_lock::begin_late;
 use brc_words::{Fault, Key, MOST_PLACES};
 use std::alloc::Allocator;
 use std::sync::Wait;

@@ -5,7 +5,7 @@ ghost use Rattle.brc_count.specs.law.world.Heap.{AreOptions};
 ghost use Rattle.brc_count.specs.law.rule.Logs.{Run, all_of, contents_at, IsLegal};
 ghost use Rattle.brc_count.specs.Frames.{FrameSeen};
 ghost use Rattle.brc_count.specs.Locking.{KeepsThread, KeepsFrame};
-ghost use Rattle.brc_lock.specs.Waiting.{Waits};
+ghost use Rattle.brc_things.specs.Waiting.{Waits};
 ghost use Rattle.brc_things.specs.History.{ContainerCall as call, IsSequential, Extends, left_by, history_of};
 ghost use Rattle.brc_things.specs.History.{own_history};
 ghost use Rattle.brc_things.specs.History.{calls_of};
@@ -39,7 +39,7 @@ pub fn calls_on_an_object_are_one_history()
 /// Tries that find an object locked change nothing of a frame but its log. So what a form that waits says from the
 /// frame that its lost tries left (`Late`) holds from the frame that it was called with: places, handles, heap and room
 /// are the same.
-#[tactic(auto, using(brc_lock::proofs::Kept::waits_thread, brc_lock::proofs::Kept::waits_frame))]
+#[tactic(auto, using(crate::proofs::Waited::waits_thread, crate::proofs::Waited::waits_frame))]
 pub fn lost_tries_change_nothing<A: Allocator>()
     ensures thread { (old mid : FrameSeen A) (k : ℕ) → Waits old k mid → KeepsThread old mid }
     ensures frame { (old mid : FrameSeen A) (k : ℕ) → Waits old k mid → KeepsFrame old mid }

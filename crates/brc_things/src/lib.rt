@@ -11,6 +11,7 @@
 #![tactic(auto)]
 
 mod indexing;
+mod late;
 mod laws;
 mod lists;
 mod looking;
@@ -27,6 +28,7 @@ mod waiting_readers;
 mod within;
 
 pub use indexing::{dict_key, dict_pair, try_dict_key, try_dict_pair};
+pub use late::begin_late;
 pub use laws::{calls_on_an_object_are_one_history, lost_tries_change_nothing};
 pub use lists::{try_list_get, try_list_pop, try_list_push, try_list_set, try_list_take};
 pub use mailboxes::{try_recv, try_send};

@@ -14,11 +14,11 @@ ghost use Rattle.brc_things.specs.Indexing.{ReadsUnlocked};
 ghost use Rattle.brc_things.specs.Plain_Dicts.{plain_place};
 ghost use Rattle.brc_things.specs.Since.{Since};
 
+use crate::late::begin_late;
 use crate::seeking::{Sought, seek};
 use brc_count::biased::HasTable;
 use brc_count::block::{Block, KeyRef};
 use brc_count::{Frame, Handle};
-use brc_lock::begin_late;
 use brc_words::Fault;
 use std::alloc::Allocator;
 use std::sync::Wait;

@@ -16,11 +16,11 @@ ghost use Rattle.brc_things.specs.Putting.{RefusedRoomFor, HasPut, OwnsPut, Refu
 ghost use Rattle.brc_things.specs.Seeking.{HasKeyAt, IsAbsent};
 ghost use Rattle.brc_things.specs.Since.{Since};
 
+use crate::late::begin_late;
 use crate::seeking::{Sought, seek};
 use brc_count::biased::HasTable;
 use brc_count::block::{Block, KeyRef, Payload};
 use brc_count::{Frame, HandedBack, Handle};
-use brc_lock::begin_late;
 use brc_words::{Fault, Key, MOST_ENTRIES};
 use std::alloc::Allocator;
 use std::sync::Wait;

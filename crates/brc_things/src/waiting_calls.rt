@@ -1,5 +1,5 @@
 //! The forms that wait: they try again until the object isn't locked by another thread. What each does then is what its
-//! form with `try_` does, from the frame that the lost tries left (`lost_tries_change_nothing` of `brc_things`).
+//! form with `try_` does, from the frame that the lost tries left (`lost_tries_change_nothing`).
 
 ghost use Rattle.std.specs.Prelude.{◌≡◌, ◌≢◌, IfOk, IfErr, OnOk, OnErr};
 ghost use Rattle.brc_words.specs.declared.fault.Fault.TheVariants as faults;
@@ -8,10 +8,10 @@ ghost use Rattle.brc_count.specs.Owned.{Keeps, Gains, Loses};
 ghost use Rattle.brc_things.specs.Called.{Late};
 ghost use Rattle.brc_things.specs.List_Calls.{ListPush, ListPop, ListTake, ListGet, ListSet, MailboxSend, MailboxReceive};
 
+use crate::late::begin_late;
 use crate::within::{put_locked, share_locked, swap_locked, take_locked};
 use brc_count::biased::HasTable;
 use brc_count::{Frame, HandedBack, Handle};
-use brc_lock::begin_late;
 use brc_words::{Fault, Kind};
 use std::alloc::Allocator;
 use std::sync::Wait;

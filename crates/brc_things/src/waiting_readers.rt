@@ -10,10 +10,10 @@ ghost use Rattle.brc_count.specs.Owned.{Keeps};
 ghost use Rattle.brc_things.specs.Called.{Late};
 ghost use Rattle.brc_things.specs.Looking.{KindOf, LenOf, IntOf, TextOf, TextInto};
 
+use crate::late::begin_late;
 use crate::looking::{append_text, container_len, copy_of_text, int_in, is_text};
 use brc_count::biased::HasTable;
 use brc_count::{Frame, Handle};
-use brc_lock::begin_late;
 use brc_words::{Fault, Kind, Text};
 use std::alloc::{AllocError, Allocator};
 use std::sync::Wait;

@@ -10,11 +10,11 @@ use Rattle.brc_count.specs.law.declared.rule.told.LogItem.TheVariants.{Stepped}
 use Rattle.brc_count.specs.law.rule.Logs.{entries_in}
 use Rattle.brc_count.specs.table.Shown.{contents_of}
 use Rattle.brc_count.specs.Frames.{FrameSeen, HandleSeen, IsAsBefore, ReleasedOf}
+use Rattle.brc_count.specs.Locking.{Changes}
 use Rattle.brc_count.specs.Locking.{Began, UnlockedBy, KeepsThread, KeepsFrame, ChangesPlace, cell_in, contents_found}
 use Rattle.brc_count.specs.Locking.{entries_found}
 use Rattle.brc_count.specs.Owned.{Keeps, Gains, Loses}
-use Rattle.brc_things.specs.Changing.{Changes}
-use Rattle.brc_lock.proofs.Kept.{thread_kept_on}
+use Rattle.brc_count.proofs.Kept.{thread_kept_on}
 use Rattle.brc_thread.specs.Clearing.{TakesLast, TakesSome, OneTake}
 use Rattle.brc_thread.proofs.Payloads.{entries_shown, kind_shown}
 

@@ -9,9 +9,9 @@ use Rattle.brc_count.specs.law.declared.world.event.Source.TheVariants as source
 use Rattle.brc_count.specs.law.declared.rule.contents.Contents.{Contents}
 use Rattle.brc_count.specs.law.rule.Logs.{kind_in, entries_in}
 use Rattle.brc_count.specs.Frames.{FrameSeen, HandleSeen, GivenHandle, ReleasedOf, Refused, IsAsBefore}
+use Rattle.brc_count.specs.Locking.{Changes}
 use Rattle.brc_count.specs.Locking.{Busy, cell_in}
 use Rattle.brc_count.specs.Owned.{Keeps, Gains}
-use Rattle.brc_things.specs.Changing.{Changes}
 
 module _ {A : Type 0} where
   -- ---- one look at the object in a place

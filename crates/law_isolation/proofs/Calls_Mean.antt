@@ -26,7 +26,7 @@ use Rattle.brc_things.specs.Changing.{PlainCall, RefusedPlainly}
 use Rattle.brc_things.specs.Plain_Lists.{plain_push, plain_pop, plain_get, plain_set, plain_send, plain_receive}
 use Rattle.brc_things.specs.Plain_Dicts.{plain_put, plain_find, plain_del}
 use Rattle.brc_things.specs.Putting.{RefusedPair}
-use Rattle.brc_lock.proofs.Kept.{waits_frame}
+use Rattle.brc_things.proofs.Waited.{waits_frame}
 use Rattle.brc_meaning.proofs.WholeCalls.{object_kept, keyed_kept}
 use Rattle.law_isolation.specs.Means.{cell_meant, IsMeant, Means, MeansBesides}
 use Rattle.law_isolation.specs.Goes.{is_want}

@@ -10,8 +10,8 @@ use Rattle.brc_count.specs.declared.handed.HandedBack.{HandedBack}
 use Rattle.brc_count.specs.Frames.{FrameSeen, HandleSeen}
 use Rattle.brc_count.specs.Locking.{KeepsFrame, cell_in}
 use Rattle.brc_handles.specs.Handles.{slot, IsApart}
-use Rattle.brc_lock.specs.Waiting.{Waits}
-use Rattle.brc_lock.proofs.Kept.{waits_frame}
+use Rattle.brc_things.specs.Waiting.{Waits}
+use Rattle.brc_things.proofs.Waited.{waits_frame}
 use Rattle.brc_things.specs.Called.{Late}
 use Rattle.brc_things.specs.Changing.{PlainCall, CallPuts, Swaps, CallTakes, Shares, RefusedPlainly, RefusedCall}
 use Rattle.brc_things.specs.Changing.{RefusedEntry, RefusedPlace, KeepsAllPlaces}

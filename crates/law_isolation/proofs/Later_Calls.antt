@@ -14,9 +14,10 @@ use Rattle.brc_count.specs.biased.Up.{CountsHere}
 use Rattle.brc_count.specs.biased.Seeking.{ClaimsAround, PassesOver}
 use Rattle.brc_count.specs.Making.{Made}
 use Rattle.brc_count.specs.law.rule.Seen.{counts_seen}
-use Rattle.brc_lock.specs.Waiting.{Waits, IsBusy}
+use Rattle.brc_things.specs.Waiting.{Waits, IsBusy}
+use Rattle.brc_count.specs.Locking.{Changes}
 use Rattle.brc_things.specs.Called.{Late}
-use Rattle.brc_things.specs.Changing.{PlainCall, Changes, CallPuts, Swaps, CallTakes, Shares, RefusedPlainly}
+use Rattle.brc_things.specs.Changing.{PlainCall, CallPuts, Swaps, CallTakes, Shares, RefusedPlainly}
 use Rattle.brc_things.specs.Changing.{RefusedForWant}
 use Rattle.brc_things.specs.Looking.{LooksAt}
 use Rattle.brc_count.specs.law.living.Later.{IsLater}

@@ -24,7 +24,7 @@ use Rattle.brc_count.specs.law.rule.Seen.{part_seen, counts_seen}
 use Rattle.brc_count.specs.biased.Up.{CountsHere}
 use Rattle.brc_count.specs.Frames.{FrameSeen, CountsUp, place_seen}
 use Rattle.brc_count.specs.table.Seated.{TableSeen}
-use Rattle.brc_lock.specs.Waiting.{Waits, NoTry, OneMore}
+use Rattle.brc_things.specs.Waiting.{Waits, NoTry, OneMore}
 use Rattle.brc_count.specs.law.private.Private.{is_shared, is_in, place_put}
 use Rattle.brc_count.specs.law.payloads.Payloads.{private_seen, last_put, payloads_of, locked_seen}
 use Rattle.brc_count.proofs.law.payloads.Going_On as payloads

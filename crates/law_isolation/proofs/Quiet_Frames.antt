@@ -3,7 +3,7 @@ use Rattle.std.proofs.Common.{◌≡◌, ℕ, Bool, List, Option, Some, None, If
 use Rattle.brc_count.specs.law.declared.rule.told.LogItem.{LogItem}
 use Rattle.brc_count.specs.table.Seated.{TableSeen}
 use Rattle.brc_count.specs.Frames.{FrameSeen, HandleSeen, IsAsBefore, place_seen}
-use Rattle.brc_lock.specs.Waiting.{Waits, NoTry, OneMore as OneTry}
+use Rattle.brc_things.specs.Waiting.{Waits, NoTry, OneMore as OneTry}
 use Rattle.brc_handles.specs.Handles.{slot}
 use Rattle.brc_meaning.specs.declared.reference.Reference.{Reference}
 use Rattle.brc_meaning.specs.declared.object.Object.{Object}

@@ -17,8 +17,8 @@ use Rattle.brc_count.specs.table.Shown.{plain_key}
 use Rattle.brc_count.specs.Frames.{FrameSeen, HandleSeen}
 use Rattle.brc_count.specs.Locking.{KeepsThread, KeepsFrame}
 use Rattle.brc_handles.specs.Handles.{slot}
-use Rattle.brc_lock.specs.Waiting.{Waits}
-use Rattle.brc_lock.proofs.Kept.{waits_frame}
+use Rattle.brc_things.specs.Waiting.{Waits}
+use Rattle.brc_things.proofs.Waited.{waits_frame}
 use Rattle.brc_things.specs.Looking.{IsInt, IsText, HoldsContainer, LooksAt, RefusedLook, RefusedCopy, LenOf, IntOf}
 use Rattle.brc_things.specs.Looking.{TextOf, KindOf}
 use Rattle.brc_things.specs.Called.{Late}

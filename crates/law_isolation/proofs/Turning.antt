@@ -14,8 +14,9 @@ use Rattle.brc_count.specs.law.declared.rule.told.LogItem.{LogItem}
 use Rattle.brc_count.specs.law.declared.rule.told.LogItem.TheVariants.{Stepped}
 use Rattle.brc_count.specs.law.rule.Seen.{part_seen, counts_seen}
 use Rattle.brc_count.specs.Frames.{FrameSeen, HandleSeen, CountsUp, place_seen}
+use Rattle.brc_count.specs.Locking.{Changes}
 use Rattle.brc_count.specs.Locking.{cell_in}
-use Rattle.brc_things.specs.Changing.{PlainCall, Changes, Shares}
+use Rattle.brc_things.specs.Changing.{PlainCall, Shares}
 use Rattle.brc_things.specs.Looking.{LooksAt}
 use Rattle.brc_count.specs.law.payloads.Payloads.{private_seen, last_put, payloads_of, locked_seen, FindsOwn}
 use Rattle.brc_count.proofs.law.payloads.Payloads_Law.{has_payload}

@@ -9,7 +9,7 @@ ghost use Rattle.brc_count.specs.Frames.{KeepsHandles, IsAsBefore, place_seen, l
 ghost use Rattle.brc_count.specs.Making.{Made};
 ghost use Rattle.brc_count.specs.Polling.{Polled};
 ghost use Rattle.brc_handles.specs.Handles.{slot, IsApart, IsBare};
-ghost use Rattle.brc_lock.specs.Waiting.{Waits};
+ghost use Rattle.brc_things.specs.Waiting.{Waits};
 ghost use Rattle.brc_meaning.specs.declared.object.Object.{Object as object};
 ghost use Rattle.brc_meaning.specs.declared.reference.Reference.{Reference as reference};
 ghost use Rattle.brc_meaning.specs.declared.reference.Reference.TheVariants as references;

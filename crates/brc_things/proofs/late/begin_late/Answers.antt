@@ -1,6 +1,7 @@
-use Rattle.brc_lock.specs.Waiting.{IsBusy, NoTry, OneMore}
-use Rattle.brc_lock.proofs.Kept.{thread_kept_on, frame_kept_on, waits_on}
-use Rattle.brc_lock.proofs.locking.begin_late.Goals as goal
+use Rattle.brc_things.specs.Waiting.{IsBusy, NoTry, OneMore}
+use Rattle.brc_count.proofs.Kept.{thread_kept_on, frame_kept_on}
+use Rattle.brc_things.proofs.Waited.{waits_on}
+use Rattle.brc_things.proofs.late.begin_late.Goals as goal
 
 pub returns-in-Some : goal.returns-in-Some
 returns-in-Some g c = record {

@@ -1,6 +1,6 @@
 use Rattle.brc_count.specs.Frames.{IsUnlocked}
-use Rattle.brc_lock.specs.Waiting.{Waits}
-use Rattle.brc_lock.proofs.locking.begin_again.Given as goal
+use Rattle.brc_things.specs.Waiting.{Waits}
+use Rattle.brc_things.proofs.late.begin_again.Given as goal
 
 abbrev pub invariant-loop : goal.invariant-loop
 invariant-loop g l =

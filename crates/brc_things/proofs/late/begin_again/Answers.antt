@@ -1,7 +1,8 @@
 use Rattle.brc_count.proofs.Owning.{owns_kept}
-use Rattle.brc_lock.specs.Waiting.{NoTry, OneMore}
-use Rattle.brc_lock.proofs.Kept.{thread_kept_on, frame_kept_on, waits_thread, waits_frame}
-use Rattle.brc_lock.proofs.locking.begin_again.Goals as goal
+use Rattle.brc_things.specs.Waiting.{NoTry, OneMore}
+use Rattle.brc_count.proofs.Kept.{thread_kept_on, frame_kept_on}
+use Rattle.brc_things.proofs.Waited.{waits_thread, waits_frame}
+use Rattle.brc_things.proofs.late.begin_again.Goals as goal
 
 pub loop-init : goal.loop-init
 loop-init g c = (tt, tt, NoTry, c.requires.unlocked)
