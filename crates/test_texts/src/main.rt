@@ -45,7 +45,21 @@ const FILES: [&str; 16] = [
     "graphs",
 ];
 
-/// Whether the case comes out so by this way. What came of it else is printed.
+/// The number of the first line that isn't the one that is wanted.
+fn first_other(found: &str, wanted: &str) -> u32 {
+    let mut number = 1u32;
+    let mut wanted = wanted.lines();
+    for line in found.lines() {
+        if wanted.next() != Some(line) {
+            return number;
+        }
+        number = number.saturating_add(1);
+    }
+    number
+}
+
+/// Whether the case comes out so by this way. If it doesn't, what came of it is printed, and from which line on it is
+/// other than it should be.
 fn comes_out<R: AllocGlobal + Print + Threads + Wait + Sync>(
     rt: &R,
     case: &Case,
@@ -58,7 +72,8 @@ fn comes_out<R: AllocGlobal + Print + Threads + Wait + Sync>(
     }
     let name = case.name.as_str();
     let found = str::from_utf8(found.as_slice()).unwrap_or("no text\n");
-    println!(rt; "{name}, by {way}, NOT RIGHT:\n{found}")?;
+    let line = first_other(found, case.wanted.as_str());
+    println!(rt; "{name}, by {way}, NOT RIGHT from line {line} on:\n{found}")?;
     Ok(false)
 }
 

@@ -7,7 +7,7 @@ mod lives;
 use crate::ending::writes;
 use brc_heap::{Heap, NoReport, Options, Report, close_or_end};
 use late::closed_late;
-use lives::{Life, lives};
+use lives::{HOLDS_ITSELF, lives};
 use std::alloc::{AllocGlobal, Allocator, Global};
 use std::io::{self, Write};
 use std::sync::Wait;
@@ -19,15 +19,25 @@ pub(crate) const SIZES: Options = Options {
     local_limit: 10,
 };
 
-/// The report of a heap whose only thread lived so; None where something was refused. It is of scarce memory.
+/// Lives of a heap's only thread, whose reports are printed: the name of each, and its steps.
+const LIVES: [(&str, &str); 3] = [
+    ("a list that holds itself", HOLDS_ITSELF),
+    ("a text that the globals hold", "leave a text"),
+    (
+        "globals that are cleared",
+        "leave a text; clear the globals",
+    ),
+];
+
+/// The report of a heap whose only thread took these steps; None if something was refused. It is of scarce memory.
 fn report_of<A: Allocator + Copy>(
     rt: &impl Wait,
     memories: Memories<A>,
-    life: Life,
+    steps: &str,
 ) -> Option<Report<A>> {
     let (heap, mut root) = Heap::new(memories.ample, SIZES).ok()?;
     if let Ok(mut mutator) = root.register(memories.ample, &heap) {
-        lives(rt, memories.ample, &mut mutator, life);
+        lives(rt, memories.ample, &mut mutator, steps);
         let _ledger = mutator.settle_and_join(rt, &mut root, &heap);
     }
     close_or_end(memories.scarce, heap, root).ok()
@@ -59,7 +69,7 @@ fn missing<A: Allocator + Copy>(rt: &impl Wait, alloc: A, ends: u32) -> Option<(
 /// Whether a report is had from so many bytes.
 fn is_had(rt: &impl Wait, alloc: Global, bytes: usize) -> bool {
     match Heaps::new(alloc, 1 << 22, bytes) {
-        Ok(heaps) => report_of(rt, heaps.memories(), Life::HoldsItself).is_some(),
+        Ok(heaps) => report_of(rt, heaps.memories(), HOLDS_ITSELF).is_some(),
         Err(_) => false,
     }
 }
@@ -97,12 +107,10 @@ pub(crate) fn says<R: AllocGlobal + Print + Wait, W: Write>(
         ample: rt.alloc(),
         scarce: rt.alloc(),
     };
-    let report = report_of(rt, memories, Life::HoldsItself);
-    shows(rt, output, "a list that holds itself", report)?;
-    let report = report_of(rt, memories, Life::LeavesAText);
-    shows(rt, output, "a text that the globals hold", report)?;
-    let report = report_of(rt, memories, Life::ClearsUp);
-    shows(rt, output, "globals that are cleared", report)?;
+    for (name, steps) in LIVES {
+        let report = report_of(rt, memories, steps);
+        shows(rt, output, name, report)?;
+    }
     for ends in 1..3 {
         let missing = missing(rt, rt.alloc(), ends);
         println!(rt; "registered and gathered: {missing:?}")?;

@@ -41,10 +41,13 @@ pub(crate) fn says<R: AllocGlobal + Print + Threads + Wait + Sync, W: Write>(
         "registered apart once there is memory: {}",
         registers_apart(rt, rt.alloc())
     )?;
-    let letter = is_refused(rt, rt.alloc(), Awaited::Letter);
-    println!(rt; "a letter once there is memory: {letter}")?;
-    let value = is_refused(rt, rt.alloc(), Awaited::Value);
-    println!(rt; "a value beside a key once there is memory: {value}")?;
+    for (what, awaited) in [
+        ("a letter", Awaited::Letter),
+        ("a value beside a key", Awaited::Value),
+    ] {
+        let had = is_refused(rt, rt.alloc(), awaited);
+        println!(rt; "{what} once there is memory: {had}")?;
+    }
     let answers = answers_are_refused(rt, rt.alloc());
     println!(rt; "answers once there is memory: {answers}")
 }

@@ -78,7 +78,7 @@ const GROWTHS: &[(&str, &[u8])] = &[
 ];
 
 /// The events are made. Memory may be refused for the last, and the world is then as it was: whether it is made.
-fn grows<R: Abort + AllocGlobal, A: Allocator + Copy>(
+fn takes_events<R: Abort + AllocGlobal, A: Allocator + Copy>(
     rt: &R,
     world: &mut World<A>,
     step: &str,
@@ -117,7 +117,7 @@ impl Tried for Grows {
         };
         let mut growths = 0u32;
         for &(step, lines) in GROWTHS {
-            if !grows(rt, &mut world, step, lines) {
+            if !takes_events(rt, &mut world, step, lines) {
                 return growths;
             }
             growths = growths.saturating_add(1);

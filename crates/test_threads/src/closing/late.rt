@@ -3,7 +3,7 @@
 ghost use Rattle.std.specs.Prelude.{◌≡◌, IfSome};
 
 use crate::closing::SIZES;
-use crate::closing::lives::{Life, lives};
+use crate::closing::lives::{HOLDS_ITSELF, lives};
 use brc_heap::{CloseFault, Heap, Report, Retired, Root, close, close_or_end};
 use std::alloc::Allocator;
 use std::sync::Wait;
@@ -32,7 +32,7 @@ fn two_of_three<A: Allocator + Copy>(
     let mut third = root.register(alloc, heap).ok()?;
     let _first = first.wake(heap).settle_and_join(rt, root, heap);
     let _second = second.wake(heap).settle_and_join(rt, root, heap);
-    lives(rt, alloc, &mut third, Life::HoldsItself);
+    lives(rt, alloc, &mut third, HOLDS_ITSELF);
     Some(third.settle_and_leave(rt))
 }
 

@@ -1,4 +1,4 @@
-//! What the only thread of a heap does before it ends. Where something is refused, it does no more.
+//! What the only thread of a heap does before it ends, step by step. If something is refused, the step does no more.
 
 ghost use Rattle.brc_heap.specs.Words.{IsUnlocked, Keeps, Owns};
 
@@ -6,13 +6,8 @@ use brc_heap::{Frame, Handle, Key, Mutator, Text, dict_put, list_push, new_list,
 use std::alloc::Allocator;
 use std::sync::Wait;
 
-/// A thread's life.
-#[derive(Clone, Copy)]
-pub(crate) enum Life {
-    HoldsItself,
-    LeavesAText,
-    ClearsUp,
-}
+/// The step by which a list is left that nobody else holds.
+pub(crate) const HOLDS_ITSELF: &str = "leave a list that holds itself";
 
 /// A list gets a handle to itself, and its other handle goes.
 fn holds_itself<A: Allocator + Copy>(rt: &impl Wait, alloc: A, frame: &mut Frame<'_, A>)
@@ -71,23 +66,25 @@ fn leaves_a_text<A: Allocator + Copy>(rt: &impl Wait, alloc: A, mutator: &mut Mu
     mutator.frame().release(globals);
 }
 
-/// The thread does it.
+/// The thread takes these steps, one after the other.
 pub(crate) fn lives<A: Allocator + Copy>(
     rt: &impl Wait,
     alloc: A,
     mutator: &mut Mutator<'_, A>,
-    life: Life,
+    steps: &str,
 )
     requires unlocked { IsUnlocked mutator.old }
     ensures keeps { Keeps mutator.old mutator.new }
     ensures unlocked { IsUnlocked mutator.new }
 {
-    match life {
-        Life::HoldsItself => holds_itself(rt, alloc, mutator.frame()),
-        Life::LeavesAText => leaves_a_text(rt, alloc, mutator),
-        Life::ClearsUp => {
-            leaves_a_text(rt, alloc, mutator);
-            let _cleared = mutator.clear_globals();
+    for step in steps.split("; ") {
+        match step {
+            HOLDS_ITSELF => holds_itself(rt, alloc, mutator.frame()),
+            "leave a text" => leaves_a_text(rt, alloc, mutator),
+            "clear the globals" => {
+                let _cleared = mutator.clear_globals();
+            }
+            _ => {}
         }
     }
 }
