@@ -1,7 +1,10 @@
 //! Steps on one object, by its handle: calls that take a key of their own, copies, and what is done under a guard.
 
+ghost use Rattle.std.specs.Prelude.{◌≡◌, IfErr, IfOk, IfSome, OnErr};
 ghost use Rattle.brc_count.specs.Frames.{IsUnlocked};
-ghost use Rattle.test_heap.specs.Calls.{Adds, OwnsOne, Parts, Stays};
+ghost use Rattle.brc_count.specs.Owned.{Keeps};
+ghost use Rattle.brc_things.specs.Putting.{OwnsPut};
+ghost use Rattle.test_heap.specs.Calls.{Adds, OwnsBoth, OwnsOne, Parts, Stays};
 
 use crate::tests::calls::OnObject;
 use crate::tests::came::Came;
@@ -15,6 +18,7 @@ use brc_things::{
     try_dict_del, try_dict_find, try_dict_key, try_dict_key_by, try_dict_pair, try_dict_put,
     try_text_into,
 };
+use brc_words::Key;
 use std::alloc::Allocator;
 use std::process::Abort;
 use std::sync::Wait;
@@ -48,6 +52,29 @@ fn value<H: HasTable<A>, A: Allocator + Copy>(
     make_by(asked.objects, frame, make_of(rt, asked.given.what)).expect(rt, "no value is made")
 }
 
+/// The value goes beside the key, by the form of the call that is meant. What stood there comes out with the value's
+/// handle, and a refusal hands both back.
+fn put_by<H: HasTable<A>, A: Allocator + Copy>(
+    rt: &impl Wait,
+    way: Way,
+    frame: &mut Frame<H, A>,
+    dict: &Handle<A>,
+    key: Key<A>,
+    value: Handle<A>,
+) -> Result<Option<Handle<A>>, HandedBack<(Key<A>, Handle<A>)>>
+    requires { OwnsBoth frame.old dict.now value }
+    ensures owns { IfOk result (OwnsPut frame.old frame.new value) }
+    ensures same { IfOk result (λ answer. IfSome answer (λ old. old ≡ value)) }
+    ensures keeps { OnErr result (Keeps frame.old frame.new) }
+    ensures back { IfErr result (λ handed. handed.value.1 ≡ value) }
+    ensures unlocked { IsUnlocked frame.new }
+{
+    match way {
+        Way::Late => dict_put(rt, frame, dict, key, value),
+        Way::AtOnce => try_dict_put(frame, dict, key, value),
+    }
+}
+
 /// A value goes beside a key of its own. A refusal hands both back.
 fn puts<H: HasTable<A>, A: Allocator + Copy>(
     rt: &(impl Abort + Wait),
@@ -60,11 +87,7 @@ fn puts<H: HasTable<A>, A: Allocator + Copy>(
 {
     let value = value(rt, asked, frame);
     let (way, key) = (asked.given.way, asked.key(rt));
-    let put = match way {
-        Way::Late => dict_put(rt, frame, dict, key, value),
-        Way::AtOnce => try_dict_put(frame, dict, key, value),
-    };
-    match put {
+    match put_by(rt, way, frame, dict, key, value) {
         Ok(None) => Came::Passed,
         Ok(Some(old)) => looks(rt, frame, old),
         Err(handed) => {

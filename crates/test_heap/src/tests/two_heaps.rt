@@ -1,10 +1,42 @@
 //! Two heaps at once: objects live and die each at its own. That a handle is of one heap and not of the other is what
 //! contracts say of it; both heaps have a thread 1, a place 0 and a cell 266.
 
+ghost use Rattle.brc_count.specs.Frames.{IsUnlocked};
+ghost use Rattle.test_heap.specs.Calls.{Adds};
+
 use crate::tests::comparing::same;
 use crate::tests::phases::{SMALL, ends, says};
+use brc_count::biased::HasTable;
+use brc_count::{Frame, Handle};
 use brc_things::{new_int, new_list};
 use brc_thread::{Heap, take_apart};
+use std::alloc::Allocator;
+use std::process::Abort;
+
+/// A new list.
+fn a_list<H: HasTable<A>, A: Allocator + Copy>(
+    rt: &impl Abort,
+    alloc: A,
+    frame: &mut Frame<H, A>,
+) -> Handle<A>
+    requires unlocked { IsUnlocked frame.old }
+    ensures { Adds frame.old frame.new result }
+{
+    new_list(alloc, frame).expect(rt, "no list is made")
+}
+
+/// A new integer.
+fn an_integer<H: HasTable<A>, A: Allocator + Copy>(
+    rt: &impl Abort,
+    alloc: A,
+    frame: &mut Frame<H, A>,
+    number: i64,
+) -> Handle<A>
+    requires unlocked { IsUnlocked frame.old }
+    ensures { Adds frame.old frame.new result }
+{
+    new_int(alloc, frame, number).expect(rt, "no integer is made")
+}
 
 #[test]
 fn objects_live_and_die_at_their_own_heap(rt: HostRuntime) {
@@ -14,9 +46,9 @@ fn objects_live_and_die_at_their_own_heap(rt: HostRuntime) {
     let mut here = here.expect(&rt, "a thread is refused");
     let there = others.register(rt.alloc(), &other);
     let mut there = there.expect(&rt, "a thread is refused");
-    let list = new_list(rt.alloc(), here.frame()).expect(&rt, "no list is made");
-    let number = new_int(rt.alloc(), there.frame(), 1_000).expect(&rt, "memory");
-    let next = new_int(rt.alloc(), there.frame(), 1_001).expect(&rt, "memory");
+    let list = a_list(&rt, rt.alloc(), here.frame());
+    let number = an_integer(&rt, rt.alloc(), there.frame(), 1_000);
+    let next = an_integer(&rt, rt.alloc(), there.frame(), 1_001);
     same(&rt, here.frame().cell(&list), 266);
     same(&rt, there.frame().cell(&number), 266);
     there.frame().release(number);
