@@ -26,8 +26,9 @@
  *  2. Each such variable is in one call at a time. It may move to another thread of the machine, if a
  *     lock, a join or a sequentially consistent atomic orders the two calls. Different variables need
  *     no order, not even those of one heap.
- *  3. Out parameters may be written and don't overlap. A byte pointer leads to as many bytes as its
- *     length says. No pointer is NULL, not even one with length 0.
+ *  3. Out parameters may be written. They overlap neither each other, nor the call's variable, nor
+ *     bytes that it is passed. A byte pointer leads to as many bytes as its length says. No pointer is
+ *     NULL, not even one with length 0.
  *  4. malloc, realloc and free belong to one allocator, which aligns as C says.
  *  5. No call is made in a signal handler, or in the forked child of a process with threads.
  *
@@ -44,10 +45,11 @@
  * the thread was vacated 2^32 times since, or the heap registered 65,535 threads since.
  *
  * Refusals. A call that returns another status than OK changes nothing, but for two: a brc_heap_close
- * that is OUT_OF_MEMORY has ended its heap, and a brc_thread_leave that is BUSY has gone on. What a
- * call was given is still the caller's, and no out parameter is written. No call aborts, throws, calls back, or waits for
- * another thread. Below, the statuses of each call stand in the order in which it looks for them. A
- * status behind a number is looked for at that number; numbers are looked at in the order written.
+ * that is OUT_OF_MEMORY has ended its heap, and a brc_thread_leave that is BUSY or OUT_OF_MEMORY has
+ * gone on. What a call was given is still the caller's, and no out parameter is written. No call
+ * aborts, throws, calls back, or waits for another thread. Below, the statuses of each call stand in
+ * the order in which it looks for them. A status behind a number is looked for at that number; numbers
+ * are looked at in the order written.
  *
  * Busy. BRC_BUSY says that another thread's call has this object locked at this moment, or the heap's
  * register of threads. No lock is kept between two calls. Call again, with a poll between: BRC_WAIT.

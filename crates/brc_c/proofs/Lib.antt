@@ -2,3 +2,4 @@ mod OwnerBox
 mod HeldBox
 mod Sent
 pub mod Made
+mod Room

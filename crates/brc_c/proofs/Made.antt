@@ -12,6 +12,7 @@ works_of (stages.Works was) client is =
     let same : was ≡ client = cc in ap (λ (c : ClientSeen). stages.Works c) same
 works_of (stages.Leaves left) client is = absurd (let f : ⊥ = cc in f)
 works_of (stages.Ends done) client is = absurd (let f : ⊥ = cc in f)
+works_of (stages.Gathered seen) client is = absurd (let f : ⊥ = cc in f)
 works_of stages.Gone client is = absurd (let f : ⊥ = cc in f)
 
 -- the same where the room of the thread is lent

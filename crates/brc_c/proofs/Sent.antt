@@ -21,10 +21,12 @@ use Rattle.brc_count.proofs.block.worklist.Worklist.TheLaws.TheKnot.{send-Node, 
 use Rattle.brc_count.specs.table.contracts.seats.ThreadSeat as ThreadSeat
 use Rattle.atomic_table.proofs.shared.Seat.TheSendSync as seat
 use Rattle.brc_thread.proofs.Sent.{retired_send}
-use Rattle.brc_heap.proofs.Sent.{shared_send}
+use Rattle.brc_heap.proofs.Sent.{shared_send, sight_send, registration_send, last_send}
 use Rattle.brc_client.specs.contracts.client.Client as Client
 use Rattle.brc_client.specs.contracts.owner.Owner as Owner
 use Rattle.brc_client.specs.contracts.owner.Closed as Closed
+use Rattle.brc_client.specs.contracts.owner.OpenHeap as OpenHeap
+use Rattle.brc_client.specs.contracts.numbers.Numbers as Numbers
 use Rattle.brc_client.specs.contracts.thread.DoneThread as DoneThread
 use Rattle.brc_client.specs.contracts.thread.LeavingThread as LeavingThread
 use Rattle.brc_client.specs.contracts.thread.Thread as Thread
@@ -69,8 +71,12 @@ worklist_send = send-Worklist Global.the_row ghosts boxed_send u32_send payload_
 seat_send : IsSend (ThreadSeat.the_row Global.the_row ghosts)
 seat_send = search (sendable, crosses, option.the_send, seat.the_send, block_send) depth 40
 
+numbers_send : IsSend Numbers.the_row
+numbers_send = search (sendable, crosses, registration_send, frees) depth 40
+
 client_send : IsSend Client.the_row
-client_send = search (sendable, crosses, shared_send, seat_send, worklist_send, frees) depth 60 fits 20000
+client_send =
+    search (sendable, crosses, shared_send, seat_send, worklist_send, numbers_send, sight_send, frees) depth 60 fits 20000
 
 leaving_send : IsSend LeavingThread.the_row
 leaving_send = search (sendable, crosses, shared_send, seat_send, worklist_send, frees) depth 60 fits 20000
@@ -79,7 +85,7 @@ done_send : IsSend DoneThread.the_row
 done_send = search (sendable, crosses, shared_send, retired_send) depth 40
 
 thread_send : IsSend Thread.the_row
-thread_send = search (sendable, crosses, client_send, leaving_send, done_send) depth 40
+thread_send = search (sendable, crosses, client_send, leaving_send, done_send, sight_send) depth 40
 
 pub held_send : IsSend Held.the_row
 held_send = search (sendable, crosses, thread_send) depth 40
@@ -87,7 +93,10 @@ held_send = search (sendable, crosses, thread_send) depth 40
 -- ---- a heap, open or closed
 
 closed_send : IsSend Closed.the_row
-closed_send = search (sendable, crosses, frees) depth 40 fits 20000
+closed_send = search (sendable, crosses, last_send, frees) depth 40 fits 20000
+
+opened_send : IsSend OpenHeap.the_row
+opened_send = search (sendable, crosses, shared_send, sight_send) depth 40
 
 pub owner_send : IsSend Owner.the_row
-owner_send = search (sendable, crosses, shared_send, closed_send) depth 40
+owner_send = search (sendable, crosses, opened_send, closed_send, sight_send) depth 40

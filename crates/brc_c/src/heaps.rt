@@ -30,7 +30,7 @@ pub extern "C" fn brc_heap_new(
     first: u32,
 ) -> u32
     ensures kept { result ≢ 0 → at.new ≡ at.old }
-    ensures opens { OpensHeap cells local_limit result }
+    ensures opens { OpensHeap cells local_limit first result }
 {
     match Owner::new(alloc, cells, local_limit, first) {
         Ok(owner) => match Box::new(alloc, owner) {

@@ -3,8 +3,9 @@
 ghost use Rattle.std.specs.Option.{option_copied_mut};
 ghost use Rattle.std.specs.Prelude.{◌≡◌, IfOk, IfErr, OnOk, OnErr};
 ghost use Rattle.brc_client.specs.declared.thread.Stage.TheVariants as stages;
-ghost use Rattle.brc_client.specs.Ends.{client_of, heap_of, RegistersAt, RegisterRefused, HasReference, LeaveRefused};
-ghost use Rattle.brc_client.specs.Ends.{LedgerOf};
+ghost use Rattle.brc_client.specs.declared.status.Status.TheVariants as statuses;
+ghost use Rattle.brc_client.specs.Ends.{client_of, desk_of, seen_at, RegistersAt, RegisteredAt, RegisterRefused};
+ghost use Rattle.brc_client.specs.Ends.{SameStage, HasReference, LeavesAs, LeaveRefused, IsOver, LedgerOf};
 
 use brc_client::{Client, Ledger, Owner, Status, Thread};
 use std::alloc::Global;
@@ -46,16 +47,17 @@ impl Held {
 
     /// The next thread of the same heap.
     pub(crate) fn fork(&mut self, alloc: Global) -> Result<Thread, Status>
-        ensures registers { IfOk result (λ made. RegistersAt (heap_of self.old.thread) made) }
-        ensures refused { IfErr result RegisterRefused }
-        ensures same { self.new.thread ≡ self.old.thread }
+        ensures registers { IfOk result (λ made. RegistersAt (desk_of self.old.thread) made) }
+        ensures registered { OnOk result (RegisteredAt (desk_of self.old.thread) (seen_at self.new.thread)) }
+        ensures refused { IfErr result (RegisterRefused (desk_of self.old.thread) (seen_at self.new.thread)) }
+        ensures same { SameStage self.old.thread self.new.thread }
     {
         self.thread.fork(alloc)
     }
 
     /// The thread goes on with its way out.
     pub(crate) fn leave(&mut self) -> Result<(), Status>
-        ensures gone { OnOk result (self.new.thread ≡ stages.Gone) }
+        ensures gathered { OnOk result (LeavesAs self.old.thread self.new.thread) }
         ensures bare { OnOk result (HasReference self.old.thread → ⊥) }
         ensures refused { IfErr result (LeaveRefused self.old.thread self.new.thread) }
     {
@@ -65,7 +67,8 @@ impl Held {
     /// What the thread has made and freed.
     pub(crate) fn ledger(&self) -> Result<Ledger, Status>
         ensures ledger { IfOk result (LedgerOf self.now.thread) }
-        ensures gone { OnErr result (self.now.thread ≡ stages.Gone) }
+        ensures gone { OnErr result (IsOver self.now.thread) }
+        ensures refused { IfErr result (λ status. status ≡ statuses.Gone) }
     {
         self.thread.ledger()
     }

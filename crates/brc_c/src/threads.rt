@@ -2,7 +2,7 @@
 
 ghost use Rattle.std.specs.Prelude.{◌≡◌, ◌≢◌};
 ghost use Rattle.brc_client.specs.Answers.{Polls, TakesApart, CountsReferences, LetsAllGo};
-ghost use Rattle.brc_client.specs.Ends.{open_at, heap_of};
+ghost use Rattle.brc_client.specs.Ends.{open_at, seen_by, SameOwner, desk_of, seen_at, SameStage};
 ghost use Rattle.brc_c.specs.Calls.{ClaimsAt};
 ghost use Rattle.brc_c.specs.Ends.{RegistersThread, Leaves, TellsLedger, WritesLedger};
 ghost use Rattle.brc_c.specs.Exports.{Carries, CarriesOut, OnClient, Always, WritesNothing, code_of};
@@ -21,7 +21,8 @@ use std::alloc::Global;
 #[unsafe(no_mangle)]
 pub extern "C" fn brc_thread_new(alloc: Global, heap: &mut CHeap, at: &mut *mut u8) -> u32
     ensures kept { result ≢ 0 → at.new ≡ at.old }
-    ensures carries { Carries (RegistersThread open_at) heap.old.value heap.new.value result WritesNothing }
+    ensures carries { Carries (RegistersThread open_at seen_by SameOwner) heap.old.value heap.new.value result
+        WritesNothing }
 {
     match Box::new(alloc, Held::empty()) {
         Ok(room) => hand_out(room, heap.as_mut().register(alloc), at),
@@ -32,8 +33,8 @@ pub extern "C" fn brc_thread_new(alloc: Global, heap: &mut CHeap, at: &mut *mut 
 #[unsafe(no_mangle)]
 pub extern "C" fn brc_thread_fork(alloc: Global, thread: &mut CThread, at: &mut *mut u8) -> u32
     ensures kept { result ≢ 0 → at.new ≡ at.old }
-    ensures carries { Carries (RegistersThread heap_of) thread.old.value.thread thread.new.value.thread result
-        WritesNothing }
+    ensures carries { Carries (RegistersThread desk_of seen_at SameStage) thread.old.value.thread thread.new.value.thread
+        result WritesNothing }
 {
     match Box::new(alloc, Held::empty()) {
         Ok(room) => hand_out(room, thread.as_mut().fork(alloc), at),

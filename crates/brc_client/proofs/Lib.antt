@@ -1,3 +1,4 @@
+mod Gathered
 mod Named
 mod Placed
 mod Spending

@@ -13,6 +13,7 @@ use Rattle.brc_client.proofs.Placed.{slot_else}
 -- Below this place each that had a handle was vacated once more, and from it on all is as it was.
 pub record SpendsTo (at : ℕ) (before now : List (Option HandleSeen)) (was is : NumbersSeen) : Type 0 where
   pub stamp : is.stamp ≡ was.stamp
+  pub of : is.of ≡ was.of
   pub done : (k : ℕ) → k < at → get_or is.uses k 0 ≡ vacated (slot before k) (get_or was.uses k 0)
   pub left : (k : ℕ) → at ≤ k → get_or is.uses k 0 ≡ get_or was.uses k 0
   pub there : (k : ℕ) → at ≤ k → slot now k ≡ slot before k
@@ -32,6 +33,7 @@ left_by o gone u there = ap (λ (p : Option HandleSeen). vacated p u) (sym there
 pub begins : (handles : List (Option HandleSeen)) (numbers : NumbersSeen) → SpendsTo 0 handles handles numbers numbers
 begins handles numbers = record {
   stamp = refl;
+  of = refl;
   done = λ k below. absurd (omega (arith, below));
   left = λ k past. refl;
   there = λ k past. refl;
@@ -42,6 +44,7 @@ pub passes : (at : ℕ) (before now : List (Option HandleSeen)) (was is : Number
     → slot now at ≡ None → SpendsTo (at + 1) before now was is
 passes at before now was is so empty = record {
   stamp = so.stamp;
+  of = so.of;
   done = λ k below. elim (cases_order k at) [
     | inl here ↦ so.left k (omega (arith, here)) ∙ left_alone (slot before k) (get_or was.uses k 0)
         (ap (slot before) here ∙ sym (so.there at (omega arith)) ∙ empty)
@@ -57,9 +60,10 @@ passes at before now was is so empty = record {
 -- the next place has one, which goes
 pub vacates : (at : ℕ) (before now after : List (Option HandleSeen)) (was is new : NumbersSeen) (gone : HandleSeen)
     → SpendsTo at before now was is → slot now at ≡ Some gone → after ≡ slice_set now at None → new.stamp ≡ is.stamp
+    → new.of ≡ is.of
     → new.uses ≡ slice_set is.uses at (once_more (get_or is.uses at 0))
     → get_or new.uses at 0 ≡ once_more (get_or is.uses at 0) → SpendsTo (at + 1) before after was new
-vacates at before now after was is new gone so there set stamp uses counted =
+vacates at before now after was is new gone so there set stamp of uses counted =
     let first : at ≤ at = omega arith in
     let others : (k : ℕ) → k ≢ at → get_or new.uses k 0 ≡ get_or is.uses k 0
     = λ k other. ap (λ (l : List ℕ). get_or l k 0) uses
@@ -69,6 +73,7 @@ vacates at before now after was is new gone so there set stamp uses counted =
     ∙ left_by (slot before at) gone (get_or was.uses at 0) (sym (so.there at first) ∙ there) in
     record {
       stamp = stamp ∙ so.stamp;
+      of = of ∙ so.of;
       done = λ k below. elim (cases_order k at) [
         | inl same ↦ (rw same here)
         | inr other ↦ elim other [
@@ -88,6 +93,7 @@ pub spent_whole : (at : ℕ) (before now : List (Option HandleSeen)) (was is : N
     → SpendsTo at before now was is → 65536 ≤ at → SpendsEach before was is
 spent_whole at before now was is so whole = record {
   stamp = so.stamp;
+  of = so.of;
   uses = λ k inside. so.done k (omega (arith, inside, whole));
 }
 
@@ -100,6 +106,7 @@ spent_bare at before now was is so bare =
     (sym (so.there k past) ∙ bare.places k) in
     record {
       stamp = so.stamp;
+      of = so.of;
       uses = λ k inside. elim (cases_order k at) [
         | inl same ↦ rest k (omega (arith, same))
         | inr other ↦ elim other [

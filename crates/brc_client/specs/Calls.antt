@@ -69,6 +69,7 @@ pub record Releases (old new : ClientSeen) (number : ℕ) : Type 0 where
   pub uses : new.numbers.uses
       ≡ slice_set old.numbers.uses (place_in number) (once_more (get_or old.numbers.uses (place_in number) 0))
   pub stamp : new.numbers.stamp ≡ old.numbers.stamp
+  pub of : new.numbers.of ≡ old.numbers.of
 
 -- The reference of one number went by the call into the object of another. Its place has what came out for it, under a
 -- number of its own, or is empty.
@@ -85,6 +86,7 @@ pub record PutsIn (call : ℕ → HandleSeen → Result (Option HandleSeen) (Han
   pub uses : new.numbers.uses
       ≡ slice_set old.numbers.uses (place_in value) (once_more (get_or old.numbers.uses (place_in value) 0))
   pub stamp : new.numbers.stamp ≡ old.numbers.stamp
+  pub of : new.numbers.of ≡ old.numbers.of
   pub told : MatchOption answer (result ≡ None) (λ came. result ≡ Some (number_at new.numbers (place_in value)))
 
 -- Why it didn't: the container's number names none, then the value's; or they are one number: nothing was done. Or the

@@ -1,6 +1,7 @@
 -- What is seen of a client that has numbers and no handles, and what a number names.
 use Rattle.std.specs.Prelude.{◌≡◌, ◌≢◌, ◌<◌, ℕ, List, Option, Some, None, length, get_or}
 use Rattle.std.specs.declared.alloc.Global.{Global}
+use Rattle.brc_heap.specs.Desk.{SightSeen}
 use Rattle.brc_count.specs.Frames.{FrameSeen, HandleSeen}
 use Rattle.brc_count.specs.Owned.{Keeps}
 use Rattle.brc_handles.specs.Handles.{slot}
@@ -9,13 +10,14 @@ use Rattle.brc_client.specs.declared.status.Status.{Status}
 use Rattle.brc_client.specs.declared.status.Status.TheVariants as statuses
 use Rattle.brc_client.specs.Numbers.{NumbersSeen, number_at, place_in, stamp_in, once_more}
 
--- The thread's frame; the handle in each place, if one is there; the numbers of the places; and the text that was read
--- last.
+-- The thread's frame; the handle in each place, if one is there; the numbers of the places; the text that was read last;
+-- and the heap's root as it was seen when the thread forked last, if it did.
 pub record ClientSeen : Type 0 where
   pub frame : FrameSeen Global
   pub handles : List (Option HandleSeen)
   pub numbers : NumbersSeen
   pub text : List ℕ
+  pub seen : Option SightSeen
 
 -- What a client keeps from call to call: its frame has the handles that are there and no others, nothing is locked, and
 -- each handle lies in the place that has its own number in the frame.
@@ -59,6 +61,13 @@ pub record KeepsNumbers (old new : ClientSeen) : Type 0 where
   pub numbers : new.numbers ≡ old.numbers
   pub frame : Keeps old.frame new.frame
 
+-- the same client, whatever was seen of the heap's root
+pub record SameClient (old new : ClientSeen) : Type 0 where
+  pub frame : new.frame ≡ old.frame
+  pub handles : new.handles ≡ old.handles
+  pub numbers : new.numbers ≡ old.numbers
+  pub text : new.text ≡ old.text
+
 -- each number that named a handle names it still
 abbrev pub KeepsNames : ClientSeen → ClientSeen → Type 0
 KeepsNames old new = (n : ℕ) (h : HandleSeen) → NamesAs old n h → NamesAs new n h
@@ -76,4 +85,5 @@ vacated (Some _) uses = once_more uses
 -- Each place that had a handle was vacated once more, and no other was.
 pub record SpendsEach (handles : List (Option HandleSeen)) (was is : NumbersSeen) : Type 0 where
   pub stamp : is.stamp ≡ was.stamp
+  pub of : is.of ≡ was.of
   pub uses : (k : ℕ) → k < 65536 → get_or is.uses k 0 ≡ vacated (slot handles k) (get_or was.uses k 0)

@@ -2,5 +2,6 @@ pub mod Numbers
 pub mod Clients
 pub mod Calls
 pub mod Answers
+pub mod Desks
 pub mod Ends
 pub mod Lending

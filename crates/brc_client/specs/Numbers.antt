@@ -1,6 +1,8 @@
 -- Numbers for the places of a frame: what a number says, and how it is spelled.
 use Rattle.std.specs.Prelude.{◌≡◌, ◌≢◌, ◌+◌, ◌*◌, ◌/◌, ◌%◌, ℕ, List, get_or}
 use Rattle.brc_words.specs.Faults.{number_of}
+use Rattle.brc_thread.specs.Counting.{registrations}
+use Rattle.brc_heap.specs.Desk.{SightSeen}
 use Rattle.brc_client.specs.declared.status.Status.{Status}
 use Rattle.brc_client.specs.declared.status.Status.TheVariants as statuses
 
@@ -13,14 +15,24 @@ status_number statuses.Same = 66
 status_number statuses.Gone = 67
 status_number statuses.NotText = 68
 
--- the stamp of a registration; and how often each place of its frame was vacated
+-- a registration: what the stamps of its heap begin with, and the heap's root as it was found and left
+pub record StampSeen : Type 0 where
+  pub first : ℕ
+  pub registration : SightSeen
+
+-- the stamp of a registration, and which registration it is; and how often each place of its frame was vacated
 pub record NumbersSeen : Type 0 where
   pub stamp : ℕ
+  pub of : StampSeen
   pub uses : List ℕ
 
 -- the stamp of a registration, before which so many were at its heap: 1 to 65,535, from the heap's first on
 abbrev pub stamp_of : ℕ → ℕ → ℕ
 stamp_of first before = (first + before) % 65535 + 1
+
+-- it is that of the registration: so many were before it as the heap's root had registered when it was found
+abbrev pub IsStamped : ℕ → StampSeen → Type 0
+IsStamped stamp of = stamp ≡ stamp_of of.first (registrations of.registration.found.view)
 
 -- A number is of 64 bits: the stamp has 16, how often the place was vacated 32, and the place 16.
 abbrev pub number_at : NumbersSeen → ℕ → ℕ

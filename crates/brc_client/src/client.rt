@@ -5,18 +5,19 @@ ghost use Rattle.std.specs.Prelude.{OnOk, OnErr};
 ghost use Rattle.brc_count.specs.biased.Bounded.{IsBounded};
 ghost use Rattle.brc_count.specs.Owned.{Loses};
 ghost use Rattle.brc_count.specs.Polling.{Polled};
+ghost use Rattle.brc_count.specs.Closing.{GoesOut};
 ghost use Rattle.brc_count.specs.Frames.{Owns, Turns, IsUnlocked, KeepsHandles, ledger_seen, word_asked};
 ghost use Rattle.brc_handles.specs.Handles.{slot, filled, IsApart, IsBare, ComesIn};
 ghost use Rattle.brc_client.specs.Numbers.{number_at, place_in};
 ghost use Rattle.brc_client.specs.Clients.{IsClient, Names, NamesIn, NamesNone, NamesNoneIn};
-ghost use Rattle.brc_client.specs.Clients.{KeepsNumbers, KeepsNames, SpendsName, SpendsEach};
+ghost use Rattle.brc_client.specs.Clients.{KeepsNumbers, KeepsNames, SpendsName, SpendsEach, SameClient};
 ghost use Rattle.brc_client.specs.Calls.{OfNamed, RefusedOf, Adds, Retained, Releases};
 
 use crate::numbers::{Numbers, PLACES};
 use crate::status::Status;
 use brc_count::{Frame, Handle, Ledger};
 use brc_handles::Handles;
-use brc_heap::Shared;
+use brc_heap::{Shared, Sight};
 use brc_thread::{Leaving, Mutator};
 use std::alloc::{AllocError, Global};
 use std::marker::Model;
@@ -29,6 +30,8 @@ pub struct Client {
     pub(crate) numbers: Numbers,
     /// The last text that was read.
     pub(crate) text: String<Global>,
+    /// The heap's root as it was seen when the thread forked last.
+    pub(crate) seen: Option<Sight>,
 }
 
 impl Model for Client {
@@ -42,6 +45,7 @@ impl Model for Client {
       handles = c.handles;
       numbers = c.numbers;
       text = string_bytes c.text;
+      seen = c.seen;
     } };
 
     ghost invariant = { λ c. IsClient c.mutator c.handles };
@@ -149,6 +153,7 @@ impl Client {
         requires bare { IsBare handles }
         requires places { length handles ≡ 65536 }
         ensures frame { result.frame ≡ mutator }
+        ensures numbers { result.numbers ≡ numbers }
         ensures none { IsBare result.handles }
     {
         Client {
@@ -156,7 +161,23 @@ impl Client {
             handles,
             numbers,
             text: String::new(alloc),
+            seen: None,
         }
+    }
+
+    /// What the stamps of its heap's registrations begin with.
+    pub(crate) fn first(&self) -> u32
+        ensures { result ≡ self.now.numbers.of.first }
+    {
+        self.numbers.first()
+    }
+
+    /// The heap's root was seen.
+    pub(crate) fn note(&mut self, seen: Option<Sight>)
+        ensures same { SameClient self.old self.new }
+        ensures seen { self.new.seen ≡ seen }
+    {
+        self.seen = seen;
     }
 
     /// The place of the handle that the number names. Foreign, then Stale, if it names none.
@@ -349,7 +370,7 @@ impl Client {
 
     /// Its heap, once more. It is refused once some 2^63 lead to it.
     pub(crate) fn home(&mut self) -> Result<Shared, AllocError>
-        ensures heap { IfOk result (λ shared. shared ≡ self.old.frame.heap) }
+        ensures heap { IfOk result (λ shared. shared.heap ≡ self.old.frame.heap) }
         ensures same { self.new ≡ self.old }
     {
         self.mutator.frame().home().again()
@@ -359,6 +380,8 @@ impl Client {
     #[tactic(auto, using(crate::proofs::Placed::none_counted))]
     pub(crate) fn leave(self) -> Result<Leaving<Shared, Global>, Client>
         ensures heap { IfOk result (λ leaving. leaving.heap ≡ self.frame.heap) }
+        ensures thread { IfOk result (λ leaving. leaving.seat.thread ≡ self.frame.seat.thread) }
+        ensures goes { IfOk result (λ leaving. GoesOut self.frame leaving) }
         ensures idle { OnOk result (filled self.handles ≡ 0) }
         ensures refused { OnErr result ((0 < filled self.handles) ⊎ (0 < length self.frame.works)) }
         ensures unchanged { IfErr result (λ same. same ≡ self) }
@@ -368,6 +391,7 @@ impl Client {
             handles,
             numbers,
             text,
+            seen,
         } = self;
         match mutator.leave() {
             Ok(leaving) => {
@@ -379,6 +403,7 @@ impl Client {
                 handles,
                 numbers,
                 text,
+                seen,
             }),
         }
     }
@@ -392,6 +417,7 @@ impl Drop for Client {
             handles,
             numbers: _numbers,
             text: _text,
+            seen: _seen,
         } = self;
         let mut mutator = mutator;
         handles.release_all(mutator.frame());

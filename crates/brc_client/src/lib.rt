@@ -2,8 +2,9 @@
 //!
 //! Each call is total: it asks nothing of its caller, and looks at each number before it uses it. A number says from which
 //! registration it is, which place of the thread's frame has the reference, and how often that place was vacated before
-//! (`specs/Numbers.antt`). So a number that was released, or is of another thread, or is noise, is refused by name, and
-//! nothing is done. No call waits: an object that another thread has locked is Busy.
+//! (`specs/Numbers.antt`). A number that names no reference is refused by name, and nothing is done. One that was released
+//! names none, until its place was vacated 2^32 times more. One of another thread names none, as their stamps differ until
+//! 65,535 registrations are between them. No call waits: an object that another thread has locked is Busy.
 //!
 //! `Client` has the calls of a thread. What it has is seen as one value (`specs/Clients.antt`): the frame, the handle of
 //! each place, and the numbers. `Thread` is a thread from its registration to its end, and `Owner` a heap from its opening

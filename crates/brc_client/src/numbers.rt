@@ -1,14 +1,31 @@
 //! Numbers for the places of a frame.
 
 ghost use Rattle.std.specs.Prelude.{◌≡◌, ◌≢◌, ◌<◌, ℕ, get_or, length, replicate, slice_set, IfOk, IfErr, OnOk};
-ghost use Rattle.brc_client.specs.Numbers.{stamp_of, number_at, place_in, stamp_in, once_more, MisSpelt};
+ghost use Rattle.brc_client.specs.Numbers.{number_at, place_in, stamp_in, once_more, MisSpelt, IsStamped};
 
 use crate::status::Status;
+use brc_heap::Registration;
 use std::alloc::{AllocError, Global};
 use std::marker::Model;
 
 /// How many places a frame has at most.
 pub(crate) const PLACES: usize = 65_536;
+
+/// Which registration a thread's numbers are of: its heap's, and its place among them.
+#[derive(Drop)]
+pub(crate) struct Stamp {
+    /// What the stamps of its heap's registrations begin with.
+    pub(crate) first: u32,
+    pub(crate) registration: Registration,
+}
+
+impl Model for Stamp {
+    ghost use Rattle.brc_client.specs.Numbers.{StampSeen};
+
+    ghost Value = { StampSeen };
+
+    ghost view = { λ s. record { first = s.first; registration = s.registration } };
+}
 
 /// The stamp of a registration, and how often each place of its frame was vacated. With these a number is made for a
 /// reference, and looked at when it comes back.
@@ -19,50 +36,45 @@ pub struct Numbers {
     /// What each number begins with: the stamp, where a number has it.
     base: u64,
     uses: Vec<u32, Global>,
+    of: Stamp,
 }
 
 impl Model for Numbers {
     ghost use Rattle.std.specs.Prelude.{◌≡◌, ◌<◌, ◌*◌, length};
-    ghost use Rattle.brc_client.specs.Numbers.{NumbersSeen};
+    ghost use Rattle.brc_client.specs.Numbers.{NumbersSeen, IsStamped};
 
     ghost Value = { NumbersSeen };
 
-    ghost view = { λ n. record { stamp = n.stamp; uses = n.uses.items } };
+    ghost view = { λ n. record { stamp = n.stamp; of = n.of; uses = n.uses.items } };
 
     ghost invariant = { λ n. (0 < n.stamp) × (n.stamp < 65536) × (n.base ≡ n.stamp * 281474976710656)
-        × (length n.uses.items ≡ 65536) };
+        × (length n.uses.items ≡ 65536) × IsStamped n.stamp n.of };
 }
 
 impl Numbers {
-    /// No place was vacated yet; the stamp is 1.
-    pub(crate) fn new(alloc: Global) -> Result<Numbers, AllocError>
-        ensures uses { IfOk result (λ made. made.uses ≡ replicate 65536 0) }
+    /// The numbers of a registration; no place was vacated yet. Two stamps of a heap are equal only if 65,535
+    /// registrations are between them.
+    pub(crate) fn stamped(uses: Vec<u32, Global>, of: Stamp) -> Numbers
+        requires places { length uses.items ≡ 65536 }
+        ensures of { result.of ≡ of }
+        ensures stamp { IsStamped result.stamp of }
+        ensures uses { result.uses ≡ uses.items }
     {
-        let uses = Vec::from_elem(alloc, 0u32, PLACES)?;
-        Ok(Numbers {
-            stamp: 1,
-            base: 281_474_976_710_656,
-            uses,
-        })
-    }
-
-    /// The same with the stamp of a registration, before which so many were. Two stamps of a heap are equal only if
-    /// 65,535 registrations are between them.
-    pub(crate) fn stamped(self, first: u32, before: u32) -> Numbers
-        ensures stamp { result.stamp ≡ stamp_of first before }
-        ensures uses { result.uses ≡ self.uses }
-    {
-        let Numbers {
-            stamp: _stamp,
-            base: _base,
-            uses,
-        } = self;
-        let stamp = (u64::from(first) + u64::from(before)) % 65_535 + 1;
+        let before = of.registration.before();
+        let stamp = (u64::from(of.first) + u64::from(before)) % 65_535 + 1;
         Numbers {
             stamp,
             base: stamp * 281_474_976_710_656,
             uses,
+            of,
         }
+    }
+
+    /// What the stamps of its heap's registrations begin with.
+    pub(crate) fn first(&self) -> u32
+        ensures { result ≡ self.now.of.first }
+    {
+        self.of.first
     }
 
     /// The number of the reference in this place.
@@ -101,6 +113,7 @@ impl Numbers {
     pub(crate) fn spend(&mut self, place: usize)
         requires inside { place < 65536 }
         ensures stamp { self.new.stamp ≡ self.old.stamp }
+        ensures of { self.new.of ≡ self.old.of }
         ensures uses { self.new.uses ≡ slice_set self.old.uses place (once_more (get_or self.old.uses place 0)) }
         ensures counted { get_or self.new.uses place 0 ≡ once_more (get_or self.old.uses place 0) }
         ensures spent { number_at self.new place ≢ number_at self.old place }
@@ -109,4 +122,13 @@ impl Numbers {
         let uses = self.uses[place];
         self.uses[place] = uses.wrapping_add(1);
     }
+}
+
+/// No place was vacated yet.
+pub(crate) fn no_uses(alloc: Global) -> Result<Vec<u32, Global>, AllocError>
+    ensures uses { IfOk result (λ made. made.items ≡ replicate 65536 0) }
+    ensures places { IfOk result (λ made. length made.items ≡ 65536) }
+{
+    let uses = Vec::from_elem(alloc, 0u32, PLACES)?;
+    Ok(uses)
 }

@@ -1,18 +1,19 @@
 //! A heap from its opening to its report.
 
 ghost use Rattle.std.specs.Option.{ForSome};
-ghost use Rattle.std.specs.Prelude.{◌≡◌, ◌↔◌, ◌++◌, ◌⊎◌, Err, IfSome, IfOk, IfErr, OnOk, OnErr, length, take, drop};
+ghost use Rattle.std.specs.Prelude.{◌≡◌, ◌↔◌, ◌++◌, ◌⊎◌, Err, Some, IfSome, IfOk, IfErr, OnOk, OnErr, length, take, drop};
 ghost use Rattle.brc_words.specs.declared.fault.Fault.TheVariants as faults;
 ghost use Rattle.brc_count.specs.law.world.Heap.{AreOptions};
 ghost use Rattle.brc_client.specs.declared.status.Status.TheVariants as statuses;
 ghost use Rattle.brc_client.specs.declared.owner.OwnerStage.TheVariants as stages;
-ghost use Rattle.brc_client.specs.Ends.{OpensWith, RegistersAt, RegisterRefused, CountsAt, open_at, ClosedAs, CloseRefused};
+ghost use Rattle.brc_client.specs.Ends.{OpensWith, IsRegistered, RegistersAt, RegisteredAt, RefusedAt};
+ghost use Rattle.brc_client.specs.Ends.{RegisterRefused, SameOwner};
+ghost use Rattle.brc_client.specs.Ends.{CountsAt, CountsRefused, open_at, seen_by, ClosedAs, CloseRefused};
 ghost use Rattle.brc_client.specs.Ends.{Shows, report_of, text_in, shown_from, ReportRefused};
 
 use crate::status::Status;
-use crate::thread::{Thread, register};
-use brc_heap::{NotClosed, RootCounts, Shared, Stays, write_report};
-use brc_report::Report;
+use crate::thread::{NotMade, Thread, register};
+use brc_heap::{LastReport, NotClosed, RootCounts, Shared, Sight, Stays, write_report};
 use brc_thread::Options;
 use brc_words::Fault;
 use std::alloc::Global;
@@ -22,37 +23,52 @@ use std::mem;
 /// A heap that is closed: its report, and the report's text once somebody asked.
 #[derive(Drop)]
 pub struct Closed {
-    report: Report<Global>,
+    last: LastReport,
     text: Option<Vec<u8, Global>>,
-    ghost written: { ForSome text (λ bytes. bytes.items ≡ text_in report) },
+    ghost written: { ForSome text (λ bytes. bytes.items ≡ text_in last) },
 }
 
 impl Model for Closed {
-    ghost use Rattle.std.specs.declared.alloc.Global.{Global};
-    ghost use Rattle.brc_report.specs.declared.report.Report.{Report};
+    ghost use Rattle.brc_heap.specs.Lasting.{LastReportSeen};
 
-    ghost Value = { Report Global };
+    ghost Value = { LastReportSeen };
 
-    ghost view = { λ c. c.report };
+    ghost view = { λ c. c.last };
+}
+
+/// A heap at which threads can be registered.
+#[derive(Drop)]
+pub struct OpenHeap {
+    shared: Shared,
+    /// What the stamps of its registrations begin with.
+    first: u32,
+    /// Its root as it was seen last.
+    seen: Option<Sight>,
+}
+
+impl Model for OpenHeap {
+    ghost use Rattle.brc_client.specs.Desks.{OpenHeapSeen};
+
+    ghost Value = { OpenHeapSeen };
+
+    ghost view = { λ o. record { desk = record { heap = o.shared.heap; first = o.first }; seen = o.seen } };
 }
 
 /// How far a heap is.
 #[derive(Drop)]
 pub enum OwnerStage {
     /// Threads can be registered.
-    Open(Shared),
+    Open(OpenHeap),
     /// It has ended, with a report.
     Closed(Closed),
-    /// It has ended without one.
-    Gone,
+    /// It has ended without one: its root as it was seen last.
+    Gone(Option<Sight>),
 }
 
 /// A heap. One that is dropped before it is closed ends, once its last thread is dropped, without a report.
 #[derive(Drop)]
 pub struct Owner {
     stage: OwnerStage,
-    /// What the stamps of its registrations begin with.
-    first: u32,
 }
 
 impl Model for Owner {
@@ -81,11 +97,12 @@ impl Closed {
     fn left(&self) -> Left
         ensures { Shows self.now result }
     {
+        let report = self.last.report();
         Left {
-            allocs: self.report.ledger.allocs,
-            frees: self.report.ledger.frees,
-            live: self.report.live,
-            cycles: self.report.cycles.len() as u64,
+            allocs: report.ledger.allocs,
+            frees: report.ledger.frees,
+            live: report.live,
+            cycles: report.cycles.len() as u64,
         }
     }
 
@@ -101,7 +118,7 @@ impl Closed {
         if let Some(text) = &self.text {
             return Ok(show_from(text.as_slice(), from, to));
         }
-        let text = written(alloc, &self.report)?;
+        let text = written(alloc, &self.last)?;
         let len = show_from(text.as_slice(), from, to);
         self.text = Some(text);
         Ok(len)
@@ -109,12 +126,12 @@ impl Closed {
 }
 
 /// The report as a text. OutOfMemory if it isn't to be had.
-fn written(alloc: Global, report: &Report<Global>) -> Result<Vec<u8, Global>, Status>
-    ensures text { IfOk result (λ text. text.items ≡ text_in report.now) }
+fn written(alloc: Global, last: &LastReport) -> Result<Vec<u8, Global>, Status>
+    ensures text { IfOk result (λ text. text.items ≡ text_in last.now) }
     ensures refused { IfErr result (λ status. status ≡ statuses.Fault faults.OutOfMemory) }
 {
     let mut text = Vec::new(alloc);
-    match write_report(report, &mut text) {
+    match write_report(last.report(), &mut text) {
         Ok(()) => Ok(text),
         Err(_fault) => Err(Status::Fault(Fault::OutOfMemory)),
     }
@@ -131,26 +148,76 @@ fn show_from(text: &[u8], from: usize, to: &mut [u8]) -> usize
     text.len()
 }
 
-/// The heap is closed, or is open still; or it has ended, and memory for its report was missing.
-fn close(alloc: Global, shared: Shared) -> (OwnerStage, Result<(), Status>)
-    ensures closed { OnOk result.1 (ClosedAs (stages.Open shared) result.0) }
-    ensures refused { IfErr result.1 (CloseRefused (stages.Open shared) result.0) }
-{
-    match shared.close(alloc) {
-        Ok(report) => (OwnerStage::Closed(Closed { report, text: None }), Ok(())),
-        Err(Stays::Memory) => (OwnerStage::Gone, Err(Status::Fault(Fault::OutOfMemory))),
-        Err(Stays::Open(shared, why)) => {
-            let fault = match why {
-                NotClosed::Missing {
-                    registered,
-                    gathered,
-                } => Fault::Missing {
-                    registered,
-                    gathered,
-                },
-                NotClosed::Busy | NotClosed::Held => Fault::Busy,
-            };
-            (OwnerStage::Open(shared), Err(Status::Fault(fault)))
+impl OpenHeap {
+    /// The next thread.
+    fn register(&mut self, alloc: Global) -> Result<Thread, Status>
+        ensures registers { IfOk result (IsRegistered self.old.desk) }
+        ensures registered { OnOk result (RegisteredAt (Some self.old.desk) self.new.seen) }
+        ensures refused { IfErr result (RefusedAt self.old.desk.heap self.new.seen) }
+        ensures same { self.new.desk ≡ self.old.desk }
+    {
+        match register(alloc, &self.shared, self.first) {
+            Ok((thread, seen)) => {
+                self.seen = Some(seen);
+                Ok(thread)
+            }
+            Err(refused) => {
+                let NotMade { status, seen } = refused;
+                self.seen = seen;
+                Err(status)
+            }
+        }
+    }
+
+    /// What its root has counted.
+    fn counts(&mut self) -> Result<RootCounts, Status>
+        ensures counts { IfOk result (CountsAt (Some self.old.desk) self.new.seen) }
+        ensures refused { IfErr result (λ status. status ≡ statuses.Fault faults.Busy) }
+        ensures same { self.new.desk ≡ self.old.desk }
+    {
+        match self.shared.counts() {
+            Some((counts, seen)) => {
+                self.seen = Some(seen);
+                Ok(counts)
+            }
+            None => Err(Status::Fault(Fault::Busy)),
+        }
+    }
+
+    /// The heap is closed, or is open still; or it has ended, and memory for its report was missing.
+    fn close(self, alloc: Global) -> (OwnerStage, Result<(), Status>)
+        ensures closed { OnOk result.1 (ClosedAs (stages.Open self) result.0) }
+        ensures refused { IfErr result.1 (CloseRefused (stages.Open self) result.0) }
+    {
+        let OpenHeap {
+            shared,
+            first,
+            seen: _seen,
+        } = self;
+        match shared.close(alloc) {
+            Ok(last) => (OwnerStage::Closed(Closed { last, text: None }), Ok(())),
+            Err(Stays::Memory(seen)) => (
+                OwnerStage::Gone(Some(seen)),
+                Err(Status::Fault(Fault::OutOfMemory)),
+            ),
+            Err(Stays::Open(shared, why, seen)) => {
+                let fault = match why {
+                    NotClosed::Missing {
+                        registered,
+                        gathered,
+                    } => Fault::Missing {
+                        registered,
+                        gathered,
+                    },
+                    NotClosed::Busy | NotClosed::Held => Fault::Busy,
+                };
+                let opened = OpenHeap {
+                    shared,
+                    first,
+                    seen,
+                };
+                (OwnerStage::Open(opened), Err(Status::Fault(fault)))
+            }
         }
     }
 }
@@ -161,9 +228,9 @@ impl OwnerStage {
         ensures refused { IfErr result.1 (CloseRefused self result.0) }
     {
         match self {
-            OwnerStage::Open(shared) => close(alloc, shared),
+            OwnerStage::Open(opened) => opened.close(alloc),
             OwnerStage::Closed(closed) => (OwnerStage::Closed(closed), Ok(())),
-            OwnerStage::Gone => (OwnerStage::Gone, Err(Status::Gone)),
+            OwnerStage::Gone(seen) => (OwnerStage::Gone(seen), Err(Status::Gone)),
         }
     }
 }
@@ -173,15 +240,18 @@ impl Owner {
     /// registrations begin behind `first`: heaps of one process whose threads shall not take each other's numbers for
     /// their own begin with 0, 1024, ..
     pub fn new(alloc: Global, cells: u32, local_limit: u32, first: u32) -> Result<Owner, Status>
-        ensures opens { IfOk result (OpensWith cells local_limit) }
+        ensures opens { IfOk result (OpensWith cells local_limit first) }
         ensures options { (result ≡ Err (statuses.Fault faults.BadOptions)) ↔ ¬ (AreOptions cells local_limit) }
         ensures refused { IfErr result (λ status. (status ≡ statuses.Fault faults.BadOptions)
             ⊎ (status ≡ statuses.Fault faults.OutOfMemory)) }
     {
         match Shared::new(alloc, Options { cells, local_limit }) {
             Ok(shared) => Ok(Owner {
-                stage: OwnerStage::Open(shared),
-                first,
+                stage: OwnerStage::Open(OpenHeap {
+                    shared,
+                    first,
+                    seen: None,
+                }),
             }),
             Err(fault) => Err(Status::Fault(fault)),
         }
@@ -189,27 +259,29 @@ impl Owner {
 
     /// The next thread. Gone once the heap has ended. OutOfMemory for what its numbers want; then Busy if another call
     /// has the root at this moment, TooManyThreads, and OutOfMemory.
-    pub fn register(&self, alloc: Global) -> Result<Thread, Status>
-        ensures registers { IfOk result (λ made. RegistersAt (open_at self.now) made) }
-        ensures refused { IfErr result RegisterRefused }
+    pub fn register(&mut self, alloc: Global) -> Result<Thread, Status>
+        ensures registers { IfOk result (λ made. RegistersAt (open_at self.old) made) }
+        ensures registered { OnOk result (RegisteredAt (open_at self.old) (seen_by self.new)) }
+        ensures refused { IfErr result (RegisterRefused (open_at self.old) (seen_by self.new)) }
+        ensures same { SameOwner self.old self.new }
     {
-        match &self.stage {
-            OwnerStage::Open(shared) => register(alloc, shared, self.first),
-            _ => Err(Status::Gone),
+        match &mut self.stage {
+            OwnerStage::Open(opened) => opened.register(alloc),
+            OwnerStage::Closed(_) => Err(Status::Gone),
+            OwnerStage::Gone(_) => Err(Status::Gone),
         }
     }
 
     /// What its root has counted. Gone once the heap has ended; Busy if another call has the root at this moment.
-    pub fn counts(&self) -> Result<RootCounts, Status>
-        ensures counts { IfOk result (CountsAt (open_at self.now)) }
-        ensures refused { IfErr result (λ status. (status ≡ statuses.Gone) ⊎ (status ≡ statuses.Fault faults.Busy)) }
+    pub fn counts(&mut self) -> Result<RootCounts, Status>
+        ensures counts { IfOk result (CountsAt (open_at self.old) (seen_by self.new)) }
+        ensures refused { IfErr result (CountsRefused (open_at self.old)) }
+        ensures same { SameOwner self.old self.new }
     {
-        match &self.stage {
-            OwnerStage::Open(shared) => match shared.counts() {
-                Some(counts) => Ok(counts),
-                None => Err(Status::Fault(Fault::Busy)),
-            },
-            _ => Err(Status::Gone),
+        match &mut self.stage {
+            OwnerStage::Open(opened) => opened.counts(),
+            OwnerStage::Closed(_) => Err(Status::Gone),
+            OwnerStage::Gone(_) => Err(Status::Gone),
         }
     }
 
@@ -218,10 +290,10 @@ impl Owner {
     /// lets go of the heap. With OutOfMemory the heap has ended without a report, and is Gone.
     pub fn close(&mut self, alloc: Global) -> Result<Left, Status>
         ensures closed { OnOk result (ClosedAs self.old self.new) }
-        ensures left { IfOk result (λ left. IfSome (report_of self.new) (λ report. Shows report left)) }
+        ensures left { IfOk result (λ left. IfSome (report_of self.new) (λ last. Shows last left)) }
         ensures refused { IfErr result (CloseRefused self.old self.new) }
     {
-        let stage = mem::replace(&mut self.stage, OwnerStage::Gone);
+        let stage = mem::replace(&mut self.stage, OwnerStage::Gone(None));
         let (stage, result) = stage.end(alloc);
         self.stage = stage;
         result?;
@@ -243,7 +315,7 @@ impl Owner {
     {
         match &mut self.stage {
             OwnerStage::Open(_) => Err(Status::Fault(Fault::NotIdle)),
-            OwnerStage::Gone => Err(Status::Gone),
+            OwnerStage::Gone(_) => Err(Status::Gone),
             OwnerStage::Closed(closed) => closed.show(alloc, from, to),
         }
     }

@@ -5,5 +5,6 @@ mod Listing
 mod Collected
 mod Closed
 mod Ended
+mod Gathering
 pub mod At_Desk
 pub mod Sent

@@ -21,14 +21,19 @@ use Rattle.brc_count.proofs.block.worklist.Worklist.TheLaws.TheKnot.{send-Node, 
 use Rattle.brc_count.specs.table.contracts.table.HeapTable as HeapTable
 use Rattle.brc_count.specs.table.contracts.root.RootSeat as RootSeat
 use Rattle.atomic_table.proofs.shared.Seat.TheSendSync as seat
+use Rattle.atomic_table.proofs.badge.Badge.TheSendSync as badge
 use Rattle.atomic_table.proofs.owned.Table.TheSendSync as table
 use Rattle.brc_thread.specs.contracts.heap.Heap as Heap
 use Rattle.brc_thread.specs.contracts.root.Root as Root
 use Rattle.brc_thread.proofs.Sent.{heap_sync}
+use Rattle.brc_heap.specs.contracts.desk.Clerk as Clerk
 use Rattle.brc_heap.specs.contracts.desk.Desk as Desk
 use Rattle.brc_heap.specs.contracts.inner.Inner as Inner
 use Rattle.brc_heap.specs.contracts.inner.Inner.TheInside as Inside
+use Rattle.brc_heap.specs.contracts.last.LastReport as LastReport
 use Rattle.brc_heap.specs.contracts.shared.Shared as Shared
+use Rattle.brc_heap.specs.contracts.sight.Sight as Sight
+use Rattle.brc_heap.specs.contracts.sight.Registration as Registration
 
 -- ---- a block
 
@@ -106,3 +111,19 @@ shared_send = search (sendable, crosses, inner_send, inner_sync) depth 40
 
 pub shared_sync : IsSync Shared.the_row
 shared_sync = search (sendable, crosses, inner_send, inner_sync) depth 40
+
+-- ---- what was seen of a root has no bytes
+
+pub sight_send : IsSend Sight.the_row
+sight_send = search (sendable, crosses, badge.the_send) depth 40
+
+pub registration_send : IsSend Registration.the_row
+registration_send = search (sendable, crosses, sight_send) depth 40
+
+-- ---- the report of a heap that has ended, with the seat of whoever ended it
+
+clerk_send : IsSend Clerk.the_row
+clerk_send = search (sendable, crosses, option.the_send, seat.the_send, root_send) depth 40
+
+pub last_send : IsSend LastReport.the_row
+last_send = search (sendable, crosses, clerk_send, frees) depth 40 fits 20000

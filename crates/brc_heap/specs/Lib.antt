@@ -4,3 +4,4 @@ pub mod Closing
 pub mod Ending
 pub mod Desk
 pub mod Shared
+pub mod Lasting

@@ -19,7 +19,9 @@ mod desk;
 mod ending;
 mod fixed;
 mod inner;
+mod last;
 mod shared;
+mod sight;
 
 pub use asking::{same_object, truth_of};
 
@@ -34,7 +36,9 @@ pub use fixed::{Leaving, Mutator};
 
 // a heap by a count, and its threads
 pub use fixed::SharedMutator;
-pub use shared::{NotClosed, RootCounts, Shared, Stays};
+pub use last::LastReport;
+pub use shared::{NotClosed, NotRegistered, RootCounts, Shared, Stays};
+pub use sight::{Registration, Sight};
 
 // references
 pub use brc_count::{HandedBack, Handle};

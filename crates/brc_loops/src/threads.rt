@@ -2,7 +2,7 @@
 
 ghost use Rattle.std.specs.Prelude.{◌≡◌, ◌+◌, All, IfOk, IfErr, OnOk, OnErr, IfSome, length, map};
 ghost use Rattle.brc_count.specs.Frames.{FrameSeen, IsUnlocked};
-ghost use Rattle.brc_thread.specs.Counting.{gatherings};
+ghost use Rattle.brc_thread.specs.Counting.{registrations, gatherings};
 
 use crate::errands::do_all;
 use crate::repeating::Task;
@@ -52,6 +52,8 @@ pub fn rest_more<'h, T: Task<&'h Heap<A>, A>, A: Allocator + Copy>(
     ensures heap { All (λ resting. resting.heap ≡ heap.now) all.new.items }
     ensures count { IfSome result (λ _. length all.new.items ≡ length all.old.items + count) }
     ensures gathered { gatherings root.new.view ≡ gatherings root.old.view }
+    ensures registered { registrations root.new.view + length all.old.items
+        ≡ registrations root.old.view + length all.new.items }
 {
     for before in 0..count {
         all.reserve(1).ok()?;
@@ -120,6 +122,7 @@ pub(crate) fn end_one(
     requires heap { resting.heap ≡ heap.now }
     ensures root { root.new.table ≡ root.old.table }
     ensures gathered { gatherings root.new.view ≡ gatherings root.old.view + 1 }
+    ensures registered { registrations root.new.view ≡ registrations root.old.view }
 {
     let retired = resting.wake(heap).settle_and_leave(rt);
     root.gather(heap, retired);
@@ -137,6 +140,7 @@ pub fn end_all(
     requires heap { All (λ resting. resting.heap ≡ heap.now) all.items }
     ensures root { root.new.table ≡ root.old.table }
     ensures gathered { gatherings root.new.view ≡ gatherings root.old.view + length all.items }
+    ensures registered { registrations root.new.view ≡ registrations root.old.view }
 {
     for resting in all {
         end_one(rt, root, heap, resting);

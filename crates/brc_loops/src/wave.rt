@@ -1,7 +1,7 @@
 //! Threads that come and go in waves.
 
 ghost use Rattle.std.specs.Prelude.{◌≡◌, ◌+◌, ◌*◌, All, IsTrue, length};
-ghost use Rattle.brc_thread.specs.Counting.{gatherings};
+ghost use Rattle.brc_thread.specs.Counting.{registrations, gatherings};
 
 use crate::repeating::Nothing;
 use crate::threads::{Ended, Life, end_all, rest_more, run_all};
@@ -27,6 +27,7 @@ fn gather_each<X: Drop, T: Tally<X>>(
     requires heap { All (λ one. one.retired.heap ≡ heap.now) all.items }
     ensures root { root.new.table ≡ root.old.table }
     ensures gathered { gatherings root.new.view ≡ gatherings root.old.view + length all.items }
+    ensures registered { registrations root.new.view ≡ registrations root.old.view }
 {
     for one in all {
         let Ended { retired, answer } = one;
@@ -50,6 +51,8 @@ where
     requires root { root.old.table ≡ heap.now.table }
     ensures root { root.new.table ≡ root.old.table }
     ensures whole { IsTrue result → gatherings root.new.view ≡ gatherings root.old.view + crew }
+    ensures nobody_left { registrations root.new.view + gatherings root.old.view
+        ≡ registrations root.old.view + gatherings root.new.view }
 {
     let mut all = Vec::new(alloc);
     let is_whole = rest_more(rt, alloc, heap, root, &Nothing, crew, &mut all).is_some();
@@ -85,6 +88,8 @@ where
     requires root { root.old.table ≡ heap.now.table }
     ensures root { root.new.table ≡ root.old.table }
     ensures whole { IsTrue result → gatherings root.new.view ≡ gatherings root.old.view + count * crew }
+    ensures nobody_left { registrations root.new.view + gatherings root.old.view
+        ≡ registrations root.old.view + gatherings root.new.view }
 {
     let mut all_whole = true;
     for before in 0..count {

@@ -10,7 +10,7 @@ mod crew;
 mod refusals;
 
 use crate::ending::writes;
-use brc_heap::{Fault, Options, Report, Shared, Stays};
+use brc_heap::{Fault, LastReport, Options, Shared, Stays};
 use crew::{all_live, opens_all};
 use refusals::{clears, shows_refusals};
 use std::alloc::{AllocGlobal, Global};
@@ -22,12 +22,12 @@ use std::thread::Threads;
 fn shows(
     rt: &impl Print,
     output: &mut impl Write,
-    closed: Result<Report<Global>, Stays>,
+    closed: Result<LastReport, Stays>,
 ) -> io::Result<()> {
     match closed {
-        Ok(report) => writes(rt, output, &report),
-        Err(Stays::Open(_shared, reason)) => println!(rt; "still open: {reason:?}"),
-        Err(Stays::Memory) => println!(rt; "no memory for the report"),
+        Ok(last) => writes(rt, output, last.report()),
+        Err(Stays::Open(_shared, reason, _seen)) => println!(rt; "still open: {reason:?}"),
+        Err(Stays::Memory(_seen)) => println!(rt; "no memory for the report"),
     }
 }
 
@@ -58,7 +58,7 @@ pub(crate) fn says<R: AllocGlobal + Print + Threads + Wait + Sync, W: Write>(
         "opened {opened}\nlives {}, numbers {}\ncleared {cleared}",
         lived.whole, lived.numbers
     )?;
-    if let Some(counts) = shared.counts() {
+    if let Some((counts, _seen)) = shared.counts() {
         println!(rt;
             "registered {}, gathered {}",
             counts.registered, counts.gathered

@@ -14,19 +14,19 @@ pub(crate) struct Client {
     desk: Shared,
     /// How many were registered before it.
     pub(crate) number: u32,
-    ghost same: { mutator.heap ≡ desk },
+    ghost same: { mutator.heap ≡ desk.heap },
     ghost bare: { mutator.len ≡ 0 },
     ghost unlocked: { IsUnlocked mutator },
 }
 
 /// The thread is gathered at the desk of its heap. Each try finds the root there or doesn't; nobody has it for long.
 fn gathers(rt: &impl Wait, desk: &Shared, retired: Retired<Global>) -> RootCounts
-    requires heap { retired.heap ≡ desk.now }
+    requires heap { retired.heap ≡ desk.now.heap }
 {
     let mut retired = retired;
     for _ in rt.forever() {
         match desk.gather(retired) {
-            Ok(counts) => return counts,
+            Ok((counts, _seen)) => return counts,
             Err(back) => {
                 retired = back;
                 thread::yield_now();
@@ -43,16 +43,18 @@ impl Client {
         let mut was_missing = false;
         for _ in rt.forever() {
             match desk.register(alloc) {
-                Ok((mutator, number)) => {
+                Ok((mutator, registration, _seen)) => {
                     return Ok(Client {
                         mutator,
                         desk,
-                        number,
+                        number: registration.before(),
                     });
                 }
-                Err(Fault::Busy) => thread::yield_now(),
-                Err(Fault::OutOfMemory) if !was_missing => was_missing = true,
-                Err(fault) => return Err(fault),
+                Err(refused) => match refused.fault() {
+                    Fault::Busy => thread::yield_now(),
+                    Fault::OutOfMemory if !was_missing => was_missing = true,
+                    fault => return Err(fault),
+                },
             }
         }
         unreachable!()

@@ -10,8 +10,8 @@ use std::sync::Wait;
 fn stays(rt: &impl Print, alloc: Global, shared: Shared, case: &str) -> io::Result<Option<Shared>> {
     match shared.close(alloc) {
         Ok(_report) => Ok(None),
-        Err(Stays::Memory) => Ok(None),
-        Err(Stays::Open(shared, reason)) => {
+        Err(Stays::Memory(_seen)) => Ok(None),
+        Err(Stays::Open(shared, reason, _seen)) => {
             println!(rt; "{case}: {reason:?}")?;
             Ok(Some(shared))
         }

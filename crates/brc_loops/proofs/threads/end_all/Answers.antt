@@ -10,6 +10,7 @@ loop-resting-preserved g c =
       others_resting _ _ _ _ next was.1,
       omega (arith, ap length next, c.end_one.ensures.gathered, was.2),
       omega (arith, ap length next, c.in-Some.ensures.steps.1, was.3),
+      c.end_one.ensures.registered ∙ was.4,
     )
 
 pub end_one-requires-clause-heap : goal.end_one-requires-clause-heap

@@ -16,4 +16,5 @@ loop-before-preserved g c = (
       c.loop-before.invariant.1,
   search rules,
   search rules,
+  search rules,
 )

@@ -1,5 +1,5 @@
 use Rattle.std.proofs.Common.{◌∙◌, length, ap, arith}
-use Rattle.brc_thread.specs.Counting.{gatherings}
+use Rattle.brc_thread.specs.Counting.{registrations, gatherings}
 use Rattle.brc_loops.proofs.One_Heap.{first_ended, others_ended}
 use Rattle.brc_loops.proofs.wave.gather_each.Goals as goal
 
@@ -11,6 +11,7 @@ loop-one-preserved g c =
       others_ended _ _ _ _ next was.1,
       omega (arith, ap length next, ap gatherings c.gather.ensures.gathered, was.2),
       omega (arith, ap length next, c.in-Some.ensures.steps.1, was.3),
+      ap registrations c.gather.ensures.gathered ∙ was.4,
     )
 
 pub gather-requires-clause-same_heap : goal.gather-requires-clause-same_heap

@@ -22,7 +22,7 @@ returns-in-Ok-clause-more c =
         empty = vacant _ _ c.self.inside.handles c.in-Ok.given c.self.invariant gains;
         set = c.lay.ensures.set;
         numbers = refl;
-        is = c.number-more.ensures.number ∙ ap (number_at _) (sym place);
+        is = c.number-more.ensures.number ∙ ap (number_at c.self.inside.numbers) (sym place);
       };
     })
 
@@ -34,7 +34,7 @@ returns-in-Ok-clause-names c =
     let place = next_is _ _ _ _ _ c.in_ok-handle.handle.now c.in-Ok.given c.self.invariant
     c.in_ok-handle.ensures.named given ∙ next in
     given_in c.self.inside.handles _ _ c.in-Ok.given _ gains.room c.self.invariant.places c.lay.ensures.set
-    (c.number-more.ensures.number ∙ ap (number_at _) (sym place))
+    (c.number-more.ensures.number ∙ ap (number_at c.self.inside.numbers) (sym place))
 
 pub returns-in-Err-clause-refused : goal.returns-in-Err-clause-refused
 returns-in-Err-clause-refused c =

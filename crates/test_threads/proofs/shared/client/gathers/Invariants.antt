@@ -4,4 +4,4 @@ use Rattle.test_threads.proofs.shared.client.gathers.Given as goal
 abbrev pub invariant-loop : goal.invariant-loop
 invariant-loop g l =
     (goal.iterator-loop g).can_next l.iterator' × (goal.iterator-loop g).is_finite l.iterator'
-    × (l.retired.heap ≡ l.fn.desk)
+    × (l.retired.heap ≡ l.fn.desk.heap)
