@@ -1,6 +1,6 @@
 -- What an export on a whole thread or heap comes to.
 use Rattle.std.specs.Prelude.{◌≡◌, ◌↔◌, ◌⊎◌, ⊤, ℕ, List, Option, Result, Ok, Err, IfOk, IfErr, IfSome, OnOk, OnErr}
-use Rattle.std.specs.Prelude.{length}
+use Rattle.std.specs.Prelude.{Some, MatchOption, length}
 use Rattle.brc_words.specs.declared.fault.Fault.TheVariants as faults
 use Rattle.brc_count.specs.declared.ledger.Ledger.{Ledger}
 use Rattle.brc_count.specs.law.world.Heap.{AreOptions}
@@ -16,6 +16,7 @@ use Rattle.brc_client.specs.Ends.{OpensWith, RegistersAt, RegisteredAt, Register
 use Rattle.brc_client.specs.Ends.{LeavesAs, LeaveRefused, IsOver, LedgerOf, open_at, seen_by, SameOwner}
 use Rattle.brc_client.specs.Ends.{CountsAt, CountsRefused, ClosedAs, CloseRefused, report_of, Shows, text_in}
 use Rattle.brc_client.specs.Ends.{shown_from, ReportRefused}
+use Rattle.brc_c.specs.declared.held.Held.{Held}
 use Rattle.brc_c.specs.Exports.{code_of}
 
 -- ---- threads
@@ -28,6 +29,11 @@ module _ {S : Type 0} where
     pub registered : OnOk answer (RegisteredAt (heap old) (seen new))
     pub refused : IfErr answer (RegisterRefused (heap old) (seen new))
     pub same : Same old new
+
+-- C's variable has the thread that was registered
+abbrev pub FillsRoom : Option Held → Result Stage Status → Type 0
+FillsRoom room (Ok thread) = MatchOption room ⊥ (λ held. held.thread ≡ thread)
+FillsRoom room (Err status) = ⊤
 
 -- the thread had no reference, and is gathered; or it isn't yet
 pub record Leaves (old new : Stage) (answer : Result (Unit {0}) Status) : Type 0 where
@@ -48,14 +54,15 @@ WritesLedger allocs_was allocs frees_was frees (Err status) = (allocs ≡ allocs
 
 -- ---- heaps
 
--- a heap was opened with these sizes; or it wasn't
-pub record OpensHeap (cells local_limit first code : ℕ) : Type 0 where
+-- a heap was opened with these sizes, and C's variable has it; or it wasn't
+pub record OpensHeap (cells local_limit first : ℕ) (room : Option OwnerStage) (code : ℕ) : Type 0 where
   pub answer : Result OwnerStage Status
   pub opened : IfOk answer (OpensWith cells local_limit first)
   pub options : (answer ≡ Err (statuses.Fault faults.BadOptions)) ↔ ¬ (AreOptions cells local_limit)
   pub refused : IfErr answer (λ status. (status ≡ statuses.Fault faults.BadOptions)
       ⊎ (status ≡ statuses.Fault faults.OutOfMemory))
   pub told : code ≡ code_of answer
+  pub filled : IfOk answer (λ owner. room ≡ Some owner)
 
 -- what the heap's root has counted
 pub record TellsCounts (old new : OwnerStage) (answer : Result RootCounts Status) : Type 0 where

@@ -6,7 +6,7 @@ ghost use Rattle.brc_c.specs.Exports.{Carries, Writes, itself};
 
 use crate::outs::write;
 use crate::parts::Parts;
-use crate::slots::CHeap;
+use crate::slots::{CHeap, HeapRoom};
 use brc_client::{Owner, Status};
 use brc_words::Fault;
 use std::alloc::Global;
@@ -24,18 +24,18 @@ pub extern "C" fn brc_version() -> u32
 #[unsafe(no_mangle)]
 pub extern "C" fn brc_heap_new(
     alloc: Global,
-    at: &mut *mut u8,
+    at: &mut HeapRoom,
     cells: u32,
     local_limit: u32,
     first: u32,
 ) -> u32
     ensures kept { result ≢ 0 → at.new ≡ at.old }
-    ensures opens { OpensHeap cells local_limit first result }
+    ensures opens { OpensHeap cells local_limit first at.new.value result }
 {
     match Owner::new(alloc, cells, local_limit, first) {
         Ok(owner) => match Box::new(alloc, owner) {
             Ok(owner) => {
-                *at = CHeap::of_parts(Parts::of(owner)).into_at();
+                *at = CHeap::of_parts(Parts::of(owner)).into_room();
                 0
             }
             Err(_) => Status::Fault(Fault::OutOfMemory).number(),

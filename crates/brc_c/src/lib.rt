@@ -23,4 +23,4 @@ mod slots;
 mod threads;
 
 pub use dicts::CKey;
-pub use slots::{CHeap, CThread};
+pub use slots::{CHeap, CThread, HeapRoom, ThreadRoom};

@@ -4,9 +4,9 @@
 //! An export that took a raw pointer would ask for the memory at it, in a `requires*`. Behind `&mut CThread` it asks for
 //! nothing: the variable's own type says what C owes.
 
-ghost use Rattle.std.specs.Prelude.{◌≡◌};
-ghost use Rattle.brc_c.specs.OwnerKept.{heap_owns, heap_coded};
-ghost use Rattle.brc_c.specs.HeldKept.{thread_owns, thread_coded};
+ghost use Rattle.std.specs.Prelude.{◌≡◌, Option, Some};
+ghost use Rattle.brc_c.specs.OwnerKept.{heap_owns, heap_coded, heap_room_owns, heap_room_coded};
+ghost use Rattle.brc_c.specs.HeldKept.{thread_owns, thread_coded, thread_room_owns, thread_room_coded};
 ghost use Rattle.brc_c.specs.declared.held.Held.{Held};
 ghost use Rattle.brc_client.specs.declared.owner.OwnerStage.{OwnerStage};
 
@@ -15,6 +15,21 @@ use crate::parts::Parts;
 use brc_client::Owner;
 use std::alloc::Global;
 use std::marker::Model;
+
+/// C's variable of a heap before a call fills it: it may have any bits, and owns nothing. Then it owns what a `CHeap` does.
+#[derive(Drop)]
+#[repr(C)]
+pub struct HeapRoom {
+    at: *mut u8,
+    alloc: Global,
+    pub(crate) ghost value: { Option OwnerStage } by { heap_room_coded },
+}
+
+impl Model for HeapRoom {
+    ghost use Rattle.brc_c.specs.OwnerKept.{heap_room_owns};
+
+    ghost also_owns = { λ t. heap_room_owns t.alloc t.at t.value };
+}
 
 /// C's variable of a heap: `brc_heap`.
 #[repr(C)]
@@ -45,12 +60,12 @@ impl CHeap {
         }
     }
 
-    /// The pointer alone, for C to keep.
-    pub(crate) fn into_at(self) -> *mut u8
-        ensures { result ≡ self.at }
+    /// The variable as a call leaves it that has filled it.
+    pub(crate) fn into_room(self) -> HeapRoom
+        ensures { result.value ≡ Some self.value }
     {
-        let CHeap { at, alloc: _alloc } = self;
-        at
+        let CHeap { at, alloc } = self;
+        HeapRoom { at, alloc }
     }
 
     /// What the pointer leads to, for as long as the variable is lent.
@@ -71,6 +86,21 @@ impl CHeap {
             alloc,
         }
     }
+}
+
+/// C's variable of a thread before a call fills it: it may have any bits, and owns nothing. Then it owns what a `CThread` does.
+#[derive(Drop)]
+#[repr(C)]
+pub struct ThreadRoom {
+    at: *mut u8,
+    alloc: Global,
+    pub(crate) ghost value: { Option Held } by { thread_room_coded },
+}
+
+impl Model for ThreadRoom {
+    ghost use Rattle.brc_c.specs.HeldKept.{thread_room_owns};
+
+    ghost also_owns = { λ t. thread_room_owns t.alloc t.at t.value };
 }
 
 /// C's variable of a thread: `brc_thread`.
@@ -102,12 +132,12 @@ impl CThread {
         }
     }
 
-    /// The pointer alone, for C to keep.
-    pub(crate) fn into_at(self) -> *mut u8
-        ensures { result ≡ self.at }
+    /// The variable as a call leaves it that has filled it.
+    pub(crate) fn into_room(self) -> ThreadRoom
+        ensures { result.value ≡ Some self.value }
     {
-        let CThread { at, alloc: _alloc } = self;
-        at
+        let CThread { at, alloc } = self;
+        ThreadRoom { at, alloc }
     }
 
     /// What the pointer leads to, for as long as the variable is lent.

@@ -4,13 +4,13 @@ ghost use Rattle.std.specs.Prelude.{◌≡◌, ◌≢◌};
 ghost use Rattle.brc_client.specs.Answers.{Polls, TakesApart, CountsReferences, LetsAllGo};
 ghost use Rattle.brc_client.specs.Ends.{open_at, seen_by, SameOwner, desk_of, seen_at, SameStage};
 ghost use Rattle.brc_c.specs.Calls.{ClaimsAt};
-ghost use Rattle.brc_c.specs.Ends.{RegistersThread, Leaves, TellsLedger, WritesLedger};
+ghost use Rattle.brc_c.specs.Ends.{RegistersThread, FillsRoom, Leaves, TellsLedger, WritesLedger};
 ghost use Rattle.brc_c.specs.Exports.{Carries, CarriesOut, OnClient, Always, WritesNothing, code_of};
 
 use crate::held::Held;
 use crate::outs::{gone, says_yes, status_of};
 use crate::parts::Parts;
-use crate::slots::{CHeap, CThread};
+use crate::slots::{CHeap, CThread, ThreadRoom};
 use brc_client::{Status, Thread};
 use brc_words::Fault;
 use std::alloc::Global;
@@ -19,10 +19,10 @@ use std::alloc::Global;
 // then can't be handed out would have to leave, and it couldn't while another call has the heap's root.
 
 #[unsafe(no_mangle)]
-pub extern "C" fn brc_thread_new(alloc: Global, heap: &mut CHeap, at: &mut *mut u8) -> u32
+pub extern "C" fn brc_thread_new(alloc: Global, heap: &mut CHeap, at: &mut ThreadRoom) -> u32
     ensures kept { result ≢ 0 → at.new ≡ at.old }
     ensures carries { Carries (RegistersThread open_at seen_by SameOwner) heap.old.value heap.new.value result
-        WritesNothing }
+        (FillsRoom at.new.value) }
 {
     match Box::new(alloc, Held::empty()) {
         Ok(room) => hand_out(room, heap.as_mut().register(alloc), at),
@@ -31,10 +31,10 @@ pub extern "C" fn brc_thread_new(alloc: Global, heap: &mut CHeap, at: &mut *mut 
 }
 
 #[unsafe(no_mangle)]
-pub extern "C" fn brc_thread_fork(alloc: Global, thread: &mut CThread, at: &mut *mut u8) -> u32
+pub extern "C" fn brc_thread_fork(alloc: Global, thread: &mut CThread, at: &mut ThreadRoom) -> u32
     ensures kept { result ≢ 0 → at.new ≡ at.old }
     ensures carries { Carries (RegistersThread desk_of seen_at SameStage) thread.old.value.thread thread.new.value.thread
-        result WritesNothing }
+        result (FillsRoom at.new.value) }
 {
     match Box::new(alloc, Held::empty()) {
         Ok(room) => hand_out(room, thread.as_mut().fork(alloc), at),
@@ -43,15 +43,16 @@ pub extern "C" fn brc_thread_fork(alloc: Global, thread: &mut CThread, at: &mut 
 }
 
 /// The thread goes into the room, and the room to C.
-fn hand_out(room: Box<Held, Global>, made: Result<Thread, Status>, at: &mut *mut u8) -> u32
+fn hand_out(room: Box<Held, Global>, made: Result<Thread, Status>, at: &mut ThreadRoom) -> u32
     ensures code { result ≡ code_of made }
     ensures kept { result ≢ 0 → at.new ≡ at.old }
+    ensures filled { FillsRoom at.new.value made }
 {
     match made {
         Ok(thread) => {
             let mut room = room;
             room.fill(thread);
-            *at = CThread::of_parts(Parts::of(room)).into_at();
+            *at = CThread::of_parts(Parts::of(room)).into_room();
             0
         }
         Err(status) => status.number(),

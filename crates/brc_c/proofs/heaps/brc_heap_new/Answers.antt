@@ -15,4 +15,5 @@ returns-in-Ok-clause-opens c = record {
   );
   refused = inr refl;
   told = c.number.ensures.number;
+  filled = tt;
 }
