@@ -1,0 +1,1230 @@
+/* statuses: each status of each call of brc.h, in the order in which brc.h lists them.
+ *
+ * A row is a call in a situation, and the status that it must return. The conditions of that status hold there, and those of
+ * as many later ones as can hold at once. No earlier one holds. So a call that looks in another order fails a row. After a
+ * refusal all must be as before: out parameters, numbers, counts, lengths, ledgers, blocks of memory.
+ *
+ * It is linked with
+ *
+ *     -Wl,--wrap=malloc,--wrap=realloc,--wrap=free
+ *
+ * so that the allocations of the library come here. For OUT_OF_MEMORY they are refused. For BUSY one of another thread of the
+ * machine is stopped: its call has the object locked, or the register of threads. Another call says whether it has. If it
+ * hasn't, a row that wants BUSY is not seen, and that is no failure.
+ *
+ * Two statuses have no row. LEDGER_FULL comes after 2^47 objects. OUT_OF_MEMORY of brc_thread_leave comes if a count of 2^63
+ * overflows, since a leave asks for no memory. For the same reason it can't be stopped: the last BUSY of brc_heap_close is
+ * tried some times, and is seen or not. */
+#define _POSIX_C_SOURCE 200809L
+#include <pthread.h>
+#include <sched.h>
+#include <stdio.h>
+#include <stdlib.h>
+#include <string.h>
+#include <time.h>
+#include "brc.h"
+
+enum { REFERENCES = 65536, ENTRIES = 1048576, MOST_THREADS = 64, CALLS = 46 };
+enum { UNWRITTEN = 0xa5, DEAD_ENTRIES = 100000, TRIES = 10000000, SECONDS = 60 };
+
+/* ---- What is said */
+
+static const char *call_now, *what_now;     /* the row that is played */
+static const char *played[CALLS + 1];       /* each call that has a row */
+static int rows, calls;
+
+static void begin(const char *call, const char *what) {
+    call_now = call;
+    what_now = what;
+}
+
+static void begin_row(const char *call, const char *what) {
+    int i = 0;
+    begin(call, what);
+    rows++;
+    while (i < calls && strcmp(played[i], call) != 0) i++;
+    if (i == calls && calls <= CALLS) played[calls++] = call;
+}
+
+static void not_seen(void) { printf("not seen: %s: %s\n", call_now, what_now); }
+
+static void settle(brc_status came, brc_status wanted) {
+    if (came == wanted) return;
+    fprintf(stderr, "statuses: %s: %s: ", call_now, what_now);
+    fprintf(stderr, "came %s, wanted %s\n", brc_status_name(came), brc_status_name(wanted));
+    exit(1);
+}
+
+#define MUST(call) settle((call), BRC_OK)
+#define CHECK(fact)                                                                                                        \
+    do {                                                                                                                   \
+        if (!(fact)) {                                                                                                     \
+            fprintf(stderr, "statuses: %s: %s: line %d: not so: %s\n", call_now, what_now, __LINE__, #fact);               \
+            exit(1);                                                                                                       \
+        }                                                                                                                  \
+    } while (0)
+
+/* Whether these bytes are as they were before a call, which were all one byte. */
+static int is_unwritten(const void *at, size_t len) {
+    const uint8_t *bytes = at;
+    for (size_t i = 0; i < len; i++)
+        if (bytes[i] != UNWRITTEN) return 0;
+    return 1;
+}
+
+/* ---- Memory, and calls that are stopped as they ask for it */
+
+/* A call of another thread of the machine. It is stopped at the first allocation that is refused, until it may go on. */
+typedef struct {
+    brc_thread *thread;
+    brc_kind kind;              /* of the object that it has locked; 0: it has the register of threads */
+    brc_ref object;
+    pthread_t machine;
+    int is_inside, has_ended, may_go, is_joined;
+    brc_status came;
+} hold_t;
+
+enum { NONE = 0, ALL = -1 };
+
+/* A thread of a heap takes six blocks: one that `at` leads to, two for its numbers, and three while the register is locked. */
+enum { ROOM = 1, NUMBERS = 3, THREAD = 6 };
+
+static __thread long given = ALL;           /* how many allocations this thread of the machine is given yet */
+static __thread hold_t *stops_in;           /* what it waits for once no more is given, if anything */
+static long blocks;
+static pthread_mutex_t counting = PTHREAD_MUTEX_INITIALIZER, gate = PTHREAD_MUTEX_INITIALIZER;
+static pthread_cond_t moved = PTHREAD_COND_INITIALIZER;
+static struct timespec deadline;            /* of all waits until a call is stopped */
+
+void *__real_malloc(size_t size);
+void *__real_realloc(void *block, size_t size);
+void __real_free(void *block);
+void *__wrap_malloc(size_t size);
+void *__wrap_realloc(void *block, size_t size);
+void __wrap_free(void *block);
+
+static void stop(hold_t *h) {
+    stops_in = NULL;
+    pthread_mutex_lock(&gate);
+    h->is_inside = 1;
+    pthread_cond_broadcast(&moved);
+    while (!h->may_go) pthread_cond_wait(&moved, &gate);
+    pthread_mutex_unlock(&gate);
+}
+
+static int is_given(void) {
+    if (given == ALL) return 1;
+    if (given > 0) return given--, 1;
+    if (stops_in != NULL) stop(stops_in);
+    return 0;
+}
+
+static void count_blocks(long more) {
+    pthread_mutex_lock(&counting);
+    blocks += more;
+    pthread_mutex_unlock(&counting);
+}
+
+void *__wrap_malloc(size_t size) {
+    void *block = is_given() ? __real_malloc(size) : NULL;
+    count_blocks(block != NULL);
+    return block;
+}
+
+void *__wrap_realloc(void *block, size_t size) {
+    if (!is_given()) return NULL;
+    count_blocks(block == NULL);
+    return __real_realloc(block, size);
+}
+
+void __wrap_free(void *block) {
+    count_blocks(-(block != NULL));
+    __real_free(block);
+}
+
+/* A call that locks the object, and asks for memory then; or the register. */
+static brc_status locking_call(const hold_t *h) {
+    brc_ref value;
+    brc_key key;
+    uint8_t to[8];
+    size_t len;
+    void *at;
+    switch (h->kind) {
+    case BRC_LIST: return brc_list_get(h->thread, h->object, 0, &value);
+    case BRC_DICT: return brc_dict_pair(h->thread, h->object, 0, &key, to, sizeof to, &value);
+    case BRC_MAILBOX: return brc_recv(h->thread, h->object, &value);
+    case BRC_TEXT: return brc_text_of(h->thread, h->object, to, sizeof to, &len);
+    default: return brc_thread_fork(h->thread, &at);
+    }
+}
+
+static void *holder(void *at) {
+    hold_t *h = at;
+    given = h->kind == 0 ? NUMBERS : NONE;
+    stops_in = h;
+    h->came = locking_call(h);
+    pthread_mutex_lock(&gate);
+    h->has_ended = 1;
+    pthread_cond_broadcast(&moved);
+    pthread_mutex_unlock(&gate);
+    return NULL;
+}
+
+/* The call that was stopped goes on, and is refused: so it changes nothing. */
+static void let_go(hold_t *h) {
+    if (h->is_joined) return;
+    pthread_mutex_lock(&gate);
+    h->may_go = 1;
+    pthread_cond_broadcast(&moved);
+    pthread_mutex_unlock(&gate);
+    CHECK(pthread_join(h->machine, NULL) == 0);
+    h->is_joined = 1;
+    if (h->is_inside) settle(h->came, BRC_OUT_OF_MEMORY);
+}
+
+/* Another thread of the machine makes the call, and is stopped in it. If it isn't stopped in time, nothing is locked. */
+static void hold(hold_t *h, brc_thread *thread, brc_kind kind, brc_ref object) {
+    int is_late = 0;
+    memset(h, 0, sizeof *h);
+    h->thread = thread;
+    h->kind = kind;
+    h->object = object;
+    CHECK(pthread_create(&h->machine, NULL, holder, h) == 0);
+    pthread_mutex_lock(&gate);
+    while (!h->is_inside && !h->has_ended && !is_late) is_late = pthread_cond_timedwait(&moved, &gate, &deadline) != 0;
+    pthread_mutex_unlock(&gate);
+    if (is_late || h->has_ended) let_go(h);
+}
+
+/* ---- Calls by numbers */
+
+typedef enum {
+    RETAIN, RELEASE, SAME, NOTHING, TRUTH, GLOBALS, NEW_INT, NEW_SMALL, NEW_TEXT, NEW_LIST, NEW_DICT, NEW_MAILBOX, KIND_OF,
+    LEN_OF, INT_OF, TRUTH_OF, TEXT_OF, PUSH, POP, TAKE, GET, SET, SEND, RECV, PUT_INT, PUT_TEXT, FIND_INT, FIND_TEXT, DEL_INT,
+    DEL_TEXT, PAIR, LEDGER, RELEASE_ALL, CLAIM, POLL, WORK, COUNT
+} call_t;
+
+/* What a call is given, and where it writes. */
+typedef struct {
+    brc_ref one, other;
+    int64_t key;
+    uint32_t index;
+    const uint8_t *bytes;
+    size_t len;
+} inputs_t;
+
+typedef struct {
+    brc_ref ref;
+    int64_t value;
+    uint64_t allocs, frees;
+    size_t len;
+    uint32_t word;
+    brc_key key;
+    uint8_t text[16];
+} outs_t;
+
+enum { NOT_SO = 99 };           /* a call without a status returned something else */
+
+static brc_status make_call(call_t call, brc_thread *t, const inputs_t *in, outs_t *out) {
+    const brc_ref one = in->one, other = in->other;
+    switch (call) {
+    case RETAIN: return brc_retain(t, one, &out->ref);
+    case RELEASE: return brc_release(t, one);
+    case SAME: return brc_same(t, one, other, &out->word);
+    case NOTHING: return brc_none(t, &out->ref);
+    case TRUTH: return brc_truth(t, 1, &out->ref);
+    case GLOBALS: return brc_globals(t, &out->ref);
+    case NEW_INT: return brc_new_int(t, 1000, &out->ref);
+    case NEW_SMALL: return brc_new_int(t, 256, &out->ref);
+    case NEW_TEXT: return brc_new_text(t, in->bytes, in->len, &out->ref);
+    case NEW_LIST: return brc_new_list(t, &out->ref);
+    case NEW_DICT: return brc_new_dict(t, &out->ref);
+    case NEW_MAILBOX: return brc_new_mailbox(t, &out->ref);
+    case KIND_OF: return brc_kind_of(t, one, &out->word);
+    case LEN_OF: return brc_len_of(t, one, &out->len);
+    case INT_OF: return brc_int_of(t, one, &out->value);
+    case TRUTH_OF: return brc_truth_of(t, one, &out->word);
+    case TEXT_OF: return brc_text_of(t, one, out->text, sizeof out->text, &out->len);
+    case PUSH: return brc_list_push(t, one, other);
+    case POP: return brc_list_pop(t, one, &out->ref);
+    case TAKE: return brc_list_take(t, one, in->index, &out->ref);
+    case GET: return brc_list_get(t, one, in->index, &out->ref);
+    case SET: return brc_list_set(t, one, in->index, other, &out->ref);
+    case SEND: return brc_send(t, one, other);
+    case RECV: return brc_recv(t, one, &out->ref);
+    case PUT_INT: return brc_dict_put_int(t, one, in->key, other, &out->ref);
+    case PUT_TEXT: return brc_dict_put_text(t, one, in->bytes, in->len, other, &out->ref);
+    case FIND_INT: return brc_dict_find_int(t, one, in->key, &out->ref);
+    case FIND_TEXT: return brc_dict_find_text(t, one, in->bytes, in->len, &out->ref);
+    case DEL_INT: return brc_dict_del_int(t, one, in->key, &out->ref);
+    case DEL_TEXT: return brc_dict_del_text(t, one, in->bytes, in->len, &out->ref);
+    case PAIR: return brc_dict_pair(t, one, in->index, &out->key, out->text, sizeof out->text, &out->ref);
+    case LEDGER: return brc_ledger(t, &out->allocs, &out->frees);
+    case RELEASE_ALL: return brc_release_all(t);
+    case CLAIM: return brc_claim(t, 300, 1);
+    case POLL: return brc_poll(t) == 0 ? BRC_OK : NOT_SO;
+    case WORK: return brc_work(t, 7) == 7 ? BRC_OK : NOT_SO;
+    case COUNT: return brc_count(t) == 0 ? BRC_OK : NOT_SO;
+    default: abort();
+    }
+}
+
+/* ---- Their rows */
+
+/* Who calls. READY has places to spare, FULL has 65,536 references, TIGHT has no place without memory for one, and LEFT has
+ * left. TIGHT is also whose calls are stopped: each asks for memory. The heap has no free cell. */
+typedef enum { READY, FULL, TIGHT, LEFT, WHO } who_t;
+
+/* Objects that each of them has a reference to. LIST, DICT and MAILBOX have entries, and one more needs memory. */
+typedef enum {
+    EMPTY_LIST, LIST, FULL_LIST, EMPTY_DICT, DICT, FULL_DICT, EMPTY_MAILBOX, MAILBOX, FULL_MAILBOX, INT, TEXT, OBJECTS
+} object_t;
+
+/* Which number a call is given. ZERO to AWAY name no reference of the thread. VALUE names an integer, and TWICE is the first
+ * number again. The others name an object that the call says. It is of the call's kind if it is EMPTY, SOME (it has entries)
+ * or MOST (it is full). WRONG is of another kind, OTHER_EMPTY and OTHER_MOST are containers of another kind. */
+typedef enum {
+    ZERO, THEIRS, ELSEWHERE, SPENT, AWAY, VALUE, TWICE, WRONG, EMPTY, SOME, MOST, OTHER_EMPTY, OTHER_MOST
+} number_t;
+
+/* Which key, index or text. FIRST is there. ABSENT is just past the end, FAR is the largest index, BAD isn't UTF-8. */
+typedef enum { FIRST, ABSENT, FAR, BAD } at_t;
+
+typedef struct {
+    const char *what;
+    who_t who;
+    number_t one, other;
+    at_t at;
+    long given;                 /* how many allocations the call is given */
+    brc_status wanted;
+    brc_status otherwise;       /* what comes instead of BUSY, once the object isn't locked */
+} row_t;
+
+static const row_t THREAD_LEFT[] = {
+    {"the thread has left", LEFT, ZERO, ZERO, FIRST, NONE, BRC_GONE, 0},
+    {0}};
+static const row_t RETURNS[] = {
+    {"the thread has left", LEFT, ZERO, ZERO, FIRST, NONE, BRC_OK, 0},
+    {0}};
+static const row_t QUIET[] = {
+    {"nothing is to be done", READY, ZERO, ZERO, FIRST, NONE, BRC_OK, 0},
+    {0}};
+
+/* Of one number. */
+static const row_t NUMBER[] = {
+    {"the thread has left, and the number is 0", LEFT, ZERO, VALUE, FAR, NONE, BRC_GONE, 0},
+    {"the thread has left, and had the number", LEFT, WRONG, VALUE, FAR, NONE, BRC_GONE, 0},
+    {"the number is 0", FULL, ZERO, VALUE, FAR, NONE, BRC_FOREIGN, 0},
+    {"the number is another thread's", FULL, THEIRS, VALUE, FAR, NONE, BRC_FOREIGN, 0},
+    {"the number is another heap's", FULL, ELSEWHERE, VALUE, FAR, NONE, BRC_FOREIGN, 0},
+    {"the reference was released", FULL, SPENT, VALUE, FAR, NONE, BRC_STALE, 0},
+    {"the reference was given away", FULL, AWAY, VALUE, FAR, NONE, BRC_STALE, 0},
+    {0}};
+
+/* Of two numbers. */
+static const row_t NUMBERS_OF_TWO[] = {
+    {"the thread has left, and the numbers are 0", LEFT, ZERO, TWICE, FAR, NONE, BRC_GONE, 0},
+    {"the thread has left, and had the numbers", LEFT, WRONG, VALUE, FAR, NONE, BRC_GONE, 0},
+    {"the first is 0, the second was released", FULL, ZERO, SPENT, FAR, NONE, BRC_FOREIGN, 0},
+    {"both are 0", FULL, ZERO, TWICE, FAR, NONE, BRC_FOREIGN, 0},
+    {"the first is another thread's, the second was released", FULL, THEIRS, SPENT, FAR, NONE, BRC_FOREIGN, 0},
+    {"the first is another heap's, the second was given away", FULL, ELSEWHERE, AWAY, FAR, NONE, BRC_FOREIGN, 0},
+    {"the first was released, the second is 0", FULL, SPENT, ZERO, FAR, NONE, BRC_STALE, 0},
+    {"both are one that was released", FULL, SPENT, TWICE, FAR, NONE, BRC_STALE, 0},
+    {"the first was given away, the second is another thread's", FULL, AWAY, THEIRS, FAR, NONE, BRC_STALE, 0},
+    {"the second is 0", FULL, WRONG, ZERO, FAR, NONE, BRC_FOREIGN, 0},
+    {"the second is another thread's", FULL, WRONG, THEIRS, FAR, NONE, BRC_FOREIGN, 0},
+    {"the second is another heap's", FULL, WRONG, ELSEWHERE, FAR, NONE, BRC_FOREIGN, 0},
+    {"the second was released", FULL, WRONG, SPENT, FAR, NONE, BRC_STALE, 0},
+    {"the second was given away", FULL, WRONG, AWAY, FAR, NONE, BRC_STALE, 0},
+    {0}};
+static const row_t ONE_TWICE[] = {
+    {"one number twice, of another kind", FULL, WRONG, TWICE, FAR, NONE, BRC_SAME, 0},
+    {"one number twice", FULL, SOME, TWICE, FAR, NONE, BRC_SAME, 0},
+    {"one number twice, of a full container", FULL, MOST, TWICE, ABSENT, NONE, BRC_SAME, 0},
+    {0}};
+
+/* Of a key that is a text. */
+static const row_t KEY[] = {
+    {"the thread has left, and the key isn't UTF-8", LEFT, ZERO, TWICE, BAD, NONE, BRC_GONE, 0},
+    {"the key isn't UTF-8, and the number is 0", FULL, ZERO, TWICE, BAD, NONE, BRC_NOT_TEXT, 0},
+    {"the key isn't UTF-8, and the reference was released", FULL, SPENT, SPENT, BAD, NONE, BRC_NOT_TEXT, 0},
+    {"the key isn't UTF-8, and one number stands twice", FULL, WRONG, TWICE, BAD, NONE, BRC_NOT_TEXT, 0},
+    {"the key isn't UTF-8, and the dictionary is locked", FULL, SOME, VALUE, BAD, NONE, BRC_NOT_TEXT, 0},
+    {0}};
+
+/* Of the object. */
+static const row_t LOCKED[] = {
+    {"another thread has the object", FULL, WRONG, VALUE, FAR, NONE, BRC_BUSY, BRC_OK},
+    {0}};
+static const row_t OTHER_KIND[] = {
+    {"another thread has the object, of another kind", FULL, WRONG, VALUE, FAR, NONE, BRC_BUSY, BRC_WRONG_KIND},
+    {"the object is of another kind", FULL, WRONG, VALUE, FAR, NONE, BRC_WRONG_KIND, 0},
+    {0}};
+static const row_t OTHER_CONTAINER[] = {
+    {"another thread has the object, full, of another kind", FULL, OTHER_MOST, VALUE, ABSENT, NONE, BRC_BUSY, BRC_WRONG_KIND},
+    {"the object is full, and of another kind", FULL, OTHER_MOST, VALUE, ABSENT, NONE, BRC_WRONG_KIND, 0},
+    {"the object is empty, and of another kind", FULL, OTHER_EMPTY, VALUE, FAR, NONE, BRC_WRONG_KIND, 0},
+    {0}};
+static const row_t NOT_TRUTH[] = {
+    {"the object is of another kind", FULL, WRONG, VALUE, FAR, NONE, BRC_WRONG_KIND, 0},
+    {0}};
+static const row_t READS[] = {
+    {"another thread has the text", FULL, SOME, VALUE, FIRST, NONE, BRC_BUSY, BRC_OUT_OF_MEMORY},
+    {"no memory for the text", FULL, SOME, VALUE, FIRST, NONE, BRC_OUT_OF_MEMORY, 0},
+    {0}};
+static const row_t PUTS[] = {
+    {"another thread has the container, which is full", FULL, MOST, VALUE, ABSENT, NONE, BRC_BUSY, BRC_FULL},
+    {"the container is full", FULL, MOST, VALUE, ABSENT, NONE, BRC_FULL, 0},
+    {"no memory for the first entry", FULL, EMPTY, VALUE, ABSENT, NONE, BRC_OUT_OF_MEMORY, 0},
+    {"no memory for one more entry", FULL, SOME, VALUE, ABSENT, NONE, BRC_OUT_OF_MEMORY, 0},
+    {0}};
+static const row_t COPIES[] = {
+    {"memory for the key, and none for one more pair", FULL, SOME, VALUE, ABSENT, 1, BRC_OUT_OF_MEMORY, 0},
+    {0}};
+static const row_t SETS[] = {
+    {"another thread has the list", FULL, SOME, VALUE, FAR, NONE, BRC_BUSY, BRC_NO_SUCH_PLACE},
+    {"the list is empty", FULL, EMPTY, VALUE, FIRST, NONE, BRC_NO_SUCH_PLACE, 0},
+    {"the index is just past the end", FULL, SOME, VALUE, ABSENT, NONE, BRC_NO_SUCH_PLACE, 0},
+    {"the index is far past the end", FULL, SOME, VALUE, FAR, NONE, BRC_NO_SUCH_PLACE, 0},
+    {0}};
+static const row_t GIVES[] = {
+    {"another thread has the container", FULL, SOME, VALUE, FIRST, NONE, BRC_BUSY, BRC_FRAME_FULL},
+    {"the container is empty", FULL, EMPTY, VALUE, FIRST, NONE, BRC_NO_SUCH_PLACE, 0},
+    {"the container is empty, and no memory for a place", TIGHT, EMPTY, VALUE, FIRST, NONE, BRC_NO_SUCH_PLACE, 0},
+    {"the thread has 65,536 references", FULL, SOME, VALUE, FIRST, NONE, BRC_FRAME_FULL, 0},
+    {"no memory for a place", TIGHT, SOME, VALUE, FIRST, NONE, BRC_OUT_OF_MEMORY, 0},
+    {0}};
+static const row_t INDEXES[] = {
+    {"another thread has it, and the index is past the end", FULL, SOME, VALUE, FAR, NONE, BRC_BUSY, BRC_NO_SUCH_PLACE},
+    {"the index is just past the end", FULL, SOME, VALUE, ABSENT, NONE, BRC_NO_SUCH_PLACE, 0},
+    {"the index is far past the end", FULL, SOME, VALUE, FAR, NONE, BRC_NO_SUCH_PLACE, 0},
+    {0}};
+static const row_t FINDS[] = {
+    {"another thread has the dictionary", FULL, SOME, VALUE, ABSENT, NONE, BRC_BUSY, BRC_NO_SUCH_KEY},
+    {"the dictionary is empty", FULL, EMPTY, VALUE, FIRST, NONE, BRC_NO_SUCH_KEY, 0},
+    {"the key isn't there", FULL, SOME, VALUE, ABSENT, NONE, BRC_NO_SUCH_KEY, 0},
+    {"the key isn't there, and no memory for a place", TIGHT, SOME, VALUE, ABSENT, NONE, BRC_NO_SUCH_KEY, 0},
+    {"the thread has 65,536 references", FULL, SOME, VALUE, FIRST, NONE, BRC_FRAME_FULL, 0},
+    {"no memory for a place", TIGHT, SOME, VALUE, FIRST, NONE, BRC_OUT_OF_MEMORY, 0},
+    {0}};
+static const row_t KEY_COPY[] = {
+    {"a place, and no memory for the key", READY, SOME, VALUE, FIRST, NONE, BRC_OUT_OF_MEMORY, 0},
+    {0}};
+
+/* Of the frame and the heap. */
+static const row_t PLACE[] = {
+    {"the thread has 65,536 references", FULL, SOME, VALUE, FIRST, NONE, BRC_FRAME_FULL, 0},
+    {"no memory for a place", TIGHT, SOME, VALUE, FIRST, NONE, BRC_OUT_OF_MEMORY, 0},
+    {0}};
+static const row_t CELL[] = {
+    {"a place, and no memory for the object", READY, SOME, VALUE, FIRST, NONE, BRC_OUT_OF_MEMORY, 0},
+    {"the heap is full", READY, SOME, VALUE, FIRST, ALL, BRC_HEAP_FULL, 0},
+    {0}};
+static const row_t NEW_BYTES[] = {
+    {"the thread has left, and the bytes aren't UTF-8", LEFT, ZERO, ZERO, BAD, NONE, BRC_GONE, 0},
+    {"the bytes aren't UTF-8", FULL, ZERO, ZERO, BAD, NONE, BRC_NOT_TEXT, 0},
+    {"no memory for the copy", FULL, SOME, VALUE, FIRST, NONE, BRC_OUT_OF_MEMORY, 0},
+    {"a copy, and the thread has 65,536 references", FULL, SOME, VALUE, FIRST, 1, BRC_FRAME_FULL, 0},
+    {"a copy, and no memory for a place", TIGHT, SOME, VALUE, FIRST, 1, BRC_OUT_OF_MEMORY, 0},
+    {"a copy and a place, and no memory for the object", READY, SOME, VALUE, FIRST, 1, BRC_OUT_OF_MEMORY, 0},
+    {"the heap is full", READY, SOME, VALUE, FIRST, ALL, BRC_HEAP_FULL, 0},
+    {0}};
+
+/* A call, its objects from WRONG to OTHER_MOST, and its rows in the order of brc.h. */
+typedef struct {
+    call_t call;
+    const char *name;
+    object_t of[6];
+    const row_t *parts[8];      /* NULL behind the last */
+} about_t;
+
+#define ANY {TEXT, TEXT, TEXT, TEXT, TEXT, TEXT}
+#define TEXTS {LIST, TEXT, TEXT, TEXT, LIST, LIST}
+#define LISTS {TEXT, EMPTY_LIST, LIST, FULL_LIST, EMPTY_MAILBOX, FULL_MAILBOX}
+#define DICTS {TEXT, EMPTY_DICT, DICT, FULL_DICT, EMPTY_LIST, FULL_LIST}
+#define MAILBOXES {TEXT, EMPTY_MAILBOX, MAILBOX, FULL_MAILBOX, EMPTY_DICT, FULL_DICT}
+
+static const about_t ABOUT[] = {
+    {LEDGER, "brc_ledger", ANY, {THREAD_LEFT}},
+    {POLL, "brc_poll", ANY, {RETURNS, QUIET}},
+    {WORK, "brc_work", ANY, {RETURNS, QUIET}},
+    {COUNT, "brc_count", ANY, {RETURNS}},
+    {RELEASE_ALL, "brc_release_all", ANY, {THREAD_LEFT}},
+    {CLAIM, "brc_claim", ANY, {THREAD_LEFT}},
+    {RETAIN, "brc_retain", ANY, {NUMBER, PLACE}},
+    {RELEASE, "brc_release", ANY, {NUMBER}},
+    {SAME, "brc_same", ANY, {NUMBERS_OF_TWO}},
+    {NOTHING, "brc_none", ANY, {THREAD_LEFT, PLACE}},
+    {TRUTH, "brc_truth", ANY, {THREAD_LEFT, PLACE}},
+    {GLOBALS, "brc_globals", ANY, {THREAD_LEFT, PLACE}},
+    {NEW_SMALL, "brc_new_int", ANY, {THREAD_LEFT, PLACE}},
+    {NEW_INT, "brc_new_int", ANY, {THREAD_LEFT, PLACE, CELL}},
+    {NEW_TEXT, "brc_new_text", ANY, {NEW_BYTES}},
+    {NEW_LIST, "brc_new_list", ANY, {THREAD_LEFT, PLACE, CELL}},
+    {NEW_DICT, "brc_new_dict", ANY, {THREAD_LEFT, PLACE, CELL}},
+    {NEW_MAILBOX, "brc_new_mailbox", ANY, {THREAD_LEFT, PLACE, CELL}},
+    {KIND_OF, "brc_kind_of", ANY, {NUMBER, LOCKED}},
+    {LEN_OF, "brc_len_of", LISTS, {NUMBER, OTHER_KIND}},
+    {INT_OF, "brc_int_of", ANY, {NUMBER, OTHER_KIND}},
+    {TRUTH_OF, "brc_truth_of", ANY, {NUMBER, NOT_TRUTH}},
+    {TEXT_OF, "brc_text_of", TEXTS, {NUMBER, OTHER_KIND, READS}},
+    {PUSH, "brc_list_push", LISTS, {NUMBERS_OF_TWO, ONE_TWICE, OTHER_KIND, OTHER_CONTAINER, PUTS}},
+    {POP, "brc_list_pop", LISTS, {NUMBER, OTHER_KIND, OTHER_CONTAINER, GIVES}},
+    {TAKE, "brc_list_take", LISTS, {NUMBER, OTHER_KIND, OTHER_CONTAINER, INDEXES, GIVES}},
+    {GET, "brc_list_get", LISTS, {NUMBER, OTHER_KIND, OTHER_CONTAINER, INDEXES, GIVES}},
+    {SET, "brc_list_set", LISTS, {NUMBERS_OF_TWO, ONE_TWICE, OTHER_KIND, OTHER_CONTAINER, SETS}},
+    {SEND, "brc_send", MAILBOXES, {NUMBERS_OF_TWO, ONE_TWICE, OTHER_KIND, OTHER_CONTAINER, PUTS}},
+    {RECV, "brc_recv", MAILBOXES, {NUMBER, OTHER_KIND, OTHER_CONTAINER, GIVES}},
+    {PUT_INT, "brc_dict_put_int", DICTS, {NUMBERS_OF_TWO, ONE_TWICE, OTHER_KIND, OTHER_CONTAINER, PUTS}},
+    {PUT_TEXT, "brc_dict_put_text", DICTS, {KEY, NUMBERS_OF_TWO, ONE_TWICE, OTHER_KIND, OTHER_CONTAINER, PUTS, COPIES}},
+    {FIND_INT, "brc_dict_find_int", DICTS, {NUMBER, OTHER_KIND, OTHER_CONTAINER, FINDS}},
+    {FIND_TEXT, "brc_dict_find_text", DICTS, {KEY, NUMBER, OTHER_KIND, OTHER_CONTAINER, FINDS}},
+    {DEL_INT, "brc_dict_del_int", DICTS, {NUMBER, OTHER_KIND, OTHER_CONTAINER, FINDS}},
+    {DEL_TEXT, "brc_dict_del_text", DICTS, {KEY, NUMBER, OTHER_KIND, OTHER_CONTAINER, FINDS}},
+    {PAIR, "brc_dict_pair", DICTS, {NUMBER, OTHER_KIND, OTHER_CONTAINER, INDEXES, GIVES, KEY_COPY}},
+};
+
+/* ---- The heap that they are played in */
+
+static brc_heap heap, second;
+static brc_thread threads[WHO], second_thread;
+static brc_ref held[WHO][OBJECTS], spent[WHO][OBJECTS], away[WHO];
+static brc_ref elsewhere;       /* of the second heap */
+
+static brc_ref none(brc_thread *t) {
+    brc_ref made;
+    MUST(brc_none(t, &made));
+    return made;
+}
+
+/* The thread leaves, in as many calls as that takes. */
+static void leave(brc_thread *t) {
+    brc_status s = brc_thread_leave(t);
+    for (int i = 0; s == BRC_BUSY && i < TRIES; i++) {
+        sched_yield();
+        s = brc_thread_leave(t);
+    }
+    MUST(s);
+}
+
+static void make_objects(brc_thread *t, brc_ref *made) {
+    MUST(brc_new_list(t, &made[EMPTY_LIST]));
+    MUST(brc_new_list(t, &made[LIST]));
+    MUST(brc_new_list(t, &made[FULL_LIST]));
+    MUST(brc_new_dict(t, &made[EMPTY_DICT]));
+    MUST(brc_new_dict(t, &made[DICT]));
+    MUST(brc_new_dict(t, &made[FULL_DICT]));
+    MUST(brc_new_mailbox(t, &made[EMPTY_MAILBOX]));
+    MUST(brc_new_mailbox(t, &made[MAILBOX]));
+    MUST(brc_new_mailbox(t, &made[FULL_MAILBOX]));
+    MUST(brc_new_int(t, 1000, &made[INT]));
+    MUST(brc_new_str(t, "a text that no thread has read", &made[TEXT]));
+}
+
+static brc_status put_one(object_t container, int64_t key, brc_ref value) {
+    brc_thread *t = &threads[READY];
+    const brc_ref into = held[READY][container];
+    brc_ref old;
+    if (container <= FULL_LIST) return brc_list_push(t, into, value);
+    if (container <= FULL_DICT) return brc_dict_put_int(t, into, key, value, &old);
+    return brc_send(t, into, value);
+}
+
+static void fill(object_t container) {
+    brc_ref value = none(&threads[READY]);
+    size_t len;
+    brc_status s;
+    for (int64_t key = 0; (s = put_one(container, key, value)) == BRC_OK; key++) value = none(&threads[READY]);
+    settle(s, BRC_FULL);
+    MUST(brc_release(&threads[READY], value));
+    MUST(brc_len_of(&threads[READY], held[READY][container], &len));
+    CHECK(len == ENTRIES);
+}
+
+/* Entries come until one more needs memory. The first is known by its number, the key of a dictionary's first is a text. */
+static void fill_what_is_had(object_t container) {
+    brc_thread *t = &threads[READY];
+    brc_ref value, old;
+    brc_status s = BRC_OK;
+    if (container == DICT) MUST(brc_put(t, held[READY][DICT], "key", none(t), &old));
+    MUST(brc_new_int(t, 2000 + (int64_t)container, &value));
+    MUST(put_one(container, 0, value));
+    value = none(t);
+    given = NONE;
+    for (int64_t key = 1; (s = put_one(container, key, value)) == BRC_OK; key++) value = none(t);
+    given = ALL;
+    settle(s, BRC_OUT_OF_MEMORY);
+    MUST(brc_release(t, value));
+}
+
+/* The others find the objects in the globals. */
+static void share(void) {
+    brc_ref globals[WHO], more, old;
+    for (int who = READY; who < WHO; who++) MUST(brc_globals(&threads[who], &globals[who]));
+    for (int i = 0; i < OBJECTS; i++) {
+        MUST(brc_retain(&threads[READY], held[READY][i], &more));
+        MUST(brc_dict_put_int(&threads[READY], globals[READY], i, more, &old));
+        for (int who = FULL; who < WHO; who++) MUST(brc_dict_find_int(&threads[who], globals[who], i, &held[who][i]));
+    }
+    for (int who = READY; who < WHO; who++) MUST(brc_release(&threads[who], globals[who]));
+}
+
+/* Numbers that the thread had: one of each object, and one of an entry of a list. */
+static void spend(who_t who) {
+    for (int i = 0; i < OBJECTS; i++) {
+        MUST(brc_retain(&threads[who], held[who][i], &spent[who][i]));
+        MUST(brc_release(&threads[who], spent[who][i]));
+    }
+    away[who] = none(&threads[who]);
+    MUST(brc_list_push(&threads[who], held[who][FULL_LIST], away[who]));
+}
+
+/* The thread has no place for a reference more without memory, but for `places`. */
+static void tighten(who_t who, int places) {
+    brc_ref spare[8], more;
+    brc_status s = BRC_OK;
+    for (int i = 0; i < places; i++) spare[i] = none(&threads[who]);
+    given = NONE;
+    while (s == BRC_OK) s = brc_none(&threads[who], &more);
+    given = ALL;
+    settle(s, BRC_OUT_OF_MEMORY);
+    for (int i = 0; i < places; i++) MUST(brc_release(&threads[who], spare[i]));
+}
+
+static void fill_heap_and_frame(void) {
+    brc_ref made;
+    brc_status s = BRC_OK;
+    for (int64_t i = 3000; s == BRC_OK; i++) s = brc_new_int(&threads[READY], i, &made);
+    settle(s, BRC_HEAP_FULL);
+    while (brc_count(&threads[FULL]) < REFERENCES) none(&threads[FULL]);
+}
+
+static void build(void) {
+    begin("build", "the heap of all calls by numbers");
+    MUST(brc_heap_new(&second.at, 512, 1, 1024));
+    MUST(brc_thread_open(&second, &second_thread));
+    MUST(brc_new_int(&second_thread, 1000, &elsewhere));
+    MUST(brc_heap_open(&heap, 512));
+    for (int who = READY; who < WHO; who++) MUST(brc_thread_open(&heap, &threads[who]));
+    make_objects(&threads[READY], held[READY]);
+    share();
+    for (int who = READY; who < WHO; who++) spend((who_t)who);
+    MUST(brc_release_all(&threads[LEFT]));
+    leave(&threads[LEFT]);
+    for (object_t it = EMPTY_LIST; it < INT; it += 3) {
+        fill_what_is_had(it + 1);
+        fill(it + 2);
+    }
+    fill_heap_and_frame();
+    tighten(READY, 8);
+    tighten(TIGHT, 0);
+    brc_poll(&threads[READY]);
+}
+
+static void take_down(void) {
+    brc_thread *t = &threads[READY];
+    brc_ref globals, value;
+    uint64_t live, cycles;
+    begin("take down", "the heap of all calls by numbers");
+    MUST(brc_globals(t, &globals));
+    for (int i = 0; i < OBJECTS; i++) {
+        MUST(brc_dict_del_int(t, globals, i, &value));
+        MUST(brc_release(t, value));
+    }
+    for (int who = READY; who < LEFT; who++) MUST(brc_release_all(&threads[who]));
+    for (int who = READY; who < WHO; who++) {
+        if (who != LEFT) leave(&threads[who]);
+        brc_thread_drop(threads[who]);
+    }
+    MUST(brc_heap_close(&heap, &live, &cycles));
+    CHECK(live == 0 && cycles == 0);
+    brc_heap_drop(heap);
+    brc_heap_drop(second);
+    brc_thread_drop(second_thread);
+    CHECK(blocks == 0);
+}
+
+/* ---- They are played */
+
+/* What is seen of an object by one thread: whether its number names it, and how many entries, or which number, it has. */
+typedef struct {
+    brc_status named, was_named;
+    brc_kind kind;
+    size_t len;
+    int64_t number;
+} object_look_t;
+
+typedef struct {
+    size_t counts[WHO];
+    uint64_t ledgers[WHO][2], allocs, frees;
+    uint32_t registered, left;
+    object_look_t objects[WHO][OBJECTS];
+    int64_t first_of_list, first_of_dict;
+    long blocks;
+} look_t;
+
+static void look_at(who_t who, object_t object, object_look_t *to) {
+    brc_thread *t = &threads[who];
+    uint32_t is_same;
+    to->named = brc_kind_of(t, held[who][object], &to->kind);
+    to->was_named = brc_same(t, spent[who][object], spent[who][object], &is_same);
+    if (object < INT) (void)brc_len_of(t, held[who][object], &to->len);
+    if (object == INT) (void)brc_int_of(t, held[who][object], &to->number);
+}
+
+static void look(look_t *to) {
+    brc_ref first;
+    memset(to, 0, sizeof *to);
+    for (int who = READY; who < WHO; who++) {
+        to->counts[who] = brc_count(&threads[who]);
+        (void)brc_ledger(&threads[who], &to->ledgers[who][0], &to->ledgers[who][1]);
+        for (int i = 0; i < OBJECTS; i++) look_at((who_t)who, (object_t)i, &to->objects[who][i]);
+    }
+    MUST(brc_list_get(&threads[READY], held[READY][LIST], 0, &first));
+    MUST(brc_int_of(&threads[READY], first, &to->first_of_list));
+    MUST(brc_release(&threads[READY], first));
+    MUST(brc_dict_find_int(&threads[READY], held[READY][DICT], 0, &first));
+    MUST(brc_int_of(&threads[READY], first, &to->first_of_dict));
+    MUST(brc_release(&threads[READY], first));
+    MUST(brc_heap_counts(&heap, &to->registered, &to->left, &to->allocs, &to->frees));
+    to->blocks = blocks;
+}
+
+static brc_ref number_of(who_t who, number_t which, object_t object) {
+    switch (which) {
+    case ZERO: return BRC_NONE;
+    case THEIRS: return held[who == READY ? FULL : READY][object];
+    case ELSEWHERE: return elsewhere;
+    case SPENT: return spent[who][object];
+    case AWAY: return away[who];
+    default: return held[who][object];
+    }
+}
+
+static object_t object_of(const about_t *about, const row_t *row) { return about->of[row->one < WRONG ? 0 : row->one - WRONG]; }
+
+static inputs_t inputs_of(const about_t *about, const row_t *row) {
+    static const char *const TEXT_KEYS[] = {"key", "another key", "another key", "\xff"};
+    const object_t object = object_of(about, row);
+    inputs_t in;
+    size_t len = 0;
+    if (object < INT) MUST(brc_len_of(&threads[READY], held[READY][object], &len));
+    in.one = number_of(row->who, row->one, object);
+    in.other = row->other == TWICE ? in.one : number_of(row->who, row->other, INT);
+    in.key = row->at == FIRST ? 0 : -1;
+    in.index = row->at == FIRST ? 0 : row->at == ABSENT ? (uint32_t)len : UINT32_MAX;
+    in.bytes = (const uint8_t *)TEXT_KEYS[row->at];
+    in.len = strlen(TEXT_KEYS[row->at]);
+    return in;
+}
+
+/* The call, whose status must be this one. */
+static void expect(const about_t *about, const row_t *row, const inputs_t *in, brc_status wanted) {
+    outs_t out;
+    brc_status s;
+    memset(&out, UNWRITTEN, sizeof out);
+    given = row->given;
+    s = make_call(about->call, &threads[row->who], in, &out);
+    given = ALL;
+    settle(s, wanted);
+    CHECK(s == BRC_OK || is_unwritten(&out, sizeof out));
+}
+
+/* One of TIGHT's calls is stopped with the object locked. Returns whether it has it locked: so says another call. */
+static int hold_object(hold_t *h, object_t object) {
+    brc_kind kind;
+    MUST(brc_kind_of(&threads[TIGHT], held[TIGHT][object], &kind));
+    hold(h, &threads[TIGHT], kind, held[TIGHT][object]);
+    return brc_kind_of(&threads[READY], held[READY][object], &kind) == BRC_BUSY;
+}
+
+/* Statuses that come before BUSY, if the call has it: so they are wanted while the object is locked. */
+static int comes_first(brc_status s) {
+    return s == BRC_GONE || s == BRC_NOT_TEXT || s == BRC_FOREIGN || s == BRC_STALE || s == BRC_SAME || s == BRC_BUSY;
+}
+
+static void play(const about_t *about, const row_t *row) {
+    look_t before, after;
+    hold_t h;
+    inputs_t in;
+    int is_seen = 1;
+    begin_row(about->name, row->what);
+    in = inputs_of(about, row);
+    look(&before);
+    if (comes_first(row->wanted)) {
+        is_seen = hold_object(&h, object_of(about, row)) || row->wanted != BRC_BUSY;
+        expect(about, row, &in, is_seen ? row->wanted : row->otherwise);
+        let_go(&h);
+    }
+    if (row->wanted == BRC_BUSY) expect(about, row, &in, row->otherwise);
+    else expect(about, row, &in, row->wanted);
+    look(&after);
+    CHECK(memcmp(&before, &after, sizeof before) == 0);
+    if (!is_seen) not_seen();
+}
+
+static void play_all(void) {
+    for (size_t i = 0; i < sizeof ABOUT / sizeof ABOUT[0]; i++)
+        for (int k = 0; ABOUT[i].parts[k] != NULL; k++)
+            for (const row_t *row = ABOUT[i].parts[k]; row->what != NULL; row++) play(&ABOUT[i], row);
+}
+
+/* Calls that are never BUSY, while the text and the register are locked. */
+static void play_unlocked(void) {
+    brc_thread *t = &threads[READY];
+    const brc_ref text = held[READY][TEXT];
+    brc_ref more;
+    uint64_t allocs, frees;
+    uint32_t word;
+    hold_t h, registers;
+    begin_row("brc_retain", "another thread has the object");
+    if (!hold_object(&h, TEXT)) not_seen();
+    hold(&registers, &threads[FULL], 0, BRC_NONE);
+    MUST(brc_retain(t, text, &more));
+    MUST(brc_same(t, text, more, &word));
+    CHECK(word == 1);
+    settle(brc_truth_of(t, text, &word), BRC_WRONG_KIND);
+    MUST(brc_release(t, more));
+    settle(brc_release(t, more), BRC_STALE);
+    MUST(brc_release(t, none(t)));
+    settle(brc_new_int(t, 1000, &more), BRC_HEAP_FULL);
+    settle(brc_release_all(&threads[LEFT]), BRC_GONE);
+    MUST(brc_ledger(t, &allocs, &frees));
+    MUST(brc_claim(t, 0, 0));
+    CHECK(brc_poll(t) == 0 && brc_work(t, 7) == 7);
+    let_go(&registers);
+    let_go(&h);
+}
+
+/* ---- Heaps and threads */
+
+/* How a heap is, as a set. It has two threads, or 64. The first may have a reference, or a dead list to take apart, or it has
+ * left. Or all have left, and a list that holds itself remains. Then the heap may be closed, or have ended without a report.
+ * HELD: a call of the second thread has the register. */
+enum { OPEN = 0, MANY = 1, REFERENCE = 2, DEAD = 4, ONE_LEFT = 8, ALL_LEFT = 16, CLOSED = 32, ENDED = 64, HELD = 128 };
+
+typedef struct {
+    brc_heap heap;              /* with NULL in it once it is dropped, as a thread's variable */
+    brc_thread threads[MOST_THREADS + 1];
+    int count;
+    uint64_t live;              /* how many objects remain */
+    brc_status closes;          /* what brc_heap_close must return once all threads have left */
+} life_t;
+
+typedef enum { COUNTS, CLOSE, REPORT, NEW, FORK, LEAVE } heap_call_t;
+
+typedef struct {
+    brc_thread made;
+    uint32_t registered, left;
+    uint64_t allocs, frees, live, cycles;
+    size_t len;
+    uint8_t text[32];
+} heap_outs_t;
+
+static brc_status call_heap(life_t *l, heap_call_t call, long may_have, heap_outs_t *out) {
+    brc_status s;
+    memset(out, UNWRITTEN, sizeof *out);
+    given = may_have;
+    switch (call) {
+    case COUNTS: s = brc_heap_counts(&l->heap, &out->registered, &out->left, &out->allocs, &out->frees); break;
+    case CLOSE: s = brc_heap_close(&l->heap, &out->live, &out->cycles); break;
+    case REPORT: s = brc_heap_report(&l->heap, 0, out->text, sizeof out->text, &out->len); break;
+    case NEW: s = brc_thread_new(&l->heap, &out->made.at); break;
+    case FORK: s = brc_thread_fork(&l->threads[0], &out->made.at); break;
+    default: s = brc_thread_leave(&l->threads[0]); break;
+    }
+    given = ALL;
+    return s;
+}
+
+/* The call, whose status must be this one. A refused one has written nothing. */
+static void expect_heap(life_t *l, heap_call_t call, long may_have, brc_status wanted) {
+    heap_outs_t out;
+    settle(call_heap(l, call, may_have, &out), wanted);
+    CHECK(wanted == BRC_OK || is_unwritten(&out, sizeof out));
+}
+
+static void make_dead_list(brc_thread *t) {
+    brc_ref list;
+    MUST(brc_new_list(t, &list));
+    for (int i = 0; i < DEAD_ENTRIES; i++) MUST(brc_list_push(t, list, none(t)));
+    MUST(brc_release(t, list));
+}
+
+static void leak(life_t *l) {
+    brc_thread *t = &l->threads[0];
+    brc_ref list, more;
+    MUST(brc_new_list(t, &list));
+    MUST(brc_retain(t, list, &more));
+    MUST(brc_list_push(t, list, more));
+    MUST(brc_release(t, list));
+    l->live = 1;
+}
+
+static void arrange(life_t *l, int how) {
+    brc_ref made;
+    memset(l, 0, sizeof *l);
+    MUST(brc_heap_open(&l->heap, 512));
+    l->count = how & MANY ? MOST_THREADS : 2;
+    for (int i = 0; i < l->count; i++) MUST(brc_thread_open(&l->heap, &l->threads[i]));
+    if (how & REFERENCE) MUST(brc_new_int(&l->threads[0], 1000, &made));
+    if (how & DEAD) make_dead_list(&l->threads[0]);
+    if (how & ONE_LEFT) leave(&l->threads[0]);
+    if (how & MANY && how & ONE_LEFT) MUST(brc_thread_open(&l->heap, &l->threads[l->count++]));
+    if (how & (ALL_LEFT | CLOSED | ENDED)) {
+        leak(l);
+        for (int i = 0; i < l->count; i++) leave(&l->threads[i]);
+    }
+    if (how & CLOSED) expect_heap(l, CLOSE, ALL, BRC_OK);
+    if (how & ENDED) expect_heap(l, CLOSE, NONE, BRC_OUT_OF_MEMORY);
+    l->closes = how & ENDED ? BRC_GONE : BRC_OK;
+}
+
+/* A call of the second thread is stopped with the register. Returns whether it has it: so says another call. */
+static int hold_register(life_t *l, hold_t *h) {
+    heap_outs_t out;
+    hold(h, &l->threads[1], 0, BRC_NONE);
+    return call_heap(l, COUNTS, ALL, &out) == BRC_BUSY;
+}
+
+static void drop(brc_thread *t) {
+    brc_thread_drop(*t);
+    t->at = NULL;
+}
+
+/* The threads leave, and the heap is closed and dropped. */
+static void end_life(life_t *l) {
+    heap_outs_t out;
+    for (int i = 0; i < l->count; i++) {
+        if (l->threads[i].at == NULL) continue;
+        if (brc_release_all(&l->threads[i]) == BRC_OK) leave(&l->threads[i]);
+        drop(&l->threads[i]);
+    }
+    if (l->heap.at == NULL) return;
+    settle(call_heap(l, CLOSE, ALL, &out), l->closes);
+    CHECK(l->closes != BRC_OK || (out.live == l->live && out.cycles == l->live));
+    brc_heap_drop(l->heap);
+}
+
+typedef struct {
+    brc_status counted, reported[2];
+    uint32_t registered, left;
+    uint64_t allocs, frees, ledgers[2][2];
+    size_t counts[2];
+    long blocks;
+} life_look_t;
+
+static void look_at_life(life_t *l, life_look_t *to) {
+    memset(to, 0, sizeof *to);
+    to->counted = brc_heap_counts(&l->heap, &to->registered, &to->left, &to->allocs, &to->frees);
+    for (int i = 0; i < 2; i++) {
+        to->counts[i] = brc_count(&l->threads[i]);
+        to->reported[i] = brc_ledger(&l->threads[i], &to->ledgers[i][0], &to->ledgers[i][1]);
+    }
+    to->blocks = blocks;
+}
+
+/* BUSY and TOO_MANY_THREADS can't hold at once: only a call that registers a thread can be stopped with the register. */
+typedef struct {
+    const char *name, *what;
+    int how;
+    heap_call_t call;
+    long given;
+    brc_status wanted, otherwise;
+} life_row_t;
+
+static const life_row_t LIVES[] = {
+    {"brc_heap_counts", "the heap is closed", CLOSED, COUNTS, NONE, BRC_GONE, 0},
+    {"brc_heap_counts", "the heap has ended without a report", ENDED, COUNTS, NONE, BRC_GONE, 0},
+    {"brc_heap_counts", "another call has the register", HELD, COUNTS, NONE, BRC_BUSY, BRC_OK},
+
+    {"brc_heap_close", "the heap has ended without a report", ENDED, CLOSE, NONE, BRC_GONE, 0},
+    {"brc_heap_close", "another call has the register, and threads haven't left", HELD, CLOSE, NONE, BRC_BUSY, BRC_MISSING},
+    {"brc_heap_close", "a thread hasn't left", ONE_LEFT, CLOSE, NONE, BRC_MISSING, 0},
+    {"brc_heap_close", "no memory for the report", ALL_LEFT, CLOSE, NONE, BRC_OUT_OF_MEMORY, 0},
+
+    {"brc_heap_report", "the heap isn't closed", OPEN, REPORT, NONE, BRC_NOT_IDLE, 0},
+    {"brc_heap_report", "the heap isn't closed, and all have left", ALL_LEFT, REPORT, NONE, BRC_NOT_IDLE, 0},
+    {"brc_heap_report", "the heap has ended without a report", ENDED, REPORT, NONE, BRC_GONE, 0},
+    {"brc_heap_report", "no memory for the text", CLOSED, REPORT, NONE, BRC_OUT_OF_MEMORY, 0},
+
+    {"brc_thread_new", "the heap is closed, and no memory", CLOSED, NEW, NONE, BRC_OUT_OF_MEMORY, 0},
+    {"brc_thread_new", "the heap is closed", CLOSED, NEW, ROOM, BRC_GONE, 0},
+    {"brc_thread_new", "the heap has ended without a report", ENDED, NEW, ROOM, BRC_GONE, 0},
+    {"brc_thread_new", "no memory for numbers, and another call has the register", HELD, NEW, ROOM, BRC_OUT_OF_MEMORY, 0},
+    {"brc_thread_new", "half the memory for numbers, and 64 threads", MANY, NEW, NUMBERS - 1, BRC_OUT_OF_MEMORY, 0},
+    {"brc_thread_new", "another call has the register", HELD, NEW, NUMBERS, BRC_BUSY, BRC_OUT_OF_MEMORY},
+    {"brc_thread_new", "64 threads", MANY, NEW, NUMBERS, BRC_TOO_MANY_THREADS, 0},
+    {"brc_thread_new", "memory for numbers only", OPEN, NEW, NUMBERS, BRC_OUT_OF_MEMORY, 0},
+    {"brc_thread_new", "memory for all but the last block", OPEN, NEW, THREAD - 1, BRC_OUT_OF_MEMORY, 0},
+
+    {"brc_thread_fork", "the thread has left, and no memory", ONE_LEFT | HELD, FORK, NONE, BRC_OUT_OF_MEMORY, 0},
+    {"brc_thread_fork", "the thread has left, and another call has the register", ONE_LEFT | HELD, FORK, ROOM, BRC_GONE, 0},
+    {"brc_thread_fork", "the thread has left, and there are 64 others", ONE_LEFT | MANY, FORK, ROOM, BRC_GONE, 0},
+    {"brc_thread_fork", "no memory for numbers, and another call has the register", HELD, FORK, ROOM, BRC_OUT_OF_MEMORY, 0},
+    {"brc_thread_fork", "half the memory for numbers, and 64 threads", MANY, FORK, NUMBERS - 1, BRC_OUT_OF_MEMORY, 0},
+    {"brc_thread_fork", "another call has the register", HELD, FORK, NUMBERS, BRC_BUSY, BRC_OUT_OF_MEMORY},
+    {"brc_thread_fork", "64 threads", MANY, FORK, NUMBERS, BRC_TOO_MANY_THREADS, 0},
+    {"brc_thread_fork", "memory for numbers only", OPEN, FORK, NUMBERS, BRC_OUT_OF_MEMORY, 0},
+    {"brc_thread_fork", "memory for all but the last block", OPEN, FORK, THREAD - 1, BRC_OUT_OF_MEMORY, 0},
+
+    {"brc_thread_leave", "the thread has left", ONE_LEFT | HELD, LEAVE, NONE, BRC_GONE, 0},
+    {"brc_thread_leave", "a reference, and a dead list to take apart", REFERENCE | DEAD | HELD, LEAVE, NONE, BRC_NOT_IDLE, 0},
+    {"brc_thread_leave", "a dead list to take apart", DEAD, LEAVE, NONE, BRC_BUSY, BRC_BUSY},
+    {"brc_thread_leave", "another call has the register", HELD, LEAVE, NONE, BRC_BUSY, BRC_OK},
+};
+
+/* Whether a call that was refused so may have changed something: brc.h names two. */
+static int may_change(const life_row_t *row) {
+    return (row->call == LEAVE && row->wanted == BRC_BUSY) || (row->call == CLOSE && row->wanted == BRC_OUT_OF_MEMORY);
+}
+
+static void play_life(const life_row_t *row) {
+    const long had = blocks;
+    life_t l;
+    life_look_t before, after;
+    hold_t h;
+    int is_seen = 1;
+    begin_row(row->name, row->what);
+    arrange(&l, row->how);
+    look_at_life(&l, &before);
+    if (row->how & HELD) is_seen = hold_register(&l, &h) || row->wanted != BRC_BUSY;
+    expect_heap(&l, row->call, row->given, is_seen ? row->wanted : row->otherwise);
+    if (row->how & HELD) let_go(&h);
+    look_at_life(&l, &after);
+    CHECK(may_change(row) || memcmp(&before, &after, sizeof before) == 0);
+    if (!is_seen) not_seen();
+    else if (row->wanted == BRC_BUSY) expect_heap(&l, row->call, row->given, row->otherwise);
+    if (row->call == CLOSE && row->wanted == BRC_OUT_OF_MEMORY) l.closes = BRC_GONE;
+    end_life(&l);
+    CHECK(blocks == had);
+}
+
+/* Sizes of a heap. */
+static const struct { const char *what; uint32_t cells, limit; brc_status wanted; } SIZES[] = {
+    {"no cells", 0, 1, BRC_BAD_OPTIONS},
+    {"511 cells", 511, 1, BRC_BAD_OPTIONS},
+    {"65,537 cells", 65537, 1, BRC_BAD_OPTIONS},
+    {"a local limit of 0", 512, 0, BRC_BAD_OPTIONS},
+    {"a local limit of 4,294,967,295", 65536, UINT32_MAX, BRC_BAD_OPTIONS},
+    {"no memory", 512, 1, BRC_OUT_OF_MEMORY},
+};
+
+static brc_status new_heap(uint32_t cells, uint32_t limit, long may_have, brc_heap *made) {
+    const long had = blocks;
+    brc_status s;
+    memset(made, UNWRITTEN, sizeof *made);
+    given = may_have;
+    s = brc_heap_new(&made->at, cells, limit, 0);
+    given = ALL;
+    CHECK(s == BRC_OK || (is_unwritten(made, sizeof *made) && blocks == had));
+    return s;
+}
+
+static void play_sizes(void) {
+    brc_heap made;
+    for (size_t i = 0; i < sizeof SIZES / sizeof SIZES[0]; i++) {
+        begin_row("brc_heap_new", SIZES[i].what);
+        settle(new_heap(SIZES[i].cells, SIZES[i].limit, NONE, &made), SIZES[i].wanted);
+    }
+}
+
+/* Each of the heap's allocations is refused, with all later ones. */
+static void opens_with_memory(void) {
+    brc_heap made;
+    brc_status s;
+    long n = 0;
+    while ((s = new_heap(512, 1, n, &made)) == BRC_OUT_OF_MEMORY && n < TRIES) n++;
+    MUST(s);
+    brc_heap_drop(made);
+}
+
+/* ---- Several calls, one after the other */
+
+static void is_of_the_page(void) { MUST(brc_version() == BRC_VERSION ? BRC_OK : NOT_SO); }
+
+static void closes_after_a_refusal(void) {
+    life_t l;
+    brc_ref made;
+    arrange(&l, OPEN);
+    expect_heap(&l, CLOSE, ALL, BRC_MISSING);
+    MUST(brc_new_int(&l.threads[0], 1000, &made));
+    expect_heap(&l, CLOSE, ALL, BRC_MISSING);
+    expect_heap(&l, REPORT, ALL, BRC_NOT_IDLE);
+    end_life(&l);
+}
+
+static void closes_twice(void) {
+    static const char first_line[] = "ledger 1 0 1\n";
+    life_t l;
+    heap_outs_t first, again;
+    arrange(&l, ALL_LEFT);
+    MUST(call_heap(&l, CLOSE, ALL, &first));
+    CHECK(first.live == 1 && first.cycles == 1);
+    MUST(call_heap(&l, CLOSE, NONE, &again));
+    CHECK(memcmp(&first, &again, sizeof first) == 0);
+    expect_heap(&l, COUNTS, ALL, BRC_GONE);
+    expect_heap(&l, NEW, ALL, BRC_GONE);
+    expect_heap(&l, REPORT, NONE, BRC_OUT_OF_MEMORY);
+    MUST(call_heap(&l, REPORT, ALL, &again));
+    CHECK(again.len >= sizeof again.text && memcmp(again.text, first_line, sizeof first_line - 1) == 0);
+    MUST(call_heap(&l, CLOSE, ALL, &again));
+    CHECK(memcmp(&first, &again, sizeof first) == 0);
+    end_life(&l);
+}
+
+static void ends_without_a_report(void) {
+    life_t l;
+    arrange(&l, ENDED);
+    expect_heap(&l, CLOSE, ALL, BRC_GONE);
+    expect_heap(&l, COUNTS, ALL, BRC_GONE);
+    expect_heap(&l, REPORT, ALL, BRC_GONE);
+    expect_heap(&l, NEW, ALL, BRC_GONE);
+    end_life(&l);
+}
+
+static void threads_work_on(void) {
+    life_t l;
+    brc_ref made;
+    brc_thread forked;
+    arrange(&l, OPEN);
+    brc_heap_drop(l.heap);
+    l.heap.at = NULL;
+    MUST(brc_new_int(&l.threads[0], 1000, &made));
+    MUST(brc_thread_fork(&l.threads[1], &forked.at));
+    settle(brc_release(&forked, made), BRC_FOREIGN);
+    leave(&forked);
+    brc_thread_drop(forked);
+    MUST(brc_release(&l.threads[0], made));
+    end_life(&l);
+}
+
+/* The second thread makes two objects. The first finds one of them, and is its only holder once the second is dropped. */
+static void drops_its_references(void) {
+    life_t l;
+    brc_thread *one, *two;
+    brc_ref globals, made, found, old;
+    int64_t value;
+    heap_outs_t out;
+    arrange(&l, OPEN);
+    one = &l.threads[0];
+    two = &l.threads[1];
+    MUST(brc_globals(two, &globals));
+    MUST(brc_new_int(two, 1000, &made));
+    MUST(brc_dict_put_int(two, globals, 1, made, &old));
+    MUST(brc_new_list(two, &made));
+    MUST(brc_list_push(two, made, none(two)));
+    MUST(brc_globals(one, &globals));
+    MUST(brc_dict_del_int(one, globals, 1, &found));
+    drop(two);
+    MUST(brc_int_of(one, found, &value));
+    CHECK(value == 1000);
+    MUST(call_heap(&l, COUNTS, ALL, &out));
+    CHECK(out.registered == 2 && out.left == 1 && out.allocs == 2);
+    end_life(&l);
+}
+
+static void drops_what_has_left(void) {
+    life_t l;
+    heap_outs_t before, after;
+    arrange(&l, ONE_LEFT);
+    MUST(call_heap(&l, COUNTS, ALL, &before));
+    drop(&l.threads[0]);
+    MUST(call_heap(&l, COUNTS, ALL, &after));
+    CHECK(memcmp(&before, &after, sizeof before) == 0);
+    end_life(&l);
+}
+
+static void drops_what_cannot_leave(void) {
+    life_t l;
+    hold_t h;
+    arrange(&l, REFERENCE);
+    if (hold_register(&l, &h)) l.closes = BRC_MISSING;
+    else not_seen();
+    drop(&l.threads[0]);
+    let_go(&h);
+    end_life(&l);
+}
+
+/* A thread on its way out reports its ledger until it has left. */
+static void reports_its_ledger(void) {
+    life_t l;
+    hold_t h;
+    uint64_t allocs = 0, frees = 0;
+    arrange(&l, OPEN);
+    make_dead_list(&l.threads[0]);
+    while (brc_work(&l.threads[0], 4096) == 0) { }
+    if (hold_register(&l, &h)) {
+        expect_heap(&l, LEAVE, ALL, BRC_BUSY);
+        MUST(brc_ledger(&l.threads[0], &allocs, &frees));
+        CHECK(allocs == 1 && frees == 1);
+    } else {
+        not_seen();
+    }
+    let_go(&h);
+    leave(&l.threads[0]);
+    settle(brc_ledger(&l.threads[0], &allocs, &frees), BRC_GONE);
+    end_life(&l);
+}
+
+static void *leaver(void *at) {
+    leave(at);
+    return NULL;
+}
+
+/* The register says that the last thread has left, and its last call runs still. */
+static void runs_a_last_call(void) {
+    int is_seen = 0;
+    for (int i = 0; i < 100 && !is_seen; i++) {
+        life_t l;
+        heap_outs_t out;
+        brc_status s;
+        pthread_t machine;
+        arrange(&l, OPEN);
+        leave(&l.threads[1]);
+        CHECK(pthread_create(&machine, NULL, leaver, &l.threads[0]) == 0);
+        while ((s = call_heap(&l, COUNTS, ALL, &out)) == BRC_BUSY || (s == BRC_OK && out.left < 2)) sched_yield();
+        MUST(s);
+        s = call_heap(&l, CLOSE, ALL, &out);
+        is_seen = s == BRC_BUSY;
+        if (!is_seen) MUST(s);
+        CHECK(pthread_join(machine, NULL) == 0);
+        end_life(&l);
+    }
+    if (!is_seen) not_seen();
+}
+
+static const struct { const char *name, *what; void (*play)(void); } STEPS[] = {
+    {"brc_version", "the library is that of the page", is_of_the_page},
+    {"brc_heap_new", "no memory for one of its blocks", opens_with_memory},
+    {"brc_heap_close", "a thread is there, and then it leaves", closes_after_a_refusal},
+    {"brc_heap_close", "a closed heap is closed again", closes_twice},
+    {"brc_heap_close", "no memory, and the calls after it", ends_without_a_report},
+    {"brc_heap_close", "a thread's last call runs", runs_a_last_call},
+    {"brc_heap_drop", "threads work on without the heap's variable", threads_work_on},
+    {"brc_thread_drop", "the thread has references", drops_its_references},
+    {"brc_thread_drop", "the thread has left", drops_what_has_left},
+    {"brc_thread_drop", "the thread can't leave", drops_what_cannot_leave},
+    {"brc_ledger", "the thread is on its way out", reports_its_ledger},
+};
+
+int main(void) {
+    clock_gettime(CLOCK_REALTIME, &deadline);
+    deadline.tv_sec += SECONDS;
+    build();
+    play_all();
+    play_unlocked();
+    take_down();
+    play_sizes();
+    for (size_t i = 0; i < sizeof LIVES / sizeof LIVES[0]; i++) play_life(&LIVES[i]);
+    for (size_t i = 0; i < sizeof STEPS / sizeof STEPS[0]; i++) {
+        begin_row(STEPS[i].name, STEPS[i].what);
+        STEPS[i].play();
+        CHECK(blocks == 0);
+    }
+    begin("main", "each call has a row");
+    CHECK(calls == CALLS);
+    printf("%d calls, %d rows\n", calls, rows);
+    return 0;
+}
