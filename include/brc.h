@@ -54,8 +54,9 @@
  * Busy. BRC_BUSY says that another thread's call has this object locked at this moment, or the heap's
  * register of threads. No lock is kept between two calls. Call again, with a poll between: BRC_WAIT.
  *
- * Poll and work. The thread that made an object counts its references without atomic exchanges. Other
- * threads can ask it to settle an object's count. brc_poll does what was asked. Call it where the
+ * Poll and work. The thread that made an object counts its references without locked instructions, in
+ * its own memory: there alone a debugger or a core dump finds that count. Other threads count beside
+ * the object, and can ask that thread to settle its count. brc_poll does what was asked. Call it where the
  * interpreter checks for signals, and before it blocks for long. A dead object is taken apart by
  * brc_work, a bounded number of turns a call. Call it at the same places, with 64 turns, say. The
  * cell of a dead object is free only then. A thread that never works fills the heap: see BRC_MAKE.

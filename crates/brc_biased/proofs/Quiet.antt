@@ -6,7 +6,7 @@ use Rattle.brc_table.specs.law.declared.world.event.LastDropped.TheVariants as l
 use Rattle.brc_table.specs.law.declared.world.event.Step.{Step}
 use Rattle.brc_table.specs.law.declared.world.event.Step.TheVariants.{LocalDown, SeeZero, Untie, MergeZero, SharedDown, Ask}
 use Rattle.brc_table.specs.law.declared.world.event.Step.TheVariants.{LastDown, Enqueue, MergeAdd, Nudge}
-use Rattle.brc_table.specs.law.declared.known.word.Field.TheVariants.{Owner, Local, Shared}
+use Rattle.brc_table.specs.law.declared.known.word.Field.TheVariants.{Owner, Shared}
 use Rattle.brc_table.specs.law.declared.known.word.Word.TheVariants.{Of}
 use Rattle.brc_table.specs.law.declared.rule.told.Moved.TheVariants.{Nothing}
 use Rattle.brc_table.specs.law.declared.rule.told.LogItem.{LogItem}
@@ -116,10 +116,8 @@ module _ {A : Type 0} where
   settled_quietly c block before log (SettledMerging word other merges) =
       let first : List LogItem = Loaded (Of Shared c) word ∷ before in
       let second : List LogItem = Stepped (Untie c) 0 Nothing ∷ first in
-      let third : List LogItem = Loaded (Of Local c) merges.local ∷ second in
       and_more (Loaded (Of Shared c) word) before log refl
       (and_more (Stepped (Untie c) 0 Nothing) first log refl
-      (and_more (Loaded (Of Local c) merges.local) second log refl
-      (and_more (Stepped (MergeAdd c) merges.shared Nothing) third log refl
-      (ends_quietly (LastDown (lasts.Popped c)) c block (Stepped (MergeAdd c) merges.shared Nothing ∷ third) log refl
-      merges.ends))))
+      (and_more (Stepped (MergeAdd c) merges.shared Nothing) second log refl
+      (ends_quietly (LastDown (lasts.Popped c)) c block (Stepped (MergeAdd c) merges.shared Nothing ∷ second) log refl
+      merges.ends)))

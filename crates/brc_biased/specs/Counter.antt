@@ -21,8 +21,8 @@ heap_of seat cells limit = record { table = seat.table; cells = cells; local_lim
 abbrev pub CountsMore : ℕ → List LogItem → ℕ → Type 0
 CountsMore n log c = (FIRST_MORTAL ≤ c) × (1 < counts_seen n log c)
 
--- The number kept for a mortal cell is the thread's local count of it, as its log tells it: 0 where it doesn't count
--- there on the local word. The number kept for an immortal is above each limit, as its local word is.
+-- The number kept for a mortal cell is the thread's local count of it, as its log tells it: 0 where the thread has none.
+-- The number kept for an immortal is above each limit (PEP 703, "Immortal objects").
 pub record CountsFit (n : ℕ) (log : List LogItem) (counts : List ℕ) : Type 0 where
   pub wide : length counts ≡ n
   pub immortal : (c : ℕ) → c < FIRST_MORTAL → c < n → slice_index counts c ≡ IMMORTAL_LOCAL

@@ -10,7 +10,7 @@ use Rattle.brc_table.specs.law.declared.world.event.Step.{Step}
 use Rattle.brc_table.specs.law.declared.world.event.Step.TheVariants.{LocalDown, SeeZero, Untie, MergeZero, SharedDown, Ask}
 use Rattle.brc_table.specs.law.declared.world.event.Step.TheVariants.{LastDown, Enqueue, MergeAdd, Nudge, Offer}
 use Rattle.brc_table.specs.law.world.Steps.{takes_block}
-use Rattle.brc_table.specs.law.declared.known.word.Field.TheVariants.{Owner, Local, Shared}
+use Rattle.brc_table.specs.law.declared.known.word.Field.TheVariants.{Owner, Shared}
 use Rattle.brc_table.specs.law.declared.known.word.Word.TheVariants.{Of}
 use Rattle.brc_table.specs.law.known.Items.{cell_told, is_shut_word}
 use Rattle.brc_table.specs.law.known.Taken.{listed_at}
@@ -67,7 +67,7 @@ module _ {A : Type 0} where
     AskTurned : (found : ℕ) → found % ONE_COUNT ≡ 0 → Asked c block (Stepped (Ask drop) found Nothing ∷ before) log
         → Asks drop c block before log
 
-  -- A reference to an object on whose local word the thread doesn't count. Its shared word was found queued or merged;
+  -- A reference to an object of which the thread has no local count. Its shared word was found queued or merged;
   -- or it is in default and has a count, which goes down; or the thread asks, for one of two reasons: the count was 0
   -- or below, or the word moved between the look and the exchange.
   pub data GoesShared (drop : Dropped) (c : ℕ) (block : Option (ℕ × Payload A))
@@ -94,8 +94,8 @@ module _ {A : Type 0} where
     OwnEnded : counts_seen n before c ≡ 1 → EndedOwn c block (Stepped (LocalDown drop) 0 Nothing ∷ before) log
         → GoesOwn n drop c block before log
 
-  -- All lists of a release: of an immortal; of an own object; and, where the thread doesn't count the object on its
-  -- local word, of one that was seen queued or merged, or by a look at its shared word.
+  -- All lists of a release: of an immortal; of an own object; and, where the thread has no local count of the object,
+  -- of one that was seen queued or merged, or by a look at its shared word.
   pub data Released (n : ℕ) (drop : Dropped) (c : ℕ) (seen : Bool) (block : Option (ℕ × Payload A))
       (before log : List LogItem) : Type 0 where
     ReleaseImmortal : (found : ℕ) → c < FIRST_MORTAL → block ≡ None
@@ -111,20 +111,16 @@ module _ {A : Type 0} where
 
   -- a popped entry of an object that isn't merged: the thread merges, and counts the entry's reference down
   pub record MergesPopped (c : ℕ) (block : Option (ℕ × Payload A)) (before log : List LogItem) : Type 0 where
-    pub local : ℕ
     pub shared : ℕ
     pub ends : EndsByStep (LastDown (lasts.Popped c)) c block
-        (Stepped (MergeAdd c) shared Nothing ∷ Loaded (Of Local c) local ∷ Stepped
-        (Untie c) 0 Nothing ∷ before) log
+        (Stepped (MergeAdd c) shared Nothing ∷ Stepped (Untie c) 0 Nothing ∷ before) log
 
   -- An own object is handed over: it is offered, made nobody's, and its local count joins the shared one, by which it
   -- may end.
   pub record HandsOver (c : ℕ) (block : Option (ℕ × Payload A)) (before log : List LogItem) : Type 0 where
     pub offered : ℕ
-    pub local : ℕ
     pub ends : EndsByStep (MergeAdd c) c block
-        (Loaded (Of Local c) local ∷ Stepped (Untie c) 0 Nothing ∷ Stepped (Offer c) offered
-        Nothing ∷ before) log
+        (Stepped (Untie c) 0 Nothing ∷ Stepped (Offer c) offered Nothing ∷ before) log
 
   -- a popped entry is counted down, after its object was found merged or is merged by the thread
   pub data Settled (c : ℕ) (block : Option (ℕ × Payload A)) (before log : List LogItem) : Type 0 where

@@ -17,12 +17,12 @@ pub record Raising (n : ℕ) (log : List LogItem) (source : Source) (k c : ℕ) 
   pub own : own_may n (part_seen n log) (LocalUp source k) ≡ true
   pub cell : meant (part_seen n log) (LocalUp source k) ≡ Some c
 
--- the thread counts the cell on its local word, and may go on
+-- the thread has a local count of the cell, and may go on
 pub record CountsHere (n limit : ℕ) (log : List LogItem) (c : ℕ) : Type 0 where
   pub some_count : 0 < counts_seen n log c
   pub below : counts_seen n log c < limit
 
--- the log has one step more, on a local word, which was told some number
+-- the log has one step more, of an immortal, which was told some number
 pub record RaisedImmortal (source : Source) (k : ℕ) (before log : List LogItem) : Type 0 where
   pub found : ℕ
   pub told : log ≡ Stepped (LocalUp source k) found Nothing ∷ before

@@ -89,17 +89,13 @@ impl<H: HasTable<A>, A: Allocator> Counter<H, A> {
         let _offered = table.offer(&mut self.seat, cell);
         table.untie_offered(&mut self.seat, cell);
 
-        // Who asks from here on finds nobody, and counts down itself. Nobody else writes the local word, so it stays as it
-        // is looked at.
-        let _limit = table.local_limit();
-        let local = table.load_local(&mut self.seat, cell);
-
-        // Others may have counted down below 0 since the offer: the sum finds their counts. If it is 0, the block is
-        // this thread's.
+        // Who asks from here on finds nobody, and counts down itself. Others may have counted down below 0 since the offer:
+        // the sum finds their counts. If it is 0, the block is this thread's.
+        let local = self.counts[cell as usize];
         let Found {
             number: _number,
             block,
-        } = table.merge_yielding(&mut self.seat, cell, local as u32);
+        } = table.merge_yielding(&mut self.seat, cell, local);
         self.counts[cell as usize] = 0;
         clear_owned(&mut self.owned, cell);
         block

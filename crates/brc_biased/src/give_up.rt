@@ -28,8 +28,8 @@ use std::alloc::Allocator;
 
 impl<H: HasTable<A>, A: Allocator> Counter<H, A> {
     /// The thread's count of a mortal object, if it is more than one: then a reference to it goes in one event
-    /// (`give_up_counted`). None of an immortal object, of the thread's only count, or if the thread doesn't count it on
-    /// the local word.
+    /// (`give_up_counted`). None of an immortal object, of the thread's only count, or if the thread has no local
+    /// count of it.
     #[inline(always)]
     pub fn several(&self, cell: u32) -> Option<u32>
         requires inside { cell < self.now.heap.cells }
@@ -47,8 +47,7 @@ impl<H: HasTable<A>, A: Allocator> Counter<H, A> {
 
     #[tactic(auto, using(crate::proofs::Owning::owns_less))]
     /// Gives a reference up that is one of several which the thread counts, in one event; so the object lives on. The
-    /// count is what `several` has said. So whoever calls can put its own memory in order between the two: what is
-    /// loaded after the word's store waits for it.
+    /// count is what `several` has said. So whoever calls can put its own memory in order between the two.
     #[inline(always)]
     pub fn give_up_counted(&mut self, drop: Dropped, cell: u32, count: u32)
         requires inside { cell < self.old.heap.cells }
@@ -128,7 +127,7 @@ impl<H: HasTable<A>, A: Allocator> Counter<H, A> {
             }
             return release_shared(table, &mut self.seat, drop, cell);
         }
-        // The thread's own memory comes first: what is loaded after the word's store waits for it.
+        // The thread's own memory comes first, as in `up`.
         self.counts[cell as usize] = count - 1;
         release_own(table, &mut self.seat, &mut self.owned, drop, cell, count)
     }

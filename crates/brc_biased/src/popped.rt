@@ -1,6 +1,7 @@
 //! A popped entry: a reference that went through the thread's merge queue, and is the thread's to deal with.
 
-ghost use Rattle.std.specs.Prelude.{◌≡◌, ◌<◌, ◌%◌, ◌≢◌, ◌==◌, ℕ, if◌then◌else◌, IfSome, Some, true, false};
+ghost use Rattle.std.specs.Prelude.{◌≡◌, ◌<◌, ◌≤◌, ◌%◌, ◌≢◌, ◌==◌, ℕ, if◌then◌else◌, IfSome, Some, true, false};
+ghost use Rattle.brc_words.specs.declared.limits.TheConstants.{FIRST_MORTAL};
 ghost use Rattle.brc_words.specs.declared.look.TheConstants.{MERGED_BITS, ONE_COUNT};
 ghost use Rattle.brc_table.specs.law.world.Lists.{bit_of};
 ghost use Rattle.brc_table.specs.law.world.Steps.{is_active};
@@ -35,6 +36,7 @@ pub(crate) fn merge_popped<A: Allocator>(
     seat: &mut ThreadSeat<A>,
     cell: u32,
     shared: u64,
+    local: u32,
 ) -> Option<Block<A>>
     requires table { seat.old.table ≡ table.now.table }
     requires inside { cell < table.now.cells }
@@ -43,6 +45,7 @@ pub(crate) fn merge_popped<A: Allocator>(
     requires popped { bit_of (part_seen table.now.cells seat.old.log).popped cell ≡ 1 }
     requires found { noted fields.Shared cell seat.old.log ≡ Some shared }
     requires unmerged { shared % ONE_COUNT ≢ MERGED_BITS }
+    requires counted { FIRST_MORTAL ≤ cell → counts_seen table.now.cells seat.old.log cell ≡ local }
     ensures told { MergesPopped cell result seat.old.log seat.new.log }
     ensures block { IsTakenBlock table.now.cells cell result seat.old seat.new }
     ensures seat { Continues seat.old seat.new }
@@ -56,12 +59,8 @@ pub(crate) fn merge_popped<A: Allocator>(
     // first, since after the merge another thread may free the cell, and somebody may claim it.
     table.untie_popped(seat, cell, shared);
 
-    // Nobody else writes the local word, so it stays as it is looked at.
-    let _limit = table.local_limit();
-    let local = table.load_local(seat, cell);
-
     // Others may count up and down on the shared word before this sum; it finds their counts there.
-    let _shared = table.merge_add(seat, cell, local as u32);
+    let _shared = table.merge_add(seat, cell, local);
 
     // Whoever brings the merged count to 0 takes the block: this step, or one of another thread's after it.
     let Found {
@@ -105,7 +104,8 @@ impl<H: HasTable<A>, A: Allocator> Counter<H, A> {
             } = table.last_popped(&mut self.seat, cell, shared);
             return block;
         }
-        let block = merge_popped(table, &mut self.seat, cell, shared);
+        let local = self.counts[cell as usize];
+        let block = merge_popped(table, &mut self.seat, cell, shared, local);
 
         // No immortal goes through a queue, but no log says so.
         if FIRST_MORTAL <= cell {

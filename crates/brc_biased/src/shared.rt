@@ -1,4 +1,4 @@
-//! Releases by a thread that doesn't count the object on its local word.
+//! Releases by a thread that has no local count of the object.
 
 ghost use Rattle.std.specs.Prelude.{◌≡◌, ◌<◌, ◌≤◌, true};
 ghost use Rattle.brc_words.specs.declared.limits.TheConstants.{FIRST_MORTAL};

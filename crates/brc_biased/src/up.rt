@@ -20,9 +20,9 @@ use std::alloc::Allocator;
 
 impl<H: HasTable<A>, A: Allocator> Counter<H, A> {
     #[tactic(auto, using(crate::proofs::Owning::owns_more))]
-    /// Counts the cell up, in one event: an immortal by a look, an own object below the local limit on its local word,
-    /// and all else on the shared word (PEP 703, "Biased Reference Counting"). It answers whether the shared word was
-    /// found queued or merged, so that the reference's release needs no look.
+    /// Counts the cell up, in one event: an immortal's count stays, an own object below the local limit is counted in the
+    /// thread's own memory, and all else on the shared word (PEP 703, "Biased Reference Counting"). It answers whether the
+    /// shared word was found queued or merged, so that the reference's release needs no look.
     #[inline(always)]
     pub fn up(&mut self, source: Source, place: u32, cell: u32) -> bool
         requires inside { cell < self.old.heap.cells }
@@ -53,7 +53,7 @@ impl<H: HasTable<A>, A: Allocator> Counter<H, A> {
         let count = self.counts[cell as usize];
         let table = self.heap.table();
         if 0 < count && count < table.local_limit() {
-            // First, as in `give_up`.
+            // The thread's own memory comes first.
             self.counts[cell as usize] = count + 1;
             table.local_up(&mut self.seat, source, place, cell, count);
             return false;

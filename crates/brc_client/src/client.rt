@@ -241,7 +241,8 @@ impl Client {
         ensures unchanged { OnErr result (KeepsNumbers self.old self.new) }
     {
         let handle = find(&self.handles, &self.numbers, number)?;
-        // The number comes first: what is loaded after the object's word is stored waits for that.
+        // The number comes first: another thread's object is counted by a locked instruction, and later loads wait for
+        // it.
         let more = self.numbers.number(place);
         match self.mutator.frame().retain(handle) {
             Ok(given) => {

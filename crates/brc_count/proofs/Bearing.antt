@@ -2,7 +2,7 @@
 use Rattle.std.proofs.Common.{true≢false, ◌≡◌, ℕ, ◌+◌, ◌<◌, Bool, true, false, List, [], ◌∷◌, Option, Some, None, refl}
 use Rattle.std.proofs.Common.{sym, ◌∙◌, ap, subst, inl, inr}
 use Rattle.std.proofs.lemmas.Bool.{cases_eq, eq-eqb}
-use Rattle.slab.specs.Slab.{Slab, get, Updates}
+use Rattle.brc_count.specs.Places.{PlacesSeen, held_at, Updates, cell_held}
 use Rattle.atomic_table.specs.Table.{rest}
 use Rattle.brc_table.specs.block.declared.payload.Payload.{Payload}
 use Rattle.brc_table.specs.block.declared.payload.Payload.TheVariants as payloads
@@ -24,7 +24,7 @@ use Rattle.brc_table.specs.Seated.{TableSeen, SeatSeen}
 use Rattle.brc_biased.specs.Up.{KnowsPart}
 use Rattle.brc_count.specs.declared.held.PlaceEntry.{PlaceEntry}
 use Rattle.brc_count.specs.declared.ledger.Ledger.{Ledger}
-use Rattle.brc_count.specs.Frames.{Buried, Holding, locked_place, place_seen, cell_held}
+use Rattle.brc_count.specs.Frames.{Buried, Holding, locked_place, place_seen}
 use Rattle.brc_count.proofs.Buried.{put_else}
 use Rattle.brc_count.proofs.Changes.{none_held, nothing_locked, out_unlocked}
 
@@ -70,16 +70,16 @@ born_known n before mid log k c claimed born = born.part ∙ ap (λ (p : Part). 
   frame = filled p.frame k c;
 }) claimed.part
 
-module _ {A : Type 0} {heap : TableSeen} (before mid seat : SeatSeen A) {old places : Slab PlaceEntry}
+module _ {A : Type 0} {heap : TableSeen} (before mid seat : SeatSeen A) {old places : PlacesSeen}
     {works : List (ℕ × Payload A)} {popped : List ℕ} {ledger : Ledger} where
   placed_born : (k c : ℕ) → Holding A heap before old works popped ledger
       → part_seen heap.cells seat.log ≡ (filling k c (bearing c (known_seen heap.cells before.log))).part
       → Updates old places k (Some (record { cell = c; risen = false })) → (j : ℕ)
-      → place_seen heap.cells seat.log j ≡ cell_held (get places j)
+      → place_seen heap.cells seat.log j ≡ cell_held (held_at places j)
   placed_born k c keeps part updates j = ap (λ (p : Part). place_at p.frame j) part ∙ elim (cases_eq j k) [
     | inl same ↦ ap (place_at (filled (part_seen heap.cells before.log).frame k c)) same
         ∙ place_at-filled_here (part_seen heap.cells before.log).frame k c
-        ∙ sym (ap cell_held (ap (get places) same ∙ updates.changed))
+        ∙ sym (ap cell_held (ap (held_at places) same ∙ updates.changed))
     | inr other ↦ place_at-filled_else (part_seen heap.cells before.log).frame k c j other
         ∙ keeps.placed j ∙ sym (ap cell_held (updates.others j other))
   ]
@@ -92,7 +92,7 @@ module _ {A : Type 0} {heap : TableSeen} (before mid seat : SeatSeen A) {old pla
       → risen_seen heap.cells seat.log (drops.Frame j) q ≡ true)
       → mid.slots ≡ (c, None) ∷ before.slots → seat.slots ≡ rest mid.slots
       → listed_at (taken_seen heap.cells before.log) c ≡ None → c < heap.cells
-      → Updates old places k (Some (record { cell = c; risen = false })) → get old k ≡ None
+      → Updates old places k (Some (record { cell = c; risen = false })) → held_at old k ≡ None
       → locked_place heap.cells before.log ≡ None
       → Holding A heap seat places works popped (record ledger { allocs = ledger.allocs + 1 })
   after_birth k c keeps claimed born first second out home fresh low updates vacant unlocked =
@@ -104,7 +104,7 @@ module _ {A : Type 0} {heap : TableSeen} (before mid seat : SeatSeen A) {old pla
         risen = λ j held there is. elim (cases_eq j k) [
           | inl same ↦ absurd (true≢false
               (sym is ∙ ap (λ (x : PlaceEntry). x.risen)
-              (sym (same_held (sym updates.changed ∙ ap (get places) (sym same) ∙ there)))))
+              (sym (same_held (sym updates.changed ∙ ap (held_at places) (sym same) ∙ there)))))
           | inr other ↦
               let was_there = keeps.placed j ∙ ap cell_held (sym (updates.others j other) ∙ there) in
               let there_then = ap (λ (p : Part). place_at p.frame j) claimed.part ∙ was_there in
@@ -114,7 +114,7 @@ module _ {A : Type 0} {heap : TableSeen} (before mid seat : SeatSeen A) {old pla
         ];
         inside = λ j held there. elim (cases_eq j k) [
           | inl same ↦ subst (λ (x : PlaceEntry). x.cell < heap.cells)
-              (same_held (sym updates.changed ∙ ap (get places) (sym same) ∙ there)) low
+              (same_held (sym updates.changed ∙ ap (held_at places) (sym same) ∙ there)) low
           | inr other ↦ keeps.inside j held (sym (updates.others j other) ∙ there)
         ];
         out = home ∙ ap rest out ∙ keeps.out ∙ out_unlocked heap.cells before.log works unlocked

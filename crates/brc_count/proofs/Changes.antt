@@ -12,7 +12,7 @@ use Rattle.brc_table.specs.law.declared.rule.told.LogItem.TheVariants.{Stepped}
 use Rattle.brc_count.specs.Closing.{IsFirst, FirstNew, FirstAgain}
 use Rattle.brc_table.specs.law.world.Heap.{words_for}
 use Rattle.std.proofs.lemmas.Nat.Bits.{bit_at-zero}
-use Rattle.slab.specs.Slab.{Slab, get, Updates}
+use Rattle.brc_count.specs.Places.{PlacesSeen, held_at, Updates, cell_held}
 use Rattle.brc_words.specs.declared.limits.TheConstants.{MOST_PLACES}
 use Rattle.atomic_table.specs.Table.{rest}
 use Rattle.brc_table.specs.block.declared.payload.Payload.{Payload}
@@ -48,7 +48,7 @@ use Rattle.brc_biased.proofs.Marking.{marks_wide}
 use Rattle.brc_count.specs.declared.held.PlaceEntry.{PlaceEntry}
 use Rattle.brc_count.specs.declared.ledger.Ledger.{Ledger}
 use Rattle.brc_table.specs.law.declared.rule.contents.Contents.TheVariants as contents
-use Rattle.brc_count.specs.Frames.{place_seen, locked_place, lock_seen, cell_held, block_listed, slot_out, slots_out}
+use Rattle.brc_count.specs.Frames.{place_seen, locked_place, lock_seen, block_listed, slot_out, slots_out}
 use Rattle.brc_count.specs.Frames.{pushed, Buried, Holding, FrameSeen, KeepsHandles, Turned, Turns, OneMore}
 use Rattle.brc_count.proofs.Buried.{listed_here, unlisted_front, nothing_buried, after_cut, after_free, after_given}
 use Rattle.brc_count.proofs.Buried.{front_cut, front_off, contents_have, front_put, last_put, cells_front, cells_last}
@@ -94,12 +94,12 @@ giving_may stages.Left c is = refl
 giving_may (stages.Opening words) c is = cc
 
 -- a place that is vacant and below the limit may get a reference, from a source that fits what is locked
-pub raising : {A : Type 0} {heap : TableSeen} {seat : SeatSeen A} {places : Slab PlaceEntry}
+pub raising : {A : Type 0} {heap : TableSeen} {seat : SeatSeen A} {places : PlacesSeen}
     {works : List (ℕ × Payload A)}
     {popped : List ℕ} {ledger : Ledger} (source : Source) (k c : ℕ)
     → Holding A heap seat places works popped ledger → is_active (part_seen heap.cells seat.log).row.stage ≡ true
     → lock_ok (locked_place heap.cells seat.log) (LocalUp source k) ≡ true
-    → meant (part_seen heap.cells seat.log) (LocalUp source k) ≡ Some c → k < MOST_PLACES → get places k ≡ None
+    → meant (part_seen heap.cells seat.log) (LocalUp source k) ≡ Some c → k < MOST_PLACES → held_at places k ≡ None
     → Raising heap.cells seat.log source k c
 raising {heap = heap} {seat = seat} source k c keeps active fits named low vacant = record {
   own = rw (
@@ -113,7 +113,7 @@ raising {heap = heap} {seat = seat} source k c keeps active fits named low vacan
 }
 
 -- the thread may give references up
-pub stands : {A : Type 0} {heap : TableSeen} {seat : SeatSeen A} {places : Slab PlaceEntry}
+pub stands : {A : Type 0} {heap : TableSeen} {seat : SeatSeen A} {places : PlacesSeen}
     {works : List (ℕ × Payload A)}
     {popped : List ℕ} {ledger : Ledger}
     → Holding A heap seat places works popped ledger → may_give_up (part_seen heap.cells seat.log).row.stage ≡ true
@@ -135,7 +135,7 @@ no_marks_yet n c = elim (cases_lt c (length (replicate n false))) [
 ]
 
 -- a thread that has done nothing yet, with no place filled
-pub opening : {A : Type 0} (heap : TableSeen) (seat : SeatSeen A) (places : Slab PlaceEntry) (popped : List ℕ)
+pub opening : {A : Type 0} (heap : TableSeen) (seat : SeatSeen A) (places : PlacesSeen) (popped : List ℕ)
     → IsFirst seat.log → seat.slots ≡ [] → places.slots ≡ [] → popped ≡ replicate (words_for heap.cells) 0
     → Holding A heap seat places [] popped (record { allocs = 0; frees = 0 })
 opening heap seat places popped (FirstNew log) slots none blank = record {
@@ -215,18 +215,18 @@ module _ (n : ℕ) (before log : List LogItem) where
     | inr other ↦ ap is_some (place_at-filled_else (part_seen n before).frame k c j other) ∙ there
   ]
 
-module _ {A : Type 0} {heap : TableSeen} (before seat : SeatSeen A) {old places : Slab PlaceEntry}
+module _ {A : Type 0} {heap : TableSeen} (before seat : SeatSeen A) {old places : PlacesSeen}
     {works : List (ℕ × Payload A)} {popped : List ℕ} {ledger : Ledger} where
   -- ---- a place that was vacant has a reference more
 
   placed_up : (k c : ℕ) (risen : Bool) → Holding A heap before old works popped ledger
       → KnowsPart heap.cells seat.log (filling k c (known_seen heap.cells before.log))
       → Updates old places k (Some (record { cell = c; risen = risen })) → (j : ℕ)
-      → place_seen heap.cells seat.log j ≡ cell_held (get places j)
+      → place_seen heap.cells seat.log j ≡ cell_held (held_at places j)
   placed_up k c risen keeps knows updates j = ap (λ (p : Part). place_at p.frame j) knows.part ∙ elim (cases_eq j k) [
     | inl same ↦ ap (place_at (filled (part_seen heap.cells before.log).frame k c)) same
         ∙ place_at-filled_here (part_seen heap.cells before.log).frame k c
-        ∙ sym (ap cell_held (ap (get places) same ∙ updates.changed))
+        ∙ sym (ap cell_held (ap (held_at places) same ∙ updates.changed))
     | inr other ↦ place_at-filled_else (part_seen heap.cells before.log).frame k c j other
         ∙ keeps.placed j ∙ sym (ap cell_held (updates.others j other))
   ]
@@ -237,7 +237,7 @@ module _ {A : Type 0} {heap : TableSeen} (before seat : SeatSeen A) {old places 
       → (IsTrue risen → risen_seen heap.cells seat.log (drops.Frame k) c ≡ true)
       → c < heap.cells
       → Updates old places k (Some (record { cell = c; risen = risen }))
-      → get old k ≡ None → contents_locked seat.log ≡ contents_locked before.log
+      → held_at old k ≡ None → contents_locked seat.log ≡ contents_locked before.log
       → Holding A heap seat places works popped ledger
   after_up k c risen keeps stays knows goes_on seen inside updates vacant found =
       let locks = lock_stays heap.cells before.log seat.log k c knows keeps.lock_filled (keeps.placed k
@@ -248,7 +248,7 @@ module _ {A : Type 0} {heap : TableSeen} (before seat : SeatSeen A) {old places 
         risen = λ j held there is. elim (cases_eq j k) [
           | inl same ↦
               let new : record { cell = c; risen = risen } ≡ held =
-              same_held (sym updates.changed ∙ ap (get places) (sym same) ∙ there) in
+              same_held (sym updates.changed ∙ ap (held_at places) (sym same) ∙ there) in
               ap (λ i. risen_seen heap.cells seat.log (drops.Frame i) held.cell) same
               ∙ ap (λ (x : PlaceEntry). risen_seen heap.cells seat.log (drops.Frame k) x.cell) (sym new)
               ∙ seen (ap (λ (x : PlaceEntry). x.risen) new ∙ is)
@@ -260,7 +260,7 @@ module _ {A : Type 0} {heap : TableSeen} (before seat : SeatSeen A) {old places 
         inside = λ j held there. elim (cases_eq j k) [
           | inl same ↦
               let new : record { cell = c; risen = risen } ≡ held =
-              same_held (sym updates.changed ∙ ap (get places) (sym same) ∙ there) in
+              same_held (sym updates.changed ∙ ap (held_at places) (sym same) ∙ there) in
               subst (λ (x : PlaceEntry). x.cell < heap.cells) new inside
           | inr other ↦ keeps.inside j held (sym (updates.others j other) ∙ there)
         ];
@@ -285,12 +285,12 @@ module _ {A : Type 0} {heap : TableSeen} (before seat : SeatSeen A) {old places 
       → KnowsPart heap.cells seat.log (released (is_there block) (drops.Frame k) held.cell (entries_answered block)
       (known_seen heap.cells before.log))
       → Updates old places k None → (j : ℕ)
-      → place_seen heap.cells seat.log j ≡ cell_held (get places j)
+      → place_seen heap.cells seat.log j ≡ cell_held (held_at places j)
   placed_released k held block keeps knows updates j = ap (λ (p : Part). place_at p.frame j) knows.part
       ∙ elim (cases_eq j k) [
         | inl same ↦ ap (place_at (vacated (part_seen heap.cells before.log).frame k)) same
             ∙ vacated_here (part_seen heap.cells before.log).frame k
-            ∙ sym (ap cell_held (ap (get places) same ∙ updates.changed))
+            ∙ sym (ap cell_held (ap (held_at places) same ∙ updates.changed))
         | inr other ↦ place_at-vacated_else (part_seen heap.cells before.log).frame k j other
             ∙ keeps.placed j ∙ sym (ap cell_held (updates.others j other))
       ]
@@ -310,13 +310,13 @@ module _ {A : Type 0} {heap : TableSeen} (before seat : SeatSeen A) {old places 
     hand_is = ap (λ (p : Part). p.row.hand) knows.part ∙ keeps.hand_is;
     placed = placed_released k held block keeps knows updates;
     risen = λ j there is_there is. elim (cases_eq j k) [
-      | inl same ↦ absurd (none_held (sym updates.changed ∙ ap (get places) (sym same) ∙ is_there))
+      | inl same ↦ absurd (none_held (sym updates.changed ∙ ap (held_at places) (sym same) ∙ is_there))
       | inr other ↦ goes_on.risen j there.cell (placed_released k held block keeps knows updates j
           ∙ ap cell_held is_there)
           (keeps.risen j there (sym (updates.others j other) ∙ is_there) is)
     ];
     inside = λ j there is_there. elim (cases_eq j k) [
-      | inl same ↦ absurd (none_held (sym updates.changed ∙ ap (get places) (sym same) ∙ is_there))
+      | inl same ↦ absurd (none_held (sym updates.changed ∙ ap (held_at places) (sym same) ∙ is_there))
       | inr other ↦ keeps.inside j there (sym (updates.others j other) ∙ is_there)
     ];
     out = answers.out ∙ ap (out_with held.cell block) (keeps.out ∙ out_unlocked heap.cells before.log works unlocked)
@@ -343,7 +343,7 @@ entries_front : {A : Type 0} {works : List (ℕ × Payload A)} (entry : ℕ) (mi
     → entries_in (contents_of pops.held) ≡ entries_of pops.left ++ entry ∷ []
 entries_front entry mid pops = contents_have pops.held ∙ pops.entries
 
-module _ {A : Type 0} {heap : TableSeen} (before seat : SeatSeen A) {places : Slab PlaceEntry}
+module _ {A : Type 0} {heap : TableSeen} (before seat : SeatSeen A) {places : PlacesSeen}
     {works : List (ℕ × Payload A)}
     {popped : List ℕ} {ledger : Ledger} where
   -- ---- the front block's last entry is released

@@ -1,5 +1,5 @@
 -- A frame that was only looked at, or locked and unlocked.
-use Rattle.std.proofs.Common.{ℕ, refl, ◌∙◌}
+use Rattle.std.proofs.Common.{refl, ◌∙◌}
 use Rattle.brc_count.specs.Frames.{FrameSeen}
 use Rattle.brc_count.specs.Locking.{KeepsThread, KeepsFrame}
 

@@ -5,7 +5,7 @@ use Rattle.std.proofs.Common.{count_by}
 use Rattle.std.proofs.lemmas.Bool.{cases_eq, cases_lt, eq-eqb, ne_eqb, lt-ltb}
 use Rattle.std.proofs.lemmas.List.{get_or_past}
 use Rattle.std.proofs.lemmas.List.Sums.{sum_by-cons, get_or-le-sum_by}
-use Rattle.slab.specs.Slab.{Slab, slab_len}
+use Rattle.brc_count.specs.Places.{PlacesSeen, held_in, cell_held}
 use Rattle.brc_table.specs.block.declared.payload.Payload.{Payload}
 use Rattle.brc_table.specs.law.declared.world.event.Step.TheVariants.{Close, Reopen}
 use Rattle.brc_table.specs.law.declared.world.row.Stage.{Stage}
@@ -18,9 +18,8 @@ use Rattle.brc_words.specs.declared.limits.TheConstants.{FIRST_MORTAL}
 use Rattle.brc_table.specs.law.rule.Seen.{part_seen, counts_seen}
 use Rattle.brc_table.specs.law.steps.Owing.{MayStep, MayClose}
 use Rattle.brc_table.specs.Seated.{TableSeen, SeatSeen}
-use Rattle.brc_count.specs.declared.held.PlaceEntry.{PlaceEntry}
 use Rattle.brc_count.specs.declared.ledger.Ledger.{Ledger}
-use Rattle.brc_count.specs.Frames.{FrameSeen, Holding, locked_place, cell_held}
+use Rattle.brc_count.specs.Frames.{FrameSeen, Holding, locked_place}
 use Rattle.brc_count.specs.Closing.{stage_with, stage_opened, TurnedLeaving, TurnsLeaving, OneMore}
 
 -- ---- nothing is there, place by place and cell by cell
@@ -59,10 +58,10 @@ unmarked_from marks none = eq-eqb (marked_cells marks) 0 (count marks none)
         let first : ◌≡◌ {A = ℕ} (if x then 1 else 0) 0 = ap (λ (v : Bool). if v then 1 else 0) (empty 0) in
         omega (arith, sum_by-cons (λ (v : Bool). if v then 1 else 0) x xs, first, count xs (λ k. empty (suc k)))
 
-module _ {A : Type 0} {heap : TableSeen} {seat : SeatSeen A} {places : Slab PlaceEntry} {popped : List ℕ}
+module _ {A : Type 0} {heap : TableSeen} {seat : SeatSeen A} {places : PlacesSeen} {popped : List ℕ}
     {ledger : Ledger} where
   -- no place is filled
-  pub holds_bare : {works : List (ℕ × Payload A)} → Holding A heap seat places works popped ledger → slab_len places ≡ 0
+  pub holds_bare : {works : List (ℕ × Payload A)} → Holding A heap seat places works popped ledger → held_in places ≡ 0
       → is_bare (part_seen heap.cells seat.log).frame ≡ true
   holds_bare keeps none = bare_from (part_seen heap.cells seat.log).frame (λ k. keeps.placed k
       ∙ ap cell_held (none_filled places.slots none k))
@@ -76,7 +75,7 @@ module _ {A : Type 0} {heap : TableSeen} {seat : SeatSeen A} {places : Slab Plac
   -- ---- the next word
 
   pub may_close : (k : ℕ) {works : List (ℕ × Payload A)} → Holding A heap seat places works popped ledger
-      → slab_len places ≡ 0 → locked_place heap.cells seat.log ≡ None
+      → held_in places ≡ 0 → locked_place heap.cells seat.log ≡ None
       → ((c : ℕ) → FIRST_MORTAL ≤ c → c < heap.cells → counts_seen heap.cells seat.log c ≡ 0)
       → (part_seen heap.cells seat.log).row.stage ≡ stage_with (words_for heap.cells) k → k < words_for heap.cells
       → (k ≡ 0 → is_blank (part_seen heap.cells seat.log).popped ≡ true) → MayClose heap.cells seat.log k
@@ -123,7 +122,7 @@ module _ {A : Type 0} {heap : TableSeen} {seat : SeatSeen A} {places : Slab Plac
       ]
 
 -- a thread whose number is used again may open its next queue word
-pub may_open : {A : Type 0} {heap : TableSeen} {seat : SeatSeen A} {places : Slab PlaceEntry} {popped : List ℕ}
+pub may_open : {A : Type 0} {heap : TableSeen} {seat : SeatSeen A} {places : PlacesSeen} {popped : List ℕ}
     {ledger : Ledger} {works : List (ℕ × Payload A)} (k : ℕ) → Holding A heap seat places works popped ledger
     → locked_place heap.cells seat.log ≡ None
     → (part_seen heap.cells seat.log).row.stage ≡ stage_opened (words_for heap.cells) k → k < words_for heap.cells

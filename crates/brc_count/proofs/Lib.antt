@@ -1,3 +1,4 @@
+mod Place_Lists
 mod Buried
 pub mod Changes
 mod Framings

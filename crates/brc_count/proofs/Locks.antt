@@ -5,7 +5,7 @@ use Rattle.std.proofs.Common.{slice_index_or}
 use Rattle.std.proofs.lemmas.Bool.{eq-eqb, ne_eqb, lt-ltb, cases_eq, cases_lt}
 use Rattle.std.proofs.lemmas.Option.{get_or_from_slice_get, slice_get_within}
 use Rattle.std.proofs.lemmas.List.{length-set, get_or-set_same, get_or_past}
-use Rattle.slab.specs.Slab.{Slab, get, Updates}
+use Rattle.brc_count.specs.Places.{PlacesSeen, held_at, Updates, cell_held}
 use Rattle.atomic_table.specs.Table.{rest}
 use Rattle.brc_words.specs.Kinds.{is_container}
 use Rattle.brc_words.specs.declared.limits.TheConstants.{MOST_PLACES}
@@ -36,7 +36,7 @@ use Rattle.brc_table.specs.Shown.{shows, contents_of}
 use Rattle.brc_biased.specs.Up.{KnowsPart}
 use Rattle.brc_count.specs.declared.held.PlaceEntry.{PlaceEntry}
 use Rattle.brc_count.specs.declared.ledger.Ledger.{Ledger}
-use Rattle.brc_count.specs.Frames.{place_seen, locked_place, lock_seen, cell_held, slots_out, Buried, Holding}
+use Rattle.brc_count.specs.Frames.{place_seen, locked_place, lock_seen, slots_out, Buried, Holding}
 use Rattle.brc_count.specs.Frames.{FrameSeen, IsActive}
 use Rattle.brc_count.specs.Locking.{KnowsLock, IsLocked, ChangesPlace, cell_in, place_locked, cell_locked}
 use Rattle.brc_count.specs.Locking.{contents_found, entries_found, keys_found}
@@ -83,44 +83,44 @@ vacant_here frame k = elim (cases_lt k (length frame)) [
 
 -- The places are those of this frame; what is marked as seen risen was there before, and all that is there are cells of
 -- the heap.
-pub record Refits (n : ℕ) (frame : List (Option ℕ)) (old places : Slab PlaceEntry) : Type 0 where
-  pub placed : (j : ℕ) → place_at frame j ≡ cell_held (get places j)
-  pub risen : (j : ℕ) (held : PlaceEntry) → get places j ≡ Some held → held.risen ≡ true → get old j ≡ Some held
-  pub inside : (j : ℕ) (held : PlaceEntry) → get places j ≡ Some held → held.cell < n
+pub record Refits (n : ℕ) (frame : List (Option ℕ)) (old places : PlacesSeen) : Type 0 where
+  pub placed : (j : ℕ) → place_at frame j ≡ cell_held (held_at places j)
+  pub risen : (j : ℕ) (held : PlaceEntry) → held_at places j ≡ Some held → held.risen ≡ true → held_at old j ≡ Some held
+  pub inside : (j : ℕ) (held : PlaceEntry) → held_at places j ≡ Some held → held.cell < n
 
-module _ (n : ℕ) (frame : List (Option ℕ)) {old places : Slab PlaceEntry} where
+module _ (n : ℕ) (frame : List (Option ℕ)) {old places : PlacesSeen} where
   -- a place's reference is gone
-  pub refits_vacated : (k : ℕ) → ((j : ℕ) → place_at frame j ≡ cell_held (get old j))
-      → ((j : ℕ) (held : PlaceEntry) → get old j ≡ Some held → held.cell < n)
+  pub refits_vacated : (k : ℕ) → ((j : ℕ) → place_at frame j ≡ cell_held (held_at old j))
+      → ((j : ℕ) (held : PlaceEntry) → held_at old j ≡ Some held → held.cell < n)
       → Updates old places k None → Refits n (vacated frame k) old places
   refits_vacated k placed inside updates = record {
     placed = λ j. elim (cases_eq j k) [
       | inl same ↦ ap (place_at (vacated frame k)) same ∙ vacant_here frame k
-          ∙ sym (ap cell_held (ap (get places) same ∙ updates.changed))
+          ∙ sym (ap cell_held (ap (held_at places) same ∙ updates.changed))
       | inr other ↦ place_at-vacated_else frame k j other ∙ placed j ∙ sym (ap cell_held (updates.others j other))
     ];
     risen = λ j held there is. elim (cases_eq j k) [
-      | inl same ↦ absurd (nothing_there (sym updates.changed ∙ ap (get places) (sym same) ∙ there))
+      | inl same ↦ absurd (nothing_there (sym updates.changed ∙ ap (held_at places) (sym same) ∙ there))
       | inr other ↦ sym (updates.others j other) ∙ there
     ];
     inside = λ j held there. elim (cases_eq j k) [
-      | inl same ↦ absurd (nothing_there (sym updates.changed ∙ ap (get places) (sym same) ∙ there))
+      | inl same ↦ absurd (nothing_there (sym updates.changed ∙ ap (held_at places) (sym same) ∙ there))
       | inr other ↦ inside j held (sym (updates.others j other) ∙ there)
     ];
   }
 
   -- a place has a reference that wasn't seen risen
-  pub refits_filled : (k c : ℕ) → ((j : ℕ) → place_at frame j ≡ cell_held (get old j))
-      → ((j : ℕ) (held : PlaceEntry) → get old j ≡ Some held → held.cell < n) → c < n
+  pub refits_filled : (k c : ℕ) → ((j : ℕ) → place_at frame j ≡ cell_held (held_at old j))
+      → ((j : ℕ) (held : PlaceEntry) → held_at old j ≡ Some held → held.cell < n) → c < n
       → Updates old places k (Some (record { cell = c; risen = false })) → Refits n (filled frame k c) old places
   refits_filled k c placed inside low updates =
-      let here : (j : ℕ) (held : PlaceEntry) → j ≡ k → get places j ≡ Some held
+      let here : (j : ℕ) (held : PlaceEntry) → j ≡ k → held_at places j ≡ Some held
       → record { cell = c; risen = false } ≡ held =
-      λ j held same there. same_there (sym updates.changed ∙ ap (get places) (sym same) ∙ there) in
+      λ j held same there. same_there (sym updates.changed ∙ ap (held_at places) (sym same) ∙ there) in
       record {
         placed = λ j. elim (cases_eq j k) [
           | inl same ↦ ap (place_at (filled frame k c)) same ∙ place_at-filled_here frame k c
-              ∙ sym (ap cell_held (ap (get places) same ∙ updates.changed))
+              ∙ sym (ap cell_held (ap (held_at places) same ∙ updates.changed))
           | inr other ↦ place_at-filled_else frame k c j other ∙ placed j ∙ sym (ap cell_held (updates.others j other))
         ];
         risen = λ j held there is. elim (cases_eq j k) [
@@ -151,7 +151,7 @@ after_put {has = has} {blocks = blocks} c es b none = record {
 
 -- ---- the locking
 
-module _ {A : Type 0} {heap : TableSeen} (before seat : SeatSeen A) {places : Slab PlaceEntry}
+module _ {A : Type 0} {heap : TableSeen} (before seat : SeatSeen A) {places : PlacesSeen}
     {works : List (ℕ × Payload A)}
     {popped : List ℕ} {ledger : Ledger} where
   -- a place's object may be locked
@@ -172,7 +172,7 @@ module _ {A : Type 0} {heap : TableSeen} (before seat : SeatSeen A) {places : Sl
       → listed_at (taken_seen heap.cells before.log) c ≡ None → contents_locked seat.log ≡ Some found
       → Holding A heap seat places works popped ledger
   after_lock k c found keeps unlocked there out knows goes_on fresh found_now =
-      let places_now : (j : ℕ) → place_seen heap.cells seat.log j ≡ cell_held (get places j) =
+      let places_now : (j : ℕ) → place_seen heap.cells seat.log j ≡ cell_held (held_at places j) =
       λ j. ap (λ (p : Part). place_at p.frame j) knows.part ∙ keeps.placed j in
       let place_now : locked_place heap.cells seat.log ≡ Some k = ap (λ (p : Part). p.row.locked) knows.part in
       let cell_now : lock_seen heap.cells seat.log ≡ Some c = ap (λ (p : Part). locked_cell p.frame p.row.locked)
@@ -208,7 +208,7 @@ module _ {A : Type 0} {heap : TableSeen} (before seat : SeatSeen A) {places : Sl
       → KnowsPart heap.cells seat.log (known_seen heap.cells before.log) → KeepsNotes heap.cells before.log seat.log
       → Holding A heap seat places works popped ledger
   after_busy keeps unlocked still knows goes_on =
-      let places_now : (j : ℕ) → place_seen heap.cells seat.log j ≡ cell_held (get places j) =
+      let places_now : (j : ℕ) → place_seen heap.cells seat.log j ≡ cell_held (held_at places j) =
       λ j. ap (λ (p : Part). place_at p.frame j) knows.part ∙ keeps.placed j in
       let none_now : locked_place heap.cells seat.log ≡ None = ap (λ (p : Part). p.row.locked) knows.part ∙ unlocked in
       let no_cell : lock_seen heap.cells seat.log ≡ None = ap (locked_cell (part_seen heap.cells seat.log).frame)
@@ -234,7 +234,7 @@ module _ {A : Type 0} {heap : TableSeen} (before seat : SeatSeen A) {places : Sl
 
 -- ---- the unlocking
 
-module _ {A : Type 0} {heap : TableSeen} (before seat : SeatSeen A) {old places : Slab PlaceEntry}
+module _ {A : Type 0} {heap : TableSeen} (before seat : SeatSeen A) {old places : PlacesSeen}
     {works : List (ℕ × Payload A)} {popped : List ℕ} {ledger : Ledger} where
   pub after_end : (change : Change) (c : ℕ) → Holding A heap before old works popped ledger
       → KnowsLock heap.cells before.log
@@ -245,7 +245,7 @@ module _ {A : Type 0} {heap : TableSeen} (before seat : SeatSeen A) {old places 
       (part_seen heap.cells before.log).frame) old places
       → Holding A heap seat places works popped ledger
   after_end change c keeps lock locked home knows goes_on fits =
-      let places_now : (j : ℕ) → place_seen heap.cells seat.log j ≡ cell_held (get places j) =
+      let places_now : (j : ℕ) → place_seen heap.cells seat.log j ≡ cell_held (held_at places j) =
       λ j. ap (λ (p : Part). place_at p.frame j) knows.part
       ∙ ap (λ es. place_at (frame_changed change es (part_seen heap.cells before.log).frame) j)
       (keeps.lock_has c locked) ∙ fits.placed j in
@@ -303,9 +303,9 @@ module _ {A : Type 0} {heap : TableSeen} (before seat : SeatSeen A) {old places 
       (refits_vacated heap.cells (part_seen heap.cells before.log).frame k keeps.placed keeps.inside updates)
 
 -- what the frame shows of a place that was changed
-pub changes_place : {A : Type 0} (old new : FrameSeen A) {before after : Slab PlaceEntry} (k : ℕ)
+pub changes_place : {A : Type 0} (old new : FrameSeen A) {before after : PlacesSeen} (k : ℕ)
     (slot : Option PlaceEntry)
-    → ((j : ℕ) → cell_in old j ≡ cell_held (get before j)) → ((j : ℕ) → cell_in new j ≡ cell_held (get after j))
+    → ((j : ℕ) → cell_in old j ≡ cell_held (held_at before j)) → ((j : ℕ) → cell_in new j ≡ cell_held (held_at after j))
     → Updates before after k slot → ChangesPlace old new k (cell_held slot)
 changes_place old new k slot placed now updates = record {
   has = now k ∙ ap cell_held updates.changed;

@@ -10,7 +10,7 @@ use Rattle.std.proofs.lemmas.Option.{slice_get-get_or, get_or_from_slice_get}
 use Rattle.std.proofs.lemmas.List.Sums.{sum_by-cons}
 use Rattle.std.proofs.lemmas.Nat.Bits.{bit_at-zero, bit_at-lt, bit_at_or, bit_at_xor, bit_at-pow_same, bit_at-pow_other}
 use Rattle.std.proofs.lemmas.Nat.Bits.{same_from_bits}
-use Rattle.slab.specs.Slab.{Slab}
+use Rattle.brc_count.specs.Places.{PlacesSeen, cell_held}
 use Rattle.brc_table.specs.block.declared.payload.Payload.{Payload}
 use Rattle.brc_table.specs.law.world.Heap.{words_for}
 use Rattle.brc_table.specs.law.world.Lists.{names, place_at, bit_of, word_at, without_bit, is_blank, used_words}
@@ -29,10 +29,9 @@ use Rattle.brc_biased.specs.Released.{IsTakenBlock}
 use Rattle.brc_biased.specs.Standing.{FillsNoPlace}
 use Rattle.brc_biased.specs.Up.{KnowsPart}
 use Rattle.brc_biased.proofs.Marking.{marks_wide}
-use Rattle.brc_count.specs.declared.held.PlaceEntry.{PlaceEntry}
 use Rattle.brc_count.specs.declared.ledger.Ledger.{Ledger}
 use Rattle.brc_count.specs.Polling.{DealsBits, NoBit, NotSet, DrainsNamed, NoName, NotNamed}
-use Rattle.brc_count.specs.Frames.{AreBits, FrameSeen, Holding, locked_place, cell_held, pushed}
+use Rattle.brc_count.specs.Frames.{AreBits, FrameSeen, Holding, locked_place, pushed}
 use Rattle.brc_count.proofs.Buried.{after_given}
 use Rattle.brc_count.proofs.Changes.{none_held, nothing_locked, out_unlocked, slots_pushed, blocks_pushed}
 
@@ -161,7 +160,7 @@ closed_pops n before log k number knows = record {
   popped = ap (λ (p : Part). p.popped) knows.part;
 }
 
-module _ {A : Type 0} {heap : TableSeen} (before seat : SeatSeen A) {places : Slab PlaceEntry}
+module _ {A : Type 0} {heap : TableSeen} (before seat : SeatSeen A) {places : PlacesSeen}
     {works : List (ℕ × Payload A)}
     {popped : List ℕ} {ledger : Ledger} where
   -- the bits of a queue word are popped, whether it is drained or closed

@@ -1,7 +1,7 @@
 -- What contracts see of a frame and of its handles, and what a frame keeps.
 use Rattle.std.specs.Prelude.{◌≡◌, ◌≢◌, ◌<◌, ◌≤◌, ◌+◌, ◌-◌, ℕ, Bool, true, List, [], ◌∷◌, map, Option, Some, None}
 use Rattle.std.specs.Prelude.{is_some, is_none, ◌&&◌, ◌*◌, ◌/◌, nat_le, nat_lt, if◌then◌else◌, length, false}
-use Rattle.slab.specs.Slab.{Slab, get, slab_len}
+use Rattle.brc_count.specs.Places.{PlacesSeen, held_at, held_in, spare_in, cell_held}
 use Rattle.brc_words.specs.declared.limits.TheConstants.{FIRST_MORTAL, MOST_PLACES}
 use Rattle.brc_words.specs.declared.fault.Fault.{Fault}
 use Rattle.brc_words.specs.declared.fault.Fault.TheVariants.{OutOfMemory, FrameFull}
@@ -50,11 +50,6 @@ locked_place n log = (part_seen n log).row.locked
 
 abbrev pub lock_seen : ℕ → List LogItem → Option ℕ
 lock_seen n log = locked_cell (part_seen n log).frame (locked_place n log)
-
--- the cell of what is held
-abbrev pub cell_held : Option PlaceEntry → Option ℕ
-cell_held None = None
-cell_held (Some held) = Some held.cell
 
 module _ {A : Type 0} where
   -- a dead block as its thread's log lists it, and its slot, which is out
@@ -127,13 +122,13 @@ AreBits n words = (k i : ℕ) → bit_at (word_at words k) i ≡ 1 → (i < 32) 
 -- risen was seen so; the popped words are the log's; the worklist has the dead blocks that the log lists, and no slot
 -- is out but theirs and that of the object that is locked, if one is; that one stands in its place, with the entries
 -- that were found. Births and frees are counted.
-pub record Holding (A : Type 0) (heap : TableSeen) (seat : SeatSeen A) (places : Slab PlaceEntry)
+pub record Holding (A : Type 0) (heap : TableSeen) (seat : SeatSeen A) (places : PlacesSeen)
     (works : List (ℕ × Payload A)) (popped : List ℕ) (ledger : Ledger) : Type 0 where
   pub hand_is : (part_seen heap.cells seat.log).row.hand ≡ hands.Free
-  pub placed : (k : ℕ) → place_seen heap.cells seat.log k ≡ cell_held (get places k)
-  pub risen : (k : ℕ) (held : PlaceEntry) → get places k ≡ Some held → held.risen ≡ true
+  pub placed : (k : ℕ) → place_seen heap.cells seat.log k ≡ cell_held (held_at places k)
+  pub risen : (k : ℕ) (held : PlaceEntry) → held_at places k ≡ Some held → held.risen ≡ true
       → risen_seen heap.cells seat.log (drops.Frame k) held.cell ≡ true
-  pub inside : (k : ℕ) (held : PlaceEntry) → get places k ≡ Some held → held.cell < heap.cells
+  pub inside : (k : ℕ) (held : PlaceEntry) → held_at places k ≡ Some held → held.cell < heap.cells
   pub out : seat.slots ≡ slots_out (lock_seen heap.cells seat.log) works
   pub lock_filled : (k : ℕ) → locked_place heap.cells seat.log ≡ Some k
       → is_some (place_seen heap.cells seat.log k) ≡ true
@@ -192,24 +187,24 @@ pub record Leaving {A : Type 0} (holdings : FrameSeen A) (thread next : ℕ) : T
   pub done : (k : ℕ) → k < next → word_at (popped_seen holdings) k ≡ 0
 
 -- what contracts see of a frame at rest, without dead blocks
-abbrev pub resting_seen : {A : Type 0} → CounterSeen A → Slab PlaceEntry → StartSeen → FrameSeen A
+abbrev pub resting_seen : {A : Type 0} → CounterSeen A → PlacesSeen → StartSeen → FrameSeen A
 resting_seen counter places start = record {
   heap = counter.heap;
   seat = counter.seat;
-  len = slab_len places;
-  spare = places.capacity - slab_len places;
-  next = places.vacant_key;
+  len = held_in places;
+  spare = spare_in places;
+  next = places.next;
   works = [];
   from = start.from;
   near = start.near;
 }
 
 -- what a frame at rest keeps: it is a frame's, without handles and dead blocks, and nothing is locked
-pub record Rests (A : Type 0) (counter : CounterSeen A) (places : Slab PlaceEntry) (popped : List ℕ) (ledger : Ledger)
+pub record Rests (A : Type 0) (counter : CounterSeen A) (places : PlacesSeen) (popped : List ℕ) (ledger : Ledger)
     (start : StartSeen) (thread : ℕ) : Type 0 where
   pub holding : Holding A counter.heap counter.seat places [] popped ledger
   pub framing : Framing (resting_seen counter places start) thread
-  pub bare : slab_len places ≡ 0
+  pub bare : held_in places ≡ 0
   pub unlocked : IsUnlocked (resting_seen counter places start)
 
 -- ---- what calls do
@@ -236,8 +231,8 @@ IsAsBefore old new = new ≡ record old { spare = new.spare }
 abbrev pub KeepsButStart : {A : Type 0} → FrameSeen A → FrameSeen A → Type 0
 KeepsButStart old new = new ≡ record old { from = new.from; near = new.near }
 
--- The one event by which a reference is counted up: a look, where the cell is immortal; on the local word, where the
--- thread counts the cell there and is below the limit; else on the shared word.
+-- The one event by which a reference is counted up: an immortal's count stays; the local count rises, where the thread
+-- has one of the cell and is below the limit; else the shared word.
 pub record CountsUp {A : Type 0} (old new : FrameSeen A) (source : Source) (k c : ℕ) : Type 0 where
   pub immortal : c < FIRST_MORTAL → RaisedImmortal source k old.seat.log new.seat.log
   pub own : FIRST_MORTAL ≤ c → CountsHere old.heap.cells old.heap.local_limit old.seat.log c

@@ -1,3 +1,5 @@
+pub mod Places
+pub mod PlaceList
 pub mod Frames
 pub mod Owned
 pub mod Locking

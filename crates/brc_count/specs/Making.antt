@@ -18,9 +18,9 @@ use Rattle.brc_count.specs.Frames.{ledger_seen}
 
 module _ {A : Type 0} where
   -- An object with these contents is made, in the first cell that was to be had from the word on with which the search
-  -- began; that is the frame's own, unless claims were asked for near the last ones. The thread claims the cell, sets
-  -- its local word and its shared one, and puts its block home. The new handle is of the frame's heap and thread, in
-  -- the place that was next; every other place has what it had, and no block came or went.
+  -- began; that is the frame's own, unless claims were asked for near the last ones. The thread claims the cell, counts
+  -- its first reference, sets its shared word, and puts its block home. The new handle is of the frame's heap and
+  -- thread, in the place that was next; every other place has what it had, and no block came or went.
   pub record Made (old new : FrameSeen A) (contents : Contents) (given : HandleSeen) : Type 0 where
     pub cell : ℕ
     pub mortal : FIRST_MORTAL ≤ cell

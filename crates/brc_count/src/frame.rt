@@ -140,10 +140,7 @@ impl<H: HasTable<A>, A: Allocator> Frame<H, A> {
         ensures cell { place_seen self.now.heap.cells self.now.seat.log handle.now.place ≡ Some result }
         ensures inside { result < self.now.heap.cells }
     {
-        match self.holdings.cell(handle.place) {
-            Some(cell) => cell,
-            None => unreachable!(),
-        }
+        self.holdings.filled_cell(handle.place)
     }
 
     /// How many objects the thread has made since it was registered, and how many cells it has freed, of its own

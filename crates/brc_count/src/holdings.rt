@@ -1,7 +1,7 @@
 //! What one thread holds of the heap: references in places, popped entries of its merge queue, and dead blocks.
 
 ghost use Rattle.std.specs.Prelude.{◌≡◌, ◌≢◌, ◌+◌, ◌-◌, ◌<◌, ◌≤◌, ℕ, [], replicate, IfOk, IfErr, OnOk, IfSome, IfNone, OnSome, Some};
-ghost use Rattle.std.specs.Prelude.{None, true, false, IsTrue, IsFalse, ◌⊎◌, length};
+ghost use Rattle.std.specs.Prelude.{None, true, false, is_some, IsTrue, IsFalse, ◌⊎◌, length};
 ghost use Rattle.brc_words.specs.declared.limits.TheConstants.{MOST_PLACES};
 ghost use Rattle.brc_table.specs.law.declared.world.event.Step.TheVariants as steps;
 ghost use Rattle.brc_table.specs.law.world.Heap.{words_for};
@@ -18,6 +18,7 @@ ghost use Rattle.brc_count.specs.Frames.{IsFull, Refused, ReleasedOf, handle_at,
 ghost use Rattle.brc_biased.specs.Counter.{CountsMore};
 ghost use Rattle.brc_count.specs.Frames.{CountedDown, HasSpare, popped_seen, IsUnlocked, KeepsButStart, first_word, word_asked};
 
+use crate::frame_places::Places;
 use crate::held::PlaceEntry;
 use crate::ledger::Ledger;
 use crate::start::ClaimStart;
@@ -25,7 +26,6 @@ use brc_biased::{Counter, HasTable};
 use brc_table::block::Worklist;
 use brc_table::law::world::{Dropped, Source};
 use brc_words::{Fault, MOST_PLACES};
-use slab::Slab;
 use std::alloc::Allocator;
 use std::marker::Model;
 
@@ -33,7 +33,7 @@ use std::marker::Model;
 /// entries for each of its queue words, what it has made and given back, and where its claims begin.
 pub(crate) struct Holdings<H: HasTable<A>, A: Allocator> {
     pub(crate) counter: Counter<H, A>,
-    pub(crate) places: Slab<PlaceEntry, A>,
+    pub(crate) places: Places<A>,
     pub(crate) works: Worklist<A>,
     pub(crate) popped: Vec<u64, A>,
     pub(crate) ledger: Ledger,
@@ -41,8 +41,7 @@ pub(crate) struct Holdings<H: HasTable<A>, A: Allocator> {
 }
 
 impl<H: HasTable<A>, A: Allocator> Model for Holdings<H, A> {
-    ghost use Rattle.std.specs.Prelude.{◌-◌};
-    ghost use Rattle.slab.specs.Slab.{slab_len};
+    ghost use Rattle.brc_count.specs.Places.{held_in, spare_in};
     ghost use Rattle.brc_count.specs.Frames.{FrameSeen, Holding};
 
     ghost Value = { FrameSeen A };
@@ -50,9 +49,9 @@ impl<H: HasTable<A>, A: Allocator> Model for Holdings<H, A> {
     ghost view = { λ f. record {
       heap = f.counter.heap;
       seat = f.counter.seat;
-      len = slab_len f.places;
-      spare = f.places.capacity - slab_len f.places;
-      next = f.places.vacant_key;
+      len = held_in f.places;
+      spare = spare_in f.places;
+      next = f.places.next;
       works = f.works;
       from = f.start.from;
       near = f.start.near;
@@ -75,7 +74,7 @@ impl<H: HasTable<A>, A: Allocator> Holdings<H, A> {
     {
         Holdings {
             counter,
-            places: Slab::new(alloc),
+            places: Places::new(alloc),
             works: Worklist::new(),
             popped,
             ledger: Ledger {
@@ -117,10 +116,20 @@ impl<H: HasTable<A>, A: Allocator> Holdings<H, A> {
         ensures has { place_seen self.now.heap.cells self.now.seat.log place ≡ result }
         ensures inside { IfSome result (λ cell. cell < self.now.heap.cells) }
     {
-        match self.places.get(place as usize) {
+        match self.places.get(place) {
             Some(held) => Some(held.cell),
             None => None,
         }
+    }
+
+    /// The cell to which a place that is filled has a reference.
+    #[inline(always)]
+    pub(crate) fn filled_cell(&self, place: u32) -> u32
+        requires filled { is_some (place_seen self.now.heap.cells self.now.seat.log place) ≡ true }
+        ensures has { place_seen self.now.heap.cells self.now.seat.log place ≡ Some result }
+        ensures inside { result < self.now.heap.cells }
+    {
+        self.places.cell(place)
     }
 
     /// Whether there are 65,536 handles.
@@ -139,27 +148,25 @@ impl<H: HasTable<A>, A: Allocator> Holdings<H, A> {
         ensures spare { OnSome result (HasSpare self.now) }
         ensures none { IfNone result (¬ HasSpare self.now) }
     {
-        let place = self.places.vacant_key();
-        if place < MOST_PLACES as usize && self.places.capacity() > self.places.len() {
-            Some(place as u32)
+        if self.places.has_spare() {
+            Some(self.places.next())
         } else {
             None
         }
     }
 
-    /// Has memory ready for the next place; false where it, or a place below 65,536, can't be had. With fewer handles
-    /// there is one, since a slab fills what is vacant before it grows; but its contract leaves that open.
+    /// Has memory ready for the next place; false where it can't be had, or there are 65,536 handles.
     #[inline(always)]
     pub(crate) fn has_room(&mut self) -> bool
         ensures room { IsTrue result → 0 < self.new.spare }
         ensures low { IsTrue result → self.old.next < MOST_PLACES }
         ensures same { IsAsBefore self.old self.new }
     {
-        self.places.vacant_key() < MOST_PLACES as usize && self.places.reserve(1).is_ok()
+        self.places.has_spare() || self.places.grow()
     }
 
     /// Makes sure that the next place can be filled: FrameFull where there are 65,536 handles, which comes first;
-    /// OutOfMemory where there are fewer, and a place, or memory for it, can't be had.
+    /// OutOfMemory where there are fewer, and memory for more places can't be had.
     #[inline(always)]
     pub(crate) fn reserve(&mut self) -> Result<(), Fault>
         ensures room { OnOk result (0 < self.new.spare) }
@@ -192,9 +199,9 @@ impl<H: HasTable<A>, A: Allocator> Holdings<H, A> {
         ensures given { GivenHandle self.old self.new source cell (handle_at self.new result) }
         ensures popped { popped_seen self.new ≡ popped_seen self.old }
     {
-        let place = self.places.vacant_key() as u32;
+        let place = self.places.next();
         let risen = self.counter.up(source, place, cell);
-        let _key = self.places.insert_reserved(PlaceEntry { cell, risen });
+        let _same = self.places.fill(PlaceEntry { cell, risen });
         place
     }
 
@@ -213,9 +220,7 @@ impl<H: HasTable<A>, A: Allocator> Holdings<H, A> {
         ensures rest { KeepsRest self.old self.new }
         ensures popped { popped_seen self.new ≡ popped_seen self.old }
     {
-        let Some(held) = self.places.try_remove(place as usize) else {
-            unreachable!()
-        };
+        let held = self.places.take(place);
         let drop = Dropped::Frame(place);
         if let Some(block) = self.counter.give_up(drop, held.cell, held.risen) {
             self.works.push(block);
@@ -246,15 +251,12 @@ impl<H: HasTable<A>, A: Allocator> Holdings<H, A> {
         ensures popped { popped_seen self.new ≡ popped_seen self.old }
         ensures unchanged { IsFalse result → self.new ≡ self.old }
     {
-        let Some(held) = self.places.get(place as usize) else {
-            unreachable!()
-        };
-        let cell = held.cell;
+        let cell = self.places.cell(place);
         let Some(count) = self.counter.several(cell) else {
             return false;
         };
-        // As in `release`, the place is empty before the object's word is stored.
-        let _gone = self.places.try_remove(place as usize);
+        // The place is vacated first, as in `release`.
+        let _gone = self.places.take(place);
         self.counter
             .give_up_counted(Dropped::Frame(place), cell, count);
         true

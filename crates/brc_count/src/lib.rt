@@ -8,6 +8,7 @@
 mod closed;
 mod closing;
 mod frame;
+mod frame_places;
 mod handed;
 mod handle;
 mod held;

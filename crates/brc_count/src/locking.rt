@@ -6,7 +6,6 @@
 
 ghost use Rattle.std.specs.Prelude.{◌≡◌, ◌≢◌, ◌+◌, ◌<◌, ◌++◌, ℕ, [], ◌∷◌, Some, None, true, is_some, length, remove};
 ghost use Rattle.std.specs.Prelude.{slice_get, slice_set, IfOk, IfErr, IfSome, IfNone};
-ghost use Rattle.slab.specs.Slab.{get, slab_len, Updates};
 ghost use Rattle.brc_words.specs.Kinds.{is_container};
 ghost use Rattle.brc_words.specs.declared.limits.TheConstants.{MOST_ENTRIES, MOST_PLACES};
 ghost use Rattle.brc_table.specs.law.declared.world.event.Change.TheVariants as changes;
@@ -28,20 +27,7 @@ use brc_biased::HasTable;
 use brc_table::block::Block;
 use brc_table::law::world::{Change, Source};
 use brc_words::Fault;
-use slab::Slab;
 use std::alloc::Allocator;
-
-/// A place that is filled has this now.
-#[inline(always)]
-fn replace<A: Allocator>(places: &mut Slab<PlaceEntry, A>, place: u32, held: PlaceEntry)
-    requires filled { is_some (get places.old place) ≡ true }
-    ensures updates { Updates places.old places.new place (Some held) }
-    ensures len { slab_len places.new ≡ slab_len places.old }
-    ensures capacity { places.new.capacity ≡ places.old.capacity }
-    ensures next { places.new.vacant_key ≡ places.old.vacant_key }
-{
-    places[place as usize] = held;
-}
 
 impl<H: HasTable<A>, A: Allocator> Holdings<H, A> {
     /// Locks the object in a place, and answers its block; None where it is found locked.
@@ -55,9 +41,7 @@ impl<H: HasTable<A>, A: Allocator> Holdings<H, A> {
         ensures keeps { KeepsThread self.old self.new }
         ensures frame { KeepsFrame self.old self.new }
     {
-        let Some(cell) = self.cell(place) else {
-            unreachable!()
-        };
+        let cell = self.filled_cell(place);
         let Ok(block) = self.counter.lock(place, cell) else {
             return None;
         };
@@ -113,7 +97,7 @@ impl<H: HasTable<A>, A: Allocator> Holdings<H, A> {
         ensures len { self.new.len + 1 ≡ self.old.len }
     {
         self.counter.unlock(block, Change::Put(place));
-        let _held = self.places.try_remove(place as usize);
+        let _held = self.places.take(place);
     }
 
     /// Unlocks, and an entry's reference is the next place's; the answer is that place.
@@ -135,12 +119,10 @@ impl<H: HasTable<A>, A: Allocator> Holdings<H, A> {
         ensures places { ChangesPlace self.old self.new result (Some cell) }
         ensures len { self.new.len ≡ self.old.len + 1 }
     {
-        let place = self.places.vacant_key() as u32;
+        let place = self.places.next();
         self.counter.unlock(block, Change::Take { index, place });
         // Whether its state has risen wasn't looked at since the place has it, so its release will look.
-        let _key = self
-            .places
-            .insert_reserved(PlaceEntry { cell, risen: false });
+        let _same = self.places.fill(PlaceEntry { cell, risen: false });
         place
     }
 
@@ -163,7 +145,8 @@ impl<H: HasTable<A>, A: Allocator> Holdings<H, A> {
         ensures len { self.new.len ≡ self.old.len }
     {
         self.counter.unlock(block, Change::Swap { index, place });
-        replace(&mut self.places, place, PlaceEntry { cell, risen: false });
+        self.places
+            .replace(place, PlaceEntry { cell, risen: false });
     }
 }
 

@@ -28,13 +28,14 @@ impl<H: HasTable<A>, A: Allocator> Holdings<H, A> {
         ensures refused { IfErr result (λ back. RefusedMaking self.old self.new back.0) }
         ensures back { IfErr result (λ back. back.1 ≡ payload) }
     {
-        if self.is_full() {
+        let spare = self.places.has_spare();
+        if !spare && self.is_full() {
             return Err((Fault::FrameFull, payload));
         }
         if self.ledger.allocs >= MOST_BIRTHS {
             return Err((Fault::LedgerFull, payload));
         }
-        if !self.has_room() {
+        if !spare && !self.places.grow() {
             return Err((Fault::OutOfMemory, payload));
         }
         Block::new(alloc, 0, payload)
@@ -63,13 +64,11 @@ impl<H: HasTable<A>, A: Allocator> Holdings<H, A> {
             return Err(block);
         };
         self.start.claimed(cell);
-        let place = self.places.vacant_key() as u32;
+        let place = self.places.next();
         let mut block = block;
         block.set_cell(cell);
         self.counter.bear(block, kind, place);
-        let _key = self
-            .places
-            .insert_reserved(PlaceEntry { cell, risen: false });
+        let _same = self.places.fill(PlaceEntry { cell, risen: false });
         self.ledger.allocs += 1;
         Ok(place)
     }

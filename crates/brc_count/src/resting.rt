@@ -5,13 +5,13 @@ ghost use Rattle.std.specs.Prelude.{◌≡◌, []};
 ghost use Rattle.brc_count.specs.Frames.{IsUnlocked};
 
 use crate::frame::Frame;
+use crate::frame_places::Places;
 use crate::held::PlaceEntry;
 use crate::holdings::Holdings;
 use crate::ledger::Ledger;
 use crate::start::ClaimStart;
 use brc_biased::{HasTable, RestingCounter};
 use brc_table::block::Worklist;
-use slab::Slab;
 use std::alloc::Allocator;
 use std::marker::Model;
 
@@ -19,7 +19,7 @@ use std::marker::Model;
 #[derive(Drop)]
 pub struct RestingFrame<A: Allocator> {
     counter: RestingCounter<A>,
-    places: Slab<PlaceEntry, A>,
+    places: Places<A>,
     popped: Vec<u64, A>,
     ledger: Ledger,
     start: ClaimStart,

@@ -95,8 +95,8 @@ pub fn offer<A: Allocator>(table: &HeapTable<A>, seat: &mut ThreadSeat<A>, cell:
     table.offer(seat, cell)
 }
 
-/// The local count, as it was looked at, joins the shared one; answers the shared word that was found. Its item is told
-/// the sum.
+/// The local count, as the log told it before, joins the shared one; answers the shared word that was found. Its item
+/// is told the sum.
 pub fn merge_add<A: Allocator>(
     table: &HeapTable<A>,
     seat: &mut ThreadSeat<A>,

@@ -4,7 +4,7 @@ use Rattle.std.proofs.Common.{◌≡◌, ℕ, List, ◌∷◌, Option, refl, sym
 use Rattle.brc_count.specs.law.declared.rule.contents.Contents.{Contents}
 use Rattle.brc_count.specs.law.declared.rule.told.Moved.TheVariants.{Nothing}
 use Rattle.brc_count.specs.law.declared.rule.told.LogItem.{LogItem}
-use Rattle.brc_count.specs.law.declared.rule.told.LogItem.TheVariants.{Stepped, Loaded}
+use Rattle.brc_count.specs.law.declared.rule.told.LogItem.TheVariants.{Stepped}
 use Rattle.brc_count.specs.law.declared.world.event.LastDropped.TheVariants as lasts
 use Rattle.brc_count.specs.law.declared.world.event.Step.TheVariants.{Close, Offer, Untie, MergeAdd, LastDown}
 use Rattle.brc_count.specs.law.living.Quiet.{Quietly, NoItem, OneMore}
@@ -12,8 +12,6 @@ use Rattle.brc_count.specs.law.living.Later.{IsLater}
 use Rattle.brc_count.proofs.law.living.Earlier.{later_same, later_one, later_both, quietly_later}
 use Rattle.brc_count.proofs.law.living.Quiet_Items.{quietly_joined}
 use Rattle.law_isolation.proofs.Quiet_Lives.{allocs_quietly}
-use Rattle.brc_count.specs.law.declared.known.word.Field.TheVariants.{Local}
-use Rattle.brc_count.specs.law.declared.known.word.Word.TheVariants.{Of}
 use Rattle.brc_count.specs.law.rule.Seen.{part_seen}
 use Rattle.brc_count.specs.block.declared.payload.Payload.{Payload}
 use Rattle.brc_count.specs.table.Seated.{SeatSeen}
@@ -90,7 +88,6 @@ module _ {A : Type 0} where
   hands_over c block before log hands =
       let offered : List LogItem = Stepped (Offer c) hands.offered Nothing ∷ before in
       let untied : List LogItem = Stepped (Untie c) 0 Nothing ∷ offered in
-      let seen : List LogItem = Loaded (Of Local c) hands.local ∷ untied in
       bears_both before offered log (record {
         later = later_one (Stepped (Offer c) hands.offered Nothing) before before (later_same before);
         allocs = λ n. refl;
@@ -98,8 +95,7 @@ module _ {A : Type 0} where
       })
       (quietly_bears offered log
       (quietly_joined offered untied log (OneMore (Stepped (Untie c) 0 Nothing) offered NoItem refl)
-      (quietly_joined untied seen log (OneMore (Loaded (Of Local c) hands.local) untied NoItem refl)
-      (ends_quietly (MergeAdd c) c block seen log refl hands.ends))))
+      (ends_quietly (MergeAdd c) c block untied log refl hands.ends)))
 
   hands_each : (old : FrameSeen A) (c : ℕ) (new : FrameSeen A) → HandsEach old c new
       → BearsNothing old.seat.log new.seat.log

@@ -3,9 +3,8 @@ use Rattle.std.proofs.Common.{◌≡◌, ℕ, ◌<◌, ◌≤◌, Bool, true, Li
 use Rattle.std.proofs.lemmas.Bool.{cases_Bool, true≢false}
 use Rattle.atomic_table.specs.Table.{Allows}
 use Rattle.brc_words.specs.declared.limits.TheConstants.{MOST_THREADS}
-use Rattle.law.specs.declared.world.event.Step.TheVariants.{MergeAdd}
 use Rattle.law.specs.world.Holding.{carries}
-use Rattle.law.specs.declared.known.word.Field.TheVariants.{Owner, Local}
+use Rattle.law.specs.declared.known.word.Field.TheVariants.{Owner}
 use Rattle.law.specs.declared.known.word.Word.{Word}
 use Rattle.law.specs.declared.known.word.Word.TheVariants.{Of, Queue}
 use Rattle.law.specs.known.Items.{IsWord}
@@ -14,9 +13,9 @@ use Rattle.law.specs.declared.rule.told.LogItem.TheVariants.{Loaded}
 use Rattle.law.specs.declared.rule.view.View.{View}
 use Rattle.law.specs.rule.Layout.{spot}
 use Rattle.law.specs.rule.Rule.{with_told, Kept}
-use Rattle.law.specs.rule.Seen.{part_seen, own_may}
+use Rattle.law.specs.rule.Seen.{part_seen}
 use Rattle.law.proofs.rule.Looking.{looks}
-use Rattle.law.proofs.rule.Small_Looks.{looks_owner, looks_local}
+use Rattle.law.proofs.rule.Small_Looks.{looks_owner}
 use Rattle.brc_table.specs.Machine.{MayFind}
 
 -- the cell whose word it is
@@ -49,9 +48,3 @@ module _ {B : Type 0} (shows : B → ℕ × Contents) (n limit : ℕ) where
   finds_owner id v slots c active some_thread low =
       within id v slots (Of Owner c) (carries c (part_seen n v.log).row.hand) MOST_THREADS active low
       (λ carried. looks_owner shows n limit id v slots c active some_thread low carried)
-
-  pub finds_local : (id : ℕ) (v : View) (slots : List (ℕ × Option B)) (c : ℕ) → v.active ≡ true → 0 < v.thread → c < n
-      → MayFind shows n limit id (v, slots) (Of Local c) (Of Local c) (own_may n (part_seen n v.log) (MergeAdd c)) limit
-  finds_local id v slots c active some_thread low =
-      within id v slots (Of Local c) (own_may n (part_seen n v.log) (MergeAdd c)) limit active low
-      (λ own. looks_local shows n limit id v slots c active some_thread low own)

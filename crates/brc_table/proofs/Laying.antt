@@ -1,10 +1,10 @@
 -- Words that are stored one by one over zeros are those that a table opens with.
-use Rattle.std.proofs.Common.{◌≡◌, ◌≢◌, ℕ, ◌+◌, ◌-◌, ◌*◌, ◌/◌, ◌%◌, ◌^◌, ◌<◌, ◌≤◌, nat_lt, if◌then◌else◌, List, length, set, get_or}
-use Rattle.std.proofs.Common.{replicate, refl, sym, ◌∙◌, ap, subst, inl, inr, ◌==◌, arith}
+use Rattle.std.proofs.Common.{◌≡◌, ◌≢◌, ℕ, ◌+◌, ◌-◌, ◌*◌, ◌^◌, ◌<◌, ◌≤◌, if◌then◌else◌, List, length, set, get_or}
+use Rattle.std.proofs.Common.{replicate, sym, ◌∙◌, ap, subst, inl, inr, arith}
 use Rattle.std.proofs.lemmas.Bool.{cases_eq, cases_lt, ne_eqb}
 use Rattle.std.proofs.lemmas.Grind.{same_number_lists}
 use Rattle.std.proofs.lemmas.List.{get_or-set_same, get_or-set_other, length-set, length-replicate, get_or-replicate, get_or_past}
-use Rattle.brc_words.specs.declared.limits.TheConstants.{FIRST_MORTAL, IMMORTAL_LOCAL, MOST_CELLS}
+use Rattle.brc_words.specs.declared.limits.TheConstants.{MOST_CELLS}
 use Rattle.law.specs.declared.known.word.Field.TheVariants.{Shared}
 use Rattle.law.specs.declared.known.word.Word.TheVariants.{Of, FreeWord}
 use Rattle.law.specs.known.Free_Words.{free_words_for}
@@ -22,10 +22,10 @@ pub record FreeLaid (n k : ℕ) (words : List ℕ) : Type 0 where
 -- all free words and the counts of the cells below k are stored, and all others are 0
 pub record CountsLaid (n k : ℕ) (words : List ℕ) : Type 0 where
   pub wide : length words ≡ extent n
-  pub laid : (at : ℕ) → at < counts_from + k * 16 → get_or words at 0 ≡ opening_word n at
-  pub blank : (at : ℕ) → counts_from + k * 16 ≤ at → get_or words at 0 ≡ 0
+  pub laid : (at : ℕ) → at < counts_from + k * 8 → get_or words at 0 ≡ opening_word n at
+  pub blank : (at : ℕ) → counts_from + k * 8 ≤ at → get_or words at 0 ≡ 0
 
-pub cell_inside : (n c : ℕ) → c < n → counts_from + c * 16 + 8 < extent n
+pub cell_inside : (n c : ℕ) → c < n → counts_from + c * 8 < extent n
 cell_inside n c low = inside n (Of Shared c) low
 
 pub free_inside : (n k : ℕ) → k < free_words_for n → k < extent n
@@ -78,63 +78,48 @@ all_free n words few all = record {
 module _ (n k : ℕ) (old : List ℕ) (was : CountsLaid n k old) (low : k < n) where
   -- where the cell's words begin
   abbrev begins : ℕ
-  begins = counts_from + k * 16
+  begins = counts_from + k * 8
 
-  -- the words once the cell's two that aren't 0 are stored
+  -- the words once the cell's one that isn't 0 is stored
   abbrev more : List ℕ
-  more = set (set old begins (opening_count k 0)) (begins + 8) (2 ^ 42)
+  more = set old begins (2 ^ 42)
 
-  within : begins + 8 < length old
+  within : begins < length old
   within = omega (arith, cell_inside n k low, was.wide)
 
-  other_word : (at : ℕ) → at ≢ begins → at ≢ begins + 8 → get_or more at 0 ≡ get_or old at 0
-  other_word at local shared =
-      get_or-set_other (set old begins (opening_count k 0)) (begins + 8) at (2 ^ 42) 0 shared
-      ∙ get_or-set_other old begins at (opening_count k 0) 0 local
+  other_word : (at : ℕ) → at ≢ begins → get_or more at 0 ≡ get_or old at 0
+  other_word at shared = get_or-set_other old begins at (2 ^ 42) 0 shared
 
-  local_word : get_or more begins 0 ≡ opening_word n begins
-  local_word =
-      get_or-set_other (set old begins (opening_count k 0)) (begins + 8) begins (2 ^ 42) 0 (λ same. omega (arith, same))
-      ∙ get_or-set_same old begins (opening_count k 0) 0 (omega (arith, within))
+  shared_word : get_or more begins 0 ≡ opening_word n begins
+  shared_word = get_or-set_same old begins (2 ^ 42) 0 within
       ∙ sym (among_counts n begins k 0 low (omega arith) (omega arith))
 
-  shared_word : get_or more (begins + 8) 0 ≡ opening_word n (begins + 8)
-  shared_word = get_or-set_same (set old begins (opening_count k 0)) (begins + 8) (2 ^ 42) 0
-      (omega (arith, within, length-set old begins (opening_count k 0)))
-      ∙ sym (among_counts n (begins + 8) k 8 low (omega arith) refl)
+  -- another word of this cell
+  else_zero : (part : ℕ) → part ≢ 0 → opening_count part ≡ 0
+  else_zero part other = ap (λ z. if z then 2 ^ 42 else 0) (ne_eqb part 0 other)
 
-  -- a word of this cell that is neither
-  else_zero : (part : ℕ) → part ≢ 0 → part ≢ 8 → opening_count k part ≡ 0
-  else_zero part first second = ap (λ z. if z then (if nat_lt k FIRST_MORTAL then IMMORTAL_LOCAL else 0) else
-      (if part == 8 then 2 ^ 42 else 0)) (ne_eqb part 0 first) ∙ ap (λ z. if z then 2 ^ 42 else 0) (ne_eqb part 8 second)
-
-  laid_more : (at : ℕ) → at < counts_from + (k + 1) * 16 → get_or more at 0 ≡ opening_word n at
+  laid_more : (at : ℕ) → at < counts_from + (k + 1) * 8 → get_or more at 0 ≡ opening_word n at
   laid_more at below = elim (cases_lt at begins) [
-    | inl less ↦ other_word at (λ same. omega (arith, same, less)) (λ same. omega (arith, same, less)) ∙ was.laid at less
+    | inl less ↦ other_word at (λ same. omega (arith, same, less)) ∙ was.laid at less
     | inr reached ↦ elim (cases_eq at begins) [
-      | inl same ↦ ap (λ i. get_or more i 0) same ∙ local_word ∙ ap (opening_word n) (sym same)
-      | inr first ↦ elim (cases_eq at (begins + 8)) [
-        | inl same ↦ ap (λ i. get_or more i 0) same ∙ shared_word ∙ ap (opening_word n) (sym same)
-        | inr second ↦
-            let part : ℕ = at - begins in
-            other_word at first second ∙ was.blank at reached
-            ∙ sym (among_counts n at k part low (omega (arith, reached, below)) (omega (arith, reached))
-            ∙ else_zero part (λ z. first (omega (arith, z, reached))) (λ z. second (omega (arith, z, reached))))
-      ]
+      | inl same ↦ ap (λ i. get_or more i 0) same ∙ shared_word ∙ ap (opening_word n) (sym same)
+      | inr other ↦
+          let part : ℕ = at - begins in
+          other_word at other ∙ was.blank at reached
+          ∙ sym (among_counts n at k part low (omega (arith, reached, below)) (omega (arith, reached))
+          ∙ else_zero part (λ z. other (omega (arith, z, reached))))
     ]
   ]
 
   one_more : CountsLaid n (k + 1) more
   one_more = record {
-    wide = length-set (set old begins (opening_count k 0)) (begins + 8) (2 ^ 42)
-        ∙ length-set old begins (opening_count k 0) ∙ was.wide;
+    wide = length-set old begins (2 ^ 42) ∙ was.wide;
     laid = laid_more;
-    blank = λ at high. other_word at (λ same. omega (arith, same, high)) (λ same. omega (arith, same, high))
-        ∙ was.blank at (omega (arith, high));
+    blank = λ at high. other_word at (λ same. omega (arith, same, high)) ∙ was.blank at (omega (arith, high));
   }
 
 pub one_cell_more : (n k : ℕ) (old new : List ℕ) → CountsLaid n k old → k < n
-    → new ≡ set (set old (counts_from + k * 16) (opening_count k 0)) (counts_from + k * 16 + 8) (2 ^ 42)
+    → new ≡ set old (counts_from + k * 8) (2 ^ 42)
     → CountsLaid n (k + 1) new
 one_cell_more n k old new was low is = subst (CountsLaid n (k + 1)) (sym is) (one_more n k old was low)
 

@@ -1,5 +1,5 @@
 -- Words and slots that open as they should show the opening world, and keep the rule.
-use Rattle.std.proofs.Common.{◌≡◌, ℕ, zero, suc, ◌+◌, ◌-◌, ◌*◌, ◌/◌, ◌%◌, ◌^◌, ◌<◌, ◌≤◌, nat_lt, ◌&&◌, Bool, true}
+use Rattle.std.proofs.Common.{◌≡◌, ℕ, zero, suc, ◌+◌, ◌-◌, ◌*◌, ◌%◌, ◌^◌, ◌<◌, ◌≤◌, nat_lt, ◌&&◌, Bool, true}
 use Rattle.std.proofs.Common.{false, if◌then◌else◌, List, [], ◌∷◌, ◌++◌, map, length, get_or, Option, Some, None, refl}
 use Rattle.std.proofs.Common.{sym, ◌∙◌, ap, subst, inl, inr, arith}
 use Rattle.std.proofs.lemmas.Bool.{cases_lt, lt-ltb, le-ltb}
@@ -12,7 +12,7 @@ use lib.Pow.{pow_mono}
 use mathlib.Core.Option.{some}
 use lib.ListN.{get_elem?}
 use Rattle.atomic_table.specs.Table as tables
-use Rattle.brc_words.specs.declared.limits.TheConstants.{FIRST_MORTAL, IMMORTAL_LOCAL, MOST_CELLS}
+use Rattle.brc_words.specs.declared.limits.TheConstants.{FIRST_MORTAL, MOST_CELLS}
 use Rattle.law.specs.declared.world.cell.Cell.{Cell}
 use Rattle.law.specs.world.Lists.{word_at, one}
 use Rattle.law.specs.known.Start.{start_of}
@@ -62,19 +62,18 @@ pub between : (n at : ℕ) → free_words_for n ≤ at → at < counts_from → 
 between n at past low = before_counts n at low
     ∙ if_not (nat_lt at (free_words_for n)) (opening_free n at) 0 (le-ltb at (free_words_for n) past)
 
-pub among_counts : (n at c part : ℕ) → c < n → part < 16 → at ≡ counts_from + c * 16 + part
-    → opening_word n at ≡ opening_count c part
+pub among_counts : (n at c part : ℕ) → c < n → part < 8 → at ≡ counts_from + c * 8 + part
+    → opening_word n at ≡ opening_count part
 among_counts n at c part low small there =
-    let cell : (at - counts_from) / 16 ≡ c = omega (arith, small, there) in
-    let of_it : (at - counts_from) % 16 ≡ part = omega (arith, small, there) in
+    let of_it : (at - counts_from) % 8 ≡ part = omega (arith, small, there) in
     from_counts n at (omega (arith, there))
-    ∙ if_so (nat_lt at (queues_from n)) (opening_count ((at - counts_from) / 16) ((at - counts_from) % 16)) 0
+    ∙ if_so (nat_lt at (queues_from n)) (opening_count ((at - counts_from) % 8)) 0
     (lt-ltb at (queues_from n) (omega (arith, low, small, there)))
-    ∙ (λ i. opening_count (cell i) (of_it i))
+    ∙ ap opening_count of_it
 
 pub past_counts : (n at : ℕ) → queues_from n ≤ at → opening_word n at ≡ 0
 past_counts n at high = from_counts n at (omega (arith, high))
-    ∙ if_not (nat_lt at (queues_from n)) (opening_count ((at - counts_from) / 16) ((at - counts_from) % 16)) 0
+    ∙ if_not (nat_lt at (queues_from n)) (opening_count ((at - counts_from) % 8)) 0
     (le-ltb at (queues_from n) high)
 
 -- ---- the opening world's words
@@ -145,15 +144,12 @@ opens_free n limit k enough =
 opens_word : (n limit : ℕ) (w : Word) → FIRST_MORTAL ≤ n → n ≤ MOST_CELLS → IsWord n w
     → WordShows (start_of n limit) w (opening_word n (spot n w))
 opens_word n limit (Of Owner c) enough few is = subst (ShowsOwner 1 (cell_at (start_of n limit) c).owner)
-    (sym (among_counts n (spot n (Of Owner c)) c 10 is (omega arith) refl)) (opens_owner n limit c enough)
+    (sym (among_counts n (spot n (Of Owner c)) c 2 is (omega arith) refl)) (opens_owner n limit c enough)
 opens_word n limit (FreeWord k) enough few is = among_free n k few is ∙ opens_free n limit k enough
-opens_word n limit (Of Local c) enough few is = among_counts n (spot n (Of Local c)) c 0 is (omega arith) (omega arith)
-    ∙ by_cell n limit Local c (opening_count c 0) enough
-    (λ low. ap (λ z. if z then IMMORTAL_LOCAL else 0) (lt-ltb c FIRST_MORTAL low))
-    (λ high. ap (λ z. if z then IMMORTAL_LOCAL else 0) (le-ltb c FIRST_MORTAL high))
-opens_word n limit (Of Shared c) enough few is = among_counts n (spot n (Of Shared c)) c 8 is (omega arith) refl
+opens_word n limit (Of Local c) enough few is = absurd is
+opens_word n limit (Of Shared c) enough few is = among_counts n (spot n (Of Shared c)) c 0 is (omega arith) (omega arith)
     ∙ by_cell n limit Shared c (2 ^ 42) enough (λ low. refl) (λ high. refl)
-opens_word n limit (Of Mutex c) enough few is = among_counts n (spot n (Of Mutex c)) c 9 is (omega arith) refl
+opens_word n limit (Of Mutex c) enough few is = among_counts n (spot n (Of Mutex c)) c 1 is (omega arith) refl
     ∙ by_cell n limit Mutex c 0 enough (λ low. refl) (λ high. refl)
 opens_word n limit (Queue t k) enough few is =
     subst (λ b. ShowsQueue b (is_closed (row_at (start_of n limit) t).stage k) (word_at (queue_at (start_of n limit) t) k)

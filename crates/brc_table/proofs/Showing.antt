@@ -8,7 +8,7 @@ use Rattle.law.proofs.known.Items_Runs.{events_run}
 use Rattle.law.specs.declared.rule.view.View.{View}
 use Rattle.law.specs.rule.Logs.{items_of}
 use Rattle.law.specs.rule.Rule.{Kept}
-use Rattle.law.proofs.rule.Knowing.{kept_reached, kept_headline}
+use Rattle.law.proofs.rule.Knowing.{kept_reached, kept_headline, knows}
 use Rattle.law.proofs.rule.Once.{root_once}
 use Rattle.law.specs.known.Start.{start_of}
 use Rattle.brc_table.specs.Moment.{ShowsOneRun}
@@ -30,6 +30,8 @@ module _ {A : Type 0} where
     one_seat = λ i j v w at_i at_j is_v is_w same. sym (kept.each_seat i v at_i is_v).here ∙ ap kept.seat same
         ∙ (kept.each_seat j w at_j is_w).here;
     logs = λ j v at active. (kept.each_seat j v at active).log;
+    counts = λ j v at active some_thread c mortal.
+        (knows shows n limit s kept j v at active some_thread).counts c mortal;
     ended = λ j v at active root. (kept.each_seat j v at active).lives root;
     root_once = root_once n limit kept.run kept.options kept.legal.items;
     each_once = kept.each_once;

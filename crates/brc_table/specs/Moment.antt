@@ -1,10 +1,14 @@
 -- What a table shows at a moment.
-use Rattle.std.specs.Prelude.{◌≡◌, ℕ, ◌<◌, true, slice_index, Option}
+use Rattle.std.specs.Prelude.{◌≡◌, ℕ, ◌<◌, ◌≤◌, true, slice_index, Option}
 use mathlib.Core.Option.{some}
 use lib.ListN.{get_elem?}
 use Rattle.atomic_table.specs.Table.{State}
 use Rattle.brc_block.specs.declared.payload.Payload.{Payload}
+use Rattle.brc_words.specs.declared.limits.TheConstants.{FIRST_MORTAL}
 use Rattle.law.specs.known.Start.{start_of}
+use Rattle.law.specs.known.Counts.{own_count}
+use Rattle.law.specs.rule.Seen.{counts_seen}
+use Rattle.law.specs.world.Heap.{cell_at, row_at}
 use Rattle.law.specs.world.Holding.{Headline}
 use Rattle.law.specs.world.Since.{HistoriesSince}
 use Rattle.law.specs.world.Runs.{IsReached}
@@ -22,7 +26,7 @@ module _ {A : Type 0} where
   -- that the run leads to is reached, and counts are references there; each object that died had no holder, and died
   -- once for its birth. Each thread that is registered and not gathered has one seat, whose log is what the thread did;
   -- and each item of the run stands in one log, once: a seat's, or one that the root keeps of a registration that has
-  -- ended.
+  -- ended. No word shows an owner's count: it is the one that the seat's log tells.
   pub record ShowsOneRun (n limit : ℕ) (s : State (Option (ℕ × Payload A)) View) : Type 0 where
     pub run : Run
     pub legal : IsLegal n limit run
@@ -35,6 +39,9 @@ module _ {A : Type 0} where
     pub one_seat : (i j : ℕ) (v w : View) → get_elem? s.views i ≡ some v → get_elem? s.views j ≡ some w
         → v.active ≡ true → w.active ≡ true → v.thread ≡ w.thread → i ≡ j
     pub logs : (j : ℕ) (v : View) → get_elem? s.views j ≡ some v → v.active ≡ true → own_of v.thread run ≡ v.log
+    pub counts : (j : ℕ) (v : View) → get_elem? s.views j ≡ some v → v.active ≡ true → 0 < v.thread → (c : ℕ)
+        → FIRST_MORTAL ≤ c
+        → own_count v.thread (row_at (world n limit run) v.thread).stage (cell_at (world n limit run) c) ≡ counts_seen n v.log c
     pub ended : (j : ℕ) (v : View) → get_elem? s.views j ≡ some v → v.active ≡ true → v.thread ≡ 0
         → v.gathered ≡ lives_of run
     pub root_once : all_of 0 run ≡ own_of 0 run

@@ -1,7 +1,7 @@
 -- What a table opens with: the words of the opening world, and the block of each immortal.
-use Rattle.std.specs.Prelude.{ℕ, zero, suc, ◌+◌, ◌-◌, ◌*◌, ◌/◌, ◌%◌, ◌^◌, ◌==◌, nat_lt, min, if◌then◌else◌, List, []}
+use Rattle.std.specs.Prelude.{ℕ, zero, suc, ◌-◌, ◌*◌, ◌%◌, ◌^◌, ◌==◌, nat_lt, min, if◌then◌else◌, List, []}
 use Rattle.std.specs.Prelude.{◌∷◌, ◌++◌, Option, Some, None}
-use Rattle.brc_words.specs.declared.limits.TheConstants.{FIRST_MORTAL, IMMORTAL_LOCAL}
+use Rattle.brc_words.specs.declared.limits.TheConstants.{FIRST_MORTAL}
 use Rattle.brc_words.specs.declared.look.TheConstants.{NO_COUNT}
 use Rattle.brc_block.specs.declared.payload.Payload.{Payload}
 use Rattle.law.specs.declared.rule.contents.Contents.{Contents}
@@ -19,11 +19,9 @@ bits_below c k = min 64 (c - k * 64)
 abbrev pub opening_free : ℕ → ℕ → ℕ
 opening_free n k = 2 ^ bits_below n k - 2 ^ bits_below FIRST_MORTAL k
 
--- a local word opens as it is for immortals, and 0 else; a shared word with the count 0; no mutex is locked, and nobody
--- is an owner
-abbrev pub opening_count : ℕ → ℕ → ℕ
-opening_count c part = if part == 0 then (if nat_lt c FIRST_MORTAL then IMMORTAL_LOCAL else 0)
-    else (if part == 8 then NO_COUNT else 0)
+-- a shared word opens with the count 0; no mutex is locked, and nobody is an owner
+abbrev pub opening_count : ℕ → ℕ
+opening_count part = if part == 0 then NO_COUNT else 0
 
 -- the word at a spot before the counts: behind the free words nobody is told anything
 abbrev pub opening_low : ℕ → ℕ → ℕ
@@ -31,7 +29,7 @@ opening_low n at = if nat_lt at (free_words_for n) then opening_free n at else 0
 
 -- the word at a spot from the counts on: behind these nothing is queued
 abbrev pub opening_high : ℕ → ℕ → ℕ
-opening_high n at = if nat_lt at (queues_from n) then opening_count ((at - counts_from) / 16) ((at - counts_from) % 16) else 0
+opening_high n at = if nat_lt at (queues_from n) then opening_count ((at - counts_from) % 8) else 0
 
 -- the word at a spot
 abbrev pub opening_word : ℕ → ℕ → ℕ

@@ -20,8 +20,8 @@ ghost use Rattle.brc_table.specs.Seated.{IsSameSeat, Continues};
 ghost use Rattle.brc_table.specs.Shown.{shows, contents_of};
 
 use crate::layout::{all_but, bit, has_bit};
-use crate::machine::store;
-use crate::moving::{claim_by, give, give_bit, put_in};
+use crate::machine::{store_unless_there, tell};
+use crate::moving::{claim_by, give_bit, give_unless_there, put_in};
 use crate::seats::ThreadSeat;
 use crate::table::HeapTable;
 use brc_block::Block;
@@ -62,7 +62,7 @@ impl<A: Allocator> HeapTable<A> {
         }
     }
 
-    #[tactic(auto, using(law::proofs::steps::Making_Steps::sets_local))]
+    #[tactic(auto, using(crate::proofs::Own_Counts::counts_first))]
     /// InitLocal: the first reference is counted.
     pub fn init_local(&self, seat: &mut ThreadSeat<A>, cell: u32)
         requires table { seat.old.table ≡ self.now.table }
@@ -74,8 +74,7 @@ impl<A: Allocator> HeapTable<A> {
             (handing (hands.Busy phases.Counted cell) (known_seen self.now.cells seat.old.log)) }
         ensures keeps { KeepsNotes self.now.cells seat.old.log seat.new.log }
     {
-        let word = Word::Of(Field::Local, cell);
-        store(self, &mut seat.place, word, 1, Step::InitLocal(cell));
+        tell(self, &mut seat.place, 1, Step::InitLocal(cell));
     }
 
     #[tactic(auto, using(law::proofs::steps::Making_Steps::sets_shared))]
@@ -92,7 +91,7 @@ impl<A: Allocator> HeapTable<A> {
     {
         let word = Word::Of(Field::Shared, cell);
         let step = Step::InitShared(cell);
-        store(self, &mut seat.place, word, NO_COUNT, step);
+        store_unless_there(self, &mut seat.place, word, NO_COUNT, step);
     }
 
     /// Birth: the block is put home, and the place of the frame has the first reference to it.
@@ -113,7 +112,7 @@ impl<A: Allocator> HeapTable<A> {
         let word = Word::Of(Field::Owner, cell);
         let step = Step::Birth { cell, kind, place };
         put_in(self, &mut seat.place, cell, block);
-        give(self, &mut seat.place, word, u64::from(seat.thread), step);
+        give_unless_there(self, &mut seat.place, word, u64::from(seat.thread), step);
     }
 
     /// Free: the cell of a dead object without entries is free again, and its free word is told as it was found. Births

@@ -1,4 +1,4 @@
-//! Counting: by the owner on the local word, and by all others on the shared one.
+//! Counting: by the owner in its log alone, and by all others on the shared word.
 
 ghost use Rattle.std.specs.Prelude.{◌≡◌, ◌≢◌, ◌+◌, ◌-◌, ◌%◌, ◌==◌, ◌<◌, ◌≤◌, ◌∷◌, true, Some, OnOk, OnErr, IfErr};
 ghost use Rattle.brc_words.specs.declared.look.TheConstants.{NO_COUNT, ONE_COUNT};
@@ -15,16 +15,15 @@ ghost use Rattle.law.specs.rule.Seen.{risen_seen, contents_locked};
 ghost use Rattle.brc_table.specs.Knowing.{known_seen, Knows, KeepsNotes, SeesRisen, NotesNumber};
 ghost use Rattle.brc_table.specs.Seated.{IsSameSeat};
 
-use crate::machine::{add, exchange, load, or, store};
+use crate::machine::{add, exchange, or, tell};
 use crate::seats::ThreadSeat;
 use crate::table::HeapTable;
-use brc_words::{ONE_COUNT, QUEUED_BITS};
+use brc_words::{IMMORTAL_LOCAL, ONE_COUNT, QUEUED_BITS};
 use law::known::{Field, Word};
 use law::world::{Dropped, Source, Step};
 use std::alloc::Allocator;
 
 impl<A: Allocator> HeapTable<A> {
-    #[tactic(auto, using(law::proofs::steps::Local_Steps::counts_up))]
     /// LocalUp: the owner of the cell counts up, by the count that its log tells.
     pub fn local_up(
         &self,
@@ -45,12 +44,11 @@ impl<A: Allocator> HeapTable<A> {
         ensures keeps { KeepsNotes self.now.cells seat.old.log seat.new.log }
         ensures found { contents_locked seat.new.log ≡ contents_locked seat.old.log }
     {
-        let word = Word::Of(Field::Local, cell);
+        let _cell = cell;
         let step = Step::LocalUp { source, place };
-        store(self, &mut seat.place, word, u64::from(count) + 1, step);
+        tell(self, &mut seat.place, u64::from(count) + 1, step);
     }
 
-    #[tactic(auto, using(law::proofs::steps::Local_Steps::counts_down))]
     /// LocalDown: it counts down.
     pub fn local_down(&self, seat: &mut ThreadSeat<A>, drop: Dropped, cell: u32, count: u32)
         requires table { seat.old.table ≡ self.now.table }
@@ -62,13 +60,12 @@ impl<A: Allocator> HeapTable<A> {
             (counting_down (count == 1) drop cell (count - 1) (known_seen self.now.cells seat.old.log)) }
         ensures keeps { KeepsNotes self.now.cells seat.old.log seat.new.log }
     {
-        let word = Word::Of(Field::Local, cell);
+        let _cell = cell;
         let step = Step::LocalDown(drop);
-        store(self, &mut seat.place, word, u64::from(count) - 1, step);
+        tell(self, &mut seat.place, u64::from(count) - 1, step);
     }
 
-    #[tactic(auto, using(law::proofs::steps::Local_Steps::counts_immortal_up))]
-    /// LocalUp of an immortal, which only looks at its word.
+    /// LocalUp of an immortal, whose count stays.
     pub fn immortal_up(
         &self,
         seat: &mut ThreadSeat<A>,
@@ -86,12 +83,13 @@ impl<A: Allocator> HeapTable<A> {
         ensures keeps { KeepsNotes self.now.cells seat.old.log seat.new.log }
         ensures found { contents_locked seat.new.log ≡ contents_locked seat.old.log }
     {
-        let word = Word::Of(Field::Local, cell);
+        let _cell = cell;
+        let count = u64::from(IMMORTAL_LOCAL);
         let step = Step::LocalUp { source, place };
-        load(self, &mut seat.place, word, step)
+        tell(self, &mut seat.place, count, step);
+        count
     }
 
-    #[tactic(auto, using(law::proofs::steps::Local_Steps::counts_immortal_down))]
     /// LocalDown of an immortal.
     pub fn immortal_down(&self, seat: &mut ThreadSeat<A>, drop: Dropped, cell: u32) -> u64
         requires table { seat.old.table ≡ self.now.table }
@@ -103,8 +101,10 @@ impl<A: Allocator> HeapTable<A> {
             (giving_up (Some drop) (counting cell result (known_seen self.now.cells seat.old.log))) }
         ensures keeps { KeepsNotes self.now.cells seat.old.log seat.new.log }
     {
-        let word = Word::Of(Field::Local, cell);
-        load(self, &mut seat.place, word, Step::LocalDown(drop))
+        let _cell = cell;
+        let count = u64::from(IMMORTAL_LOCAL);
+        tell(self, &mut seat.place, count, Step::LocalDown(drop));
+        count
     }
 
     #[tactic(auto, using(law::proofs::steps::Shared_Steps::counts_up_shared))]

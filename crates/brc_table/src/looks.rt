@@ -2,7 +2,6 @@
 
 ghost use Rattle.std.specs.Prelude.{◌≡◌, ◌<◌, ◌≤◌, ◌∷◌, true};
 ghost use Rattle.brc_words.specs.declared.limits.TheConstants.{MOST_THREADS};
-ghost use Rattle.law.specs.declared.world.event.Step.TheVariants as steps;
 ghost use Rattle.law.specs.world.Holding.{carries};
 ghost use Rattle.law.specs.declared.known.word.Field.TheVariants as fields;
 ghost use Rattle.law.specs.declared.known.word.Word.TheVariants as words;
@@ -10,7 +9,7 @@ ghost use Rattle.law.specs.known.Free_Words.{free_words_for};
 ghost use Rattle.law.specs.known.Owners_Seen.{has_seen_owner};
 ghost use Rattle.law.specs.declared.rule.told.LogItem.TheVariants as told;
 ghost use Rattle.law.specs.rule.Logs.{log_items};
-ghost use Rattle.law.specs.rule.Seen.{part_seen, own_may, contents_locked};
+ghost use Rattle.law.specs.rule.Seen.{part_seen, contents_locked};
 ghost use Rattle.brc_table.specs.Knowing.{known_seen, Knows, KeepsNotes, SeesRisen, NotesNumber};
 ghost use Rattle.brc_table.specs.Seated.{IsSameSeat};
 
@@ -36,22 +35,6 @@ impl<A: Allocator> HeapTable<A> {
         ensures within { carries cell (part_seen self.now.cells seat.old.log).row.hand ≡ true → result ≤ MOST_THREADS }
     {
         look_within::<A, Brand>(self, &mut seat.place, Word::Of(Field::Owner, cell))
-    }
-
-    /// The owner's count, which is within the limit where the thread is merging the object.
-    pub fn load_local(&self, seat: &mut ThreadSeat<A>, cell: u32) -> u64
-        requires table { seat.old.table ≡ self.now.table }
-        requires inside { cell < self.now.cells }
-        ensures told { seat.new.log ≡ told.Loaded (words.Of fields.Local cell) result ∷ seat.old.log }
-        ensures seat { IsSameSeat seat.old seat.new }
-        ensures knows { Knows self.now.cells seat.new.log (known_seen self.now.cells seat.old.log) }
-        ensures keeps { KeepsNotes self.now.cells seat.old.log seat.new.log }
-        ensures found { contents_locked seat.new.log ≡ contents_locked seat.old.log }
-        ensures notes { NotesNumber fields.Local cell result seat.old.log seat.new.log }
-        ensures within { own_may self.now.cells (part_seen self.now.cells seat.old.log) (steps.MergeAdd cell) ≡ true
-            → result ≤ self.now.local_limit }
-    {
-        look_within::<A, Brand>(self, &mut seat.place, Word::Of(Field::Local, cell))
     }
 
     /// The count of all others, above the state bits.

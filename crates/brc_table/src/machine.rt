@@ -1,7 +1,7 @@
 //! One function for each operation on a word. The caller says which event or look it is, and owes that the operation is
 //! allowed as that; the seat's log then has it.
 
-ghost use Rattle.std.specs.Prelude.{◌≡◌, ◌+◌, ◌%◌, ◌==◌, ◌<◌, ◌≤◌, ℕ, Bool, true, false, if◌then◌else◌, bit_or};
+ghost use Rattle.std.specs.Prelude.{◌≡◌, ◌≢◌, ◌+◌, ◌%◌, ◌==◌, ◌<◌, ◌≤◌, ℕ, Bool, true, false, if◌then◌else◌, bit_or, IsTrue, IsFalse};
 ghost use prog.Atomic.{either};
 ghost use Rattle.law.specs.world.Lists.{WORD_LIMIT};
 ghost use Rattle.law.specs.declared.known.word.Word.{Word as word_data};
@@ -67,42 +67,36 @@ impl<S, M: Won> Play<S, View> for LogExchanges<M> {
 
 pub(crate) type Place<A> = Seat<Option<Block<A>>, View>;
 
-/// A load, as an item.
+/// A load of a word that nobody writes, as an item that no word shows. The number is for whoever picks the item.
 #[inline(always)]
-fn load_as<A: Allocator, M: ToldItem>(
+fn tell_as<A: Allocator, M: ToldItem>(
     table: &HeapTable<A>,
     seat: &mut Place<A>,
-    word: Word,
+    number: u64,
     step: Step,
 ) -> u64
     requires same { seat.old.table_id ≡ table.now.table }
-    requires inside { IsWord table.now.cells word }
-    requires allowed { MayTell shows table.now.cells table.now.local_limit seat.old.id seat.old.me word (λ there. there)
-        (M.item) }
+    requires allowed { MayTell shows table.now.cells table.now.local_limit seat.old.id seat.old.me (words.NotifyWord 0)
+        (λ there. there) (M.item) }
     ensures same { (seat.new.table_id ≡ seat.old.table_id) × (seat.new.id ≡ seat.old.id) }
     ensures told { seat.new.me ≡ (with_told (M.item result) seat.old.me.0, seat.old.me.1) }
 {
+    let _number = number;
     let _step = step;
-    let at = spot_of(table.cells, word);
+    let at = spot_of(table.cells, Word::NotifyWord(0));
     table.table.shared.load::<LogTells<M>>(seat, at)
 }
 
-/// A load, as an event.
+/// An event that works on no word of the table, and is told this number: its thread's log alone shows it.
 #[inline(always)]
-pub(crate) fn load<A: Allocator>(
-    table: &HeapTable<A>,
-    seat: &mut Place<A>,
-    word: Word,
-    step: Step,
-) -> u64
+pub(crate) fn tell<A: Allocator>(table: &HeapTable<A>, seat: &mut Place<A>, number: u64, step: Step)
     requires same { seat.old.table_id ≡ table.now.table }
-    requires inside { IsWord table.now.cells word }
-    requires allowed { MayTell shows table.now.cells table.now.local_limit seat.old.id seat.old.me word (λ there. there)
-        (λ there. told.Stepped step there moves.Nothing) }
+    requires allowed { MayTell shows table.now.cells table.now.local_limit seat.old.id seat.old.me (words.NotifyWord 0)
+        (λ there. there) (λ _. told.Stepped step number moves.Nothing) }
     ensures same { (seat.new.table_id ≡ seat.old.table_id) × (seat.new.id ≡ seat.old.id) }
-    ensures told { seat.new.me ≡ (with_told (told.Stepped step result moves.Nothing) seat.old.me.0, seat.old.me.1) }
+    ensures told { seat.new.me ≡ (with_told (told.Stepped step number moves.Nothing) seat.old.me.0, seat.old.me.1) }
 {
-    load_as::<A, Brand>(table, seat, word, step)
+    let _same = tell_as::<A, Brand>(table, seat, number, step);
 }
 
 /// A plain store, as an item.
@@ -143,6 +137,98 @@ pub(crate) fn store<A: Allocator>(
     ensures told { seat.new.me ≡ (with_told (told.Stepped step new moves.Nothing) seat.old.me.0, seat.old.me.1) }
 {
     store_as::<A, Brand>(table, seat, word, new, step)
+}
+
+/// Which item a store is, and which number it stores. A caller's proof picks both.
+pub(crate) trait Stored {
+    ghost item: { told_data };
+
+    ghost number: { ℕ };
+}
+
+impl Stored for Brand {
+    ghost item = { told.Loaded (words.NotifyWord 0) 0 };
+
+    ghost number = { 0 };
+}
+
+/// A load that finds the number is the item, and any other is nothing.
+pub(crate) struct LogIfThere<M> {
+    marker: PhantomData<M>,
+}
+
+impl<S, M: Stored> Play<S, View> for LogIfThere<M> {
+    ghost then = { λ step me number after. (number ≡ M.number → after ≡ (with_told M.item me.0, me.1))
+        × (number ≢ M.number
+        → after ≡ me) };
+}
+
+/// A load, which is the item of a store where the word has its number already.
+#[inline(always)]
+fn find_as<A: Allocator, M: Stored>(
+    table: &HeapTable<A>,
+    seat: &mut Place<A>,
+    word: Word,
+    new: u64,
+    step: Step,
+) -> bool
+    requires same { seat.old.table_id ≡ table.now.table }
+    requires inside { IsWord table.now.cells word }
+    requires number { M.number ≡ new }
+    requires allowed { MayTell shows table.now.cells table.now.local_limit seat.old.id seat.old.me word (λ _. new)
+        (λ _. M.item) }
+    ensures same { (seat.new.table_id ≡ seat.old.table_id) × (seat.new.id ≡ seat.old.id) }
+    ensures told { IsTrue result → seat.new.me ≡ (with_told M.item seat.old.me.0, seat.old.me.1) }
+    ensures other { IsFalse result → seat.new.me ≡ seat.old.me }
+{
+    let _step = step;
+    let at = spot_of(table.cells, word);
+    let found = table.table.shared.load::<LogIfThere<M>>(seat, at);
+    found == new
+}
+
+/// Whether the word has a store's number already: then the load is that store's event.
+#[inline(always)]
+fn find<A: Allocator>(
+    table: &HeapTable<A>,
+    seat: &mut Place<A>,
+    word: Word,
+    new: u64,
+    step: Step,
+) -> bool
+    requires same { seat.old.table_id ≡ table.now.table }
+    requires inside { IsWord table.now.cells word }
+    requires allowed { MayTell shows table.now.cells table.now.local_limit seat.old.id seat.old.me word (λ _. new)
+        (λ _. told.Stepped step new moves.Nothing) }
+    ensures same { (seat.new.table_id ≡ seat.old.table_id) × (seat.new.id ≡ seat.old.id) }
+    ensures told { IsTrue result → seat.new.me ≡ (
+      with_told (told.Stepped step new moves.Nothing) seat.old.me.0,
+      seat.old.me.1,
+    ) }
+    ensures other { IsFalse result → seat.new.me ≡ seat.old.me }
+{
+    find_as::<A, Brand>(table, seat, word, new, step)
+}
+
+/// A store, as an event. Where the word has the number already, a load is that event, and nothing is stored.
+#[inline(always)]
+pub(crate) fn store_unless_there<A: Allocator>(
+    table: &HeapTable<A>,
+    seat: &mut Place<A>,
+    word: Word,
+    new: u64,
+    step: Step,
+)
+    requires same { seat.old.table_id ≡ table.now.table }
+    requires inside { IsWord table.now.cells word }
+    requires allowed { MayTell shows table.now.cells table.now.local_limit seat.old.id seat.old.me word (λ _. new)
+        (λ _. told.Stepped step new moves.Nothing) }
+    ensures same { (seat.new.table_id ≡ seat.old.table_id) × (seat.new.id ≡ seat.old.id) }
+    ensures told { seat.new.me ≡ (with_told (told.Stepped step new moves.Nothing) seat.old.me.0, seat.old.me.1) }
+{
+    if !find(table, seat, word, new, step) {
+        store(table, seat, word, new, step);
+    }
 }
 
 /// An addition, as an item.

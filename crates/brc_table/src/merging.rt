@@ -17,9 +17,9 @@ ghost use Rattle.law.specs.steps.Taking.{AreCells};
 ghost use Rattle.law.specs.world.Steps.{takes_block, added_hand};
 ghost use Rattle.law.specs.known.Items.{cell_told};
 ghost use Rattle.law.specs.known.Taken.{listed_at};
-ghost use Rattle.law.specs.rule.Seen.{part_seen, taken_seen};
+ghost use Rattle.law.specs.rule.Seen.{part_seen, counts_seen, taken_seen};
 ghost use Rattle.brc_table.specs.Moving.{is_there, found_in, out_with};
-ghost use Rattle.law.specs.rule.Noted.{newest_step};
+ghost use Rattle.law.specs.rule.Noted.{newest_step, counted_before};
 ghost use Rattle.brc_table.specs.Knowing.{known_seen, entries_of, Knows, KeepsNotes};
 ghost use Rattle.brc_table.specs.Queued.{IsEnqueued, hand_left};
 ghost use Rattle.brc_table.specs.Seated.{IsSameSeat, Continues};
@@ -88,6 +88,8 @@ impl<A: Allocator> HeapTable<A> {
         ensures knows { Knows self.now.cells seat.new.log
             (handing (hands.Busy phases.Yielding cell) (counting cell 0 (known_seen self.now.cells seat.old.log))) }
         ensures keeps { KeepsNotes self.now.cells seat.old.log seat.new.log }
+        ensures newest { newest_step seat.new.log ≡ Some (steps.Untie cell) }
+        ensures counted { counted_before self.now.cells cell seat.new.log ≡ counts_seen self.now.cells seat.old.log cell }
     {
         let word = Word::Of(Field::Owner, cell);
         store(self, &mut seat.place, word, 0, Step::Untie(cell));
@@ -103,13 +105,15 @@ impl<A: Allocator> HeapTable<A> {
         ensures knows { Knows self.now.cells seat.new.log
             (handing (hands.Busy phases.Popping cell) (counting cell 0 (known_seen self.now.cells seat.old.log))) }
         ensures keeps { KeepsNotes self.now.cells seat.old.log seat.new.log }
+        ensures newest { newest_step seat.new.log ≡ Some (steps.Untie cell) }
+        ensures counted { counted_before self.now.cells cell seat.new.log ≡ counts_seen self.now.cells seat.old.log cell }
     {
         let _shared = shared;
         let word = Word::Of(Field::Owner, cell);
         store(self, &mut seat.place, word, 0, Step::Untie(cell));
     }
 
-    /// MergeAdd: the local count, as it was looked at, joins the shared one. It answers the number found; its item is
+    /// MergeAdd: the local count, as the log told it before, joins the shared one. It answers the number found; its item is
     /// told the sum.
     pub fn merge_add(&self, seat: &mut ThreadSeat<A>, cell: u32, local: u32) -> u64
         requires table { seat.old.table ≡ self.now.table }

@@ -1,7 +1,7 @@
 //! One function for each operation by which a block may move: out of the table with the seat, or home.
 
 ghost use Rattle.std.specs.Prelude.{◌≡◌, ◌+◌, ◌-◌, ◌%◌, ◌==◌, ◌<◌, ◌∷◌, ℕ, Option, Some, None, true, false};
-ghost use Rattle.std.specs.Prelude.{IfSome, OnOk, IfErr, bit_or};
+ghost use Rattle.std.specs.Prelude.{IfSome, OnOk, IfErr, IsTrue, IsFalse, bit_or, ◌≢◌};
 ghost use Rattle.std.specs.Int.{bit_at};
 ghost use prog.Atomic.{either};
 ghost use Rattle.atomic_table.specs.Table.{Allows, rest};
@@ -26,7 +26,7 @@ ghost use Rattle.brc_table.specs.Moving.{FewFrees, found_in, out_with, emptied, 
 ghost use Rattle.brc_table.specs.Shown.{shows, contents_of};
 
 use crate::layout::spot_of;
-use crate::machine::Place;
+use crate::machine::{Place, Stored};
 use crate::table::HeapTable;
 use atomic_table::Play;
 use brc_block::Block;
@@ -552,6 +552,88 @@ pub(crate) fn give<A: Allocator>(
     ensures few { FewFrees table.now.cells seat.new.me.0.log }
 {
     give_as::<A, Brand>(table, seat, word, new, step)
+}
+
+/// A load that finds the number is the item, by which the slot that the seat took last is home; any other is nothing.
+pub(crate) struct LogGivesIfThere<M> {
+    marker: PhantomData<M>,
+}
+
+impl<A: Allocator, M: Stored> Play<Option<Block<A>>, View> for LogGivesIfThere<M> {
+    ghost then = { λ step me number after. (number ≡ M.number → after ≡ (with_told M.item me.0, rest me.1))
+        × (number ≢ M.number
+        → after ≡ me) };
+}
+
+#[inline(always)]
+fn give_if_as<A: Allocator, M: Stored>(
+    table: &HeapTable<A>,
+    seat: &mut Place<A>,
+    word: Word,
+    new: u64,
+    step: Step,
+) -> bool
+    requires same { seat.old.table_id ≡ table.now.table }
+    requires inside { IsWord table.now.cells word }
+    requires number { M.number ≡ new }
+    requires allowed { MayGive table.now.cells table.now.local_limit seat.old.id seat.old.me word new M.item }
+    ensures same { (seat.new.table_id ≡ seat.old.table_id) × (seat.new.id ≡ seat.old.id) }
+    ensures told { IsTrue result → seat.new.me ≡ (with_told M.item seat.old.me.0, rest seat.old.me.1) }
+    ensures other { IsFalse result → seat.new.me ≡ seat.old.me }
+{
+    let _step = step;
+    let at = spot_of(table.cells, word);
+    let found = table.table.shared.load::<LogGivesIfThere<M>>(seat, at);
+    found == new
+}
+
+/// Whether the word has the number already: then the slot that the seat took last goes home by a load.
+#[inline(always)]
+fn give_if<A: Allocator>(
+    table: &HeapTable<A>,
+    seat: &mut Place<A>,
+    word: Word,
+    new: u64,
+    step: Step,
+) -> bool
+    requires same { seat.old.table_id ≡ table.now.table }
+    requires inside { IsWord table.now.cells word }
+    requires allowed { MayGive table.now.cells table.now.local_limit seat.old.id seat.old.me word new
+        (told.Stepped step new (put_home seat.old.me.1)) }
+    ensures same { (seat.new.table_id ≡ seat.old.table_id) × (seat.new.id ≡ seat.old.id) }
+    ensures told { IsTrue result → seat.new.me ≡ (
+      with_told (told.Stepped step new (put_home seat.old.me.1)) seat.old.me.0,
+      rest seat.old.me.1,
+    ) }
+    ensures other { IsFalse result → seat.new.me ≡ seat.old.me }
+{
+    give_if_as::<A, Brand>(table, seat, word, new, step)
+}
+
+/// A store by which the slot that the seat took last is home, or a load where the word has the number already.
+#[inline(always)]
+pub(crate) fn give_unless_there<A: Allocator>(
+    table: &HeapTable<A>,
+    seat: &mut Place<A>,
+    word: Word,
+    new: u64,
+    step: Step,
+)
+    requires same { seat.old.table_id ≡ table.now.table }
+    requires inside { IsWord table.now.cells word }
+    requires allowed { MayGive table.now.cells table.now.local_limit seat.old.id seat.old.me word new
+        (told.Stepped step new (put_home seat.old.me.1)) }
+    requires active { seat.old.me.0.active ≡ true }
+    requires some_thread { 0 < seat.old.me.0.thread }
+    ensures same { (seat.new.table_id ≡ seat.old.table_id) × (seat.new.id ≡ seat.old.id) }
+    ensures told { seat.new.me ≡ (
+      with_told (told.Stepped step new (put_home seat.old.me.1)) seat.old.me.0,
+      rest seat.old.me.1,
+    ) }
+{
+    if !give_if(table, seat, word, new, step) {
+        give(table, seat, word, new, step);
+    }
 }
 
 #[inline(always)]

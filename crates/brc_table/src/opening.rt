@@ -7,15 +7,13 @@ ghost use Rattle.law.specs.world.Heap.{AreOptions};
 ghost use Rattle.law.specs.known.Free_Words.{free_words_for};
 ghost use Rattle.law.specs.rule.Layout.{extent as extent_of};
 ghost use Rattle.law.specs.rule.Logs.{opening_contents};
-ghost use Rattle.brc_table.specs.Opening.{bits_below, opening_free, opening_count, opening_words};
+ghost use Rattle.brc_table.specs.Opening.{bits_below, opening_free, opening_words};
 ghost use Rattle.brc_table.specs.Opening.{slot_shows, opening_slot, opening_slots};
 ghost use Rattle.brc_table.specs.Shown.{contents_of};
 
 use crate::layout::{COUNTS_FROM, bit, extent, free_words_for as free_words};
 use brc_block::{Block, Pairs, Payload};
-use brc_words::{
-    FEWEST_CELLS, FIRST_MORTAL, Fault, GLOBALS, IMMORTAL_LOCAL, MOST_CELLS, MOST_LOCAL, NO_COUNT,
-};
+use brc_words::{FEWEST_CELLS, FIRST_MORTAL, Fault, GLOBALS, MOST_CELLS, MOST_LOCAL, NO_COUNT};
 use std::alloc::{AllocError, AllocFailed, Allocator};
 
 /// Whether a heap may have these sizes.
@@ -51,17 +49,6 @@ fn opening_free(cells: u32, word: u32) -> u64
     ones(bits_below(cells, word)) - ones(bits_below(FIRST_MORTAL, word))
 }
 
-/// The local word of a cell.
-fn opening_local(cell: u32) -> u64
-    ensures { result ≡ opening_count cell 0 }
-{
-    if cell < FIRST_MORTAL {
-        u64::from(IMMORTAL_LOCAL)
-    } else {
-        0
-    }
-}
-
 #[tactic(auto, using(crate::proofs::Laying::nothing_laid, crate::proofs::Laying::one_word_more, crate::proofs::Laying::all_free, crate::proofs::Laying::one_cell_more, crate::proofs::Laying::all_laid, crate::proofs::Laying::cell_inside, crate::proofs::Laying::free_inside))]
 /// All words. Most are 0, so they are filled at once; what isn't 0 is stored after that.
 pub(crate) fn opening_words<A: Allocator>(alloc: A, cells: u32) -> Result<Vec<u64, A>, AllocError>
@@ -75,9 +62,7 @@ pub(crate) fn opening_words<A: Allocator>(alloc: A, cells: u32) -> Result<Vec<u6
         made[word as usize] = opening_free(cells, word);
     }
     for cell in 0..cells {
-        let counts = COUNTS_FROM + cell as usize * 16;
-        made[counts] = opening_local(cell);
-        made[counts + 8] = NO_COUNT;
+        made[COUNTS_FROM + cell as usize * 8] = NO_COUNT;
     }
     Ok(made)
 }

@@ -90,11 +90,10 @@ enqueued_log shared log = Stepped (Enqueue 266) 0 moves.Nothing ∷ asked_log sh
 abbrev pub seen_log : ℕ → List LogItem → List LogItem
 seen_log shared log = Loaded (words.Of fields.Shared 266) shared ∷ log
 
--- then it has made it nobody's, has seen so many references of the owner's own, and has added these to the shared word
+-- then it has made it nobody's, and has added so many references of the owner's own to the shared word
 abbrev pub added_log : ℕ → ℕ → List LogItem → List LogItem
 added_log shared local log =
     Stepped (MergeAdd 266) ((shared + (local * 4 + 1)) % 2 ^ 64) moves.Nothing
-    ∷ Loaded (words.Of fields.Local 266) local
     ∷ Stepped (Untie 266) 0 moves.Nothing
     ∷ seen_log shared log
 
@@ -146,7 +145,6 @@ given_log thread = Stepped (LocalDown (dropped.Frame 1)) 4294967295 moves.Nothin
 abbrev pub handed_log : ℕ → List LogItem
 handed_log thread =
     Stepped (MergeAdd 266) 4398046511111 moves.Nothing
-    ∷ Loaded (words.Of fields.Local 266) 1
     ∷ Stepped (Untie 266) 0 moves.Nothing
     ∷ Stepped (Offer 266) 4398046511106 moves.Nothing
     ∷ given_log thread

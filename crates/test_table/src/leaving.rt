@@ -59,7 +59,6 @@ fn hands_over(rt: &impl Abort, table: &Table, seat: &mut Seat)
 {
     is(rt, offer(table, seat, 266), 4_398_046_511_106);
     table.untie_offered(seat, 266);
-    is(rt, table.load_local(seat, 266), 1);
 
     // The answer is the sum: one reference of a merged list.
     let found = table.merge_yielding(seat, 266, 1);
@@ -119,7 +118,6 @@ impl OfTwo for EndsByAHandOver {
         let found = table.last_down(two, Dropped::Frame(1), 266);
         lives(rt, found, 4_398_046_511_106);
         table.untie_offered(one, 266);
-        is(rt, table.load_local(one, 266), 1);
         let Found { number, block } = table.merge_yielding(one, 266, 1);
         is(rt, number, 4_398_046_511_107);
         gone(rt, table, one, block, 266);

@@ -5,7 +5,7 @@ ghost use Rattle.law.specs.declared.world.event.Change.TheVariants as changes;
 ghost use Rattle.law.specs.declared.world.event.Dropped.TheVariants as drops;
 ghost use Rattle.law.specs.declared.world.event.Source.TheVariants as sources;
 ghost use Rattle.law.specs.declared.world.event.Step.TheVariants as steps;
-ghost use Rattle.law.specs.rule.Seen.{part_seen};
+ghost use Rattle.law.specs.rule.Seen.{part_seen, counts_seen};
 ghost use Rattle.law.specs.steps.Owing.{MayCarry, EndsRisen, Enqueues, MayRaiseImmortal, MayRaiseShared, MayRelease};
 ghost use Rattle.law.specs.steps.Owing.{MayUnlock};
 ghost use Rattle.brc_table.specs.Seated.{Continues};
@@ -112,11 +112,11 @@ pub(crate) fn merges_popped(
     requires stands { StandsAt seat.old.log table.now seat.old }
     requires popped { HasPopped table.now.cells seat.old.log }
     requires unmerged { shared % 4 ≢ 3 }
+    requires counted { counts_seen table.now.cells seat.old.log 266 ≡ local }
     ensures went { Went (added_log shared local seat.old.log) seat.old seat.new }
 {
     is(rt, table.load_shared(seat, 266), shared);
     table.untie_popped(seat, 266, shared);
-    is(rt, table.load_local(seat, 266), u64::from(local));
     is(rt, table.merge_add(seat, 266, local), shared);
 }
 

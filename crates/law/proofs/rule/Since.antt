@@ -34,11 +34,11 @@ use Rattle.law.specs.declared.rule.told.LogItem.{LogItem}
 use Rattle.law.specs.declared.rule.told.LogItem.TheVariants.{Stepped, Loaded, Lost}
 use Rattle.law.specs.rule.Logs.{item_of, Run, items_of, begins, own_of, world, IsLegal}
 use Rattle.law.specs.rule.Rule.{stands}
-use Rattle.law.specs.rule.Seen.{part_seen}
-use Rattle.law.specs.rule.Noted.{is_of, noted, newest_step}
-use Rattle.law.proofs.rule.Own_Logs.{stands_registered, stands_ungathered, own_more}
+use Rattle.law.specs.rule.Seen.{part_seen, counts_seen}
+use Rattle.law.specs.rule.Noted.{is_of, noted, newest_step, counted_before}
+use Rattle.law.proofs.rule.Own_Logs.{stands_registered, stands_ungathered, own_more, same_stands}
 use Rattle.law.proofs.rule.Knowing.{Known, knows_run}
-use Rattle.law.proofs.rule.Stepping.{moved_on, thread_after, no_start}
+use Rattle.law.proofs.rule.Stepping.{moved_on, thread_after, no_start, same_threads}
 
 -- ---- who stands after another's event stood before it
 
@@ -344,3 +344,65 @@ since_step n limit h t log s P some_thread known is own lasts done =
     told_so n limit t P (λ now. (newest_step now ≡ Some s) × (part_seen n now ≡ part_seen n log)) lasts known.options
     some_thread (λ bad. no_step s bad.0) (λ m moved bad. own (sym (step_same (Register t) s bad.0)))
     (stepped_item n limit t log P known.options some_thread s done) h log known (is, refl)
+
+-- ---- since such a step, by the count that the log told before it
+
+module _ (n limit t : ℕ) (now : List LogItem) (P : Heap → Type 0) (options : AreOptions n limit) (some_thread : 0 < t)
+    (s : Step) (c count : ℕ)
+    (done : (h : Heap) (before later : List LogItem) → May h t s → Known n limit h t before
+    → counts_seen n before c ≡ count → Known n limit (moved_on h t s) t later → part_seen n later ≡ part_seen n now
+    → P (moved_on h t s)) where
+  -- The newest step is this one, and before it the log told this count, where the cell is mortal.
+  abbrev CountedSo : List LogItem → Type 0
+  CountedSo log = (newest_step log ≡ Some s) × (counted_before n c log ≡ count) × (part_seen n log ≡ part_seen n now)
+
+  counting_step : (run : Run) (m : ℕ) (moved : Moved) → IsLegal n limit ((t, Stepped s m moved) ∷ run)
+      → stands (world n limit ((t, Stepped s m moved) ∷ run)) t ≡ true
+      → counts_seen n (own_of t run) c ≡ count → part_seen n (Stepped s m moved ∷ own_of t run) ≡ part_seen n now
+      → P (world n limit ((t, Stepped s m moved) ∷ run))
+  counting_step run m moved legal stood says same =
+      let h : Heap = world n limit run in
+      let x : LogItem = Stepped s m moved in
+      let earlier : IsLegal n limit run = record { items = legal.items.0; moved = legal.moved.0 } in
+      let off : (t == 0) ≡ false = ne_eqb t 0 (λ zero. omega (arith, zero, some_thread)) in
+      let may : May h t s = may_parts h t s
+      (subst (λ b. (if b then root_may h s else thread_may h t s) ≡ true) off legal.items.1.0) in
+      let is : world n limit ((t, x) ∷ run) ≡ moved_on h t s = thread_after h t s some_thread in
+      let log : own_of t ((t, x) ∷ run) ≡ x ∷ own_of t run = own_more t x run (no_start h t s m moved may t) in
+      let stood_then : stands h t ≡ true =
+      sym (same_stands h (moved_on h t s) t (same_threads h t s (target_at h t s)))
+      ∙ subst (λ z. stands z t ≡ true) is stood in
+      subst P (sym is) (done h (own_of t run) (own_of t ((t, x) ∷ run)) may
+      (knows_run n limit run t options earlier stood_then some_thread) says
+      (subst (λ z. Known n limit z t (own_of t ((t, x) ∷ run))) is
+      (knows_run n limit ((t, x) ∷ run) t options legal stood some_thread)) (ap (part_seen n) log ∙ same))
+
+  counted_item : (run : Run) (x : LogItem) → IsLegal n limit ((t, x) ∷ run)
+      → stands (world n limit ((t, x) ∷ run)) t ≡ true → CountedSo (x ∷ own_of t run)
+      → (stands (world n limit run) t ≡ true → CountedSo (own_of t run) → P (world n limit run))
+      → P (world n limit ((t, x) ∷ run))
+  counted_item run (Stepped other m moved) legal stood tells before =
+      let is : Some other ≡ Some s = tells.0 in
+      let same : s ≡ other = cc in
+      subst (λ z. IsLegal n limit ((t, Stepped z m moved) ∷ run)
+      → stands (world n limit ((t, Stepped z m moved) ∷ run)) t ≡ true
+      → counts_seen n (own_of t run) c ≡ count
+      → part_seen n (Stepped z m moved ∷ own_of t run) ≡ part_seen n now
+      → P (world n limit ((t, Stepped z m moved) ∷ run)))
+      same (counting_step run m moved) legal stood tells.1 tells.2
+  counted_item run (Loaded word m) legal stood tells before = before stood tells
+  counted_item run (Lost word m) legal stood tells before = before stood tells
+
+-- what lasts, and was so after the thread's newest step, before which its log told this count of the cell
+pub since_count : (n limit : ℕ) (h : Heap) (t : ℕ) (log : List LogItem) (s : Step) (c count : ℕ) (P : Heap → Type 0)
+    → 0 < t → Known n limit h t log → newest_step log ≡ Some s → counted_before n c log ≡ count → s ≢ Register t
+    → Lasts t P
+    → ((old : Heap) (before later : List LogItem) → May old t s → Known n limit old t before
+    → counts_seen n before c ≡ count → Known n limit (moved_on old t s) t later
+    → part_seen n later ≡ part_seen n log → P (moved_on old t s)) → P h
+since_count n limit h t log s c count P some_thread known is says own lasts done =
+    told_so n limit t P
+    (λ now. (newest_step now ≡ Some s) × (counted_before n c now ≡ count) × (part_seen n now ≡ part_seen n log)) lasts
+    known.options
+    some_thread (λ bad. no_step s bad.0) (λ m moved bad. own (sym (step_same (Register t) s bad.0)))
+    (counted_item n limit t log P known.options some_thread s c count done) h log known (is, says, refl)

@@ -1,5 +1,4 @@
--- Looks at the words of a cell in the hand: the owner is a thread's number or 0, and the local count is within the
--- limit.
+-- A look at the owner word of a cell in the hand: it is a thread's number or 0.
 use Rattle.std.proofs.Common.{◌≡◌, ℕ, ◌+◌, ◌<◌, ◌≤◌, true, List, length, get_or, Option, refl, sym, ◌∙◌, ap, arith}
 use Rattle.std.proofs.lemmas.Bool.{true≢false}
 use Rattle.atomic_table.specs.Table.{State as Table, Allows, keeps}
@@ -7,9 +6,7 @@ use Rattle.brc_words.specs.declared.limits.TheConstants.{MOST_THREADS}
 use Rattle.brc_words.specs.declared.owner.Owner.{Owner}
 use Rattle.brc_words.specs.declared.owner.Owner.TheVariants as owners
 use Rattle.brc_words.specs.Owners.{word_of}
-use Rattle.law.specs.declared.world.event.Step.TheVariants.{MergeAdd}
 use Rattle.law.specs.declared.world.row.Row.{Row}
-use Rattle.law.specs.declared.world.row.Hand.TheVariants as hands
 use Rattle.law.specs.world.Heap.{Heap, cell_at, row_at}
 use Rattle.law.specs.world.Holding.{carries, lives}
 use Rattle.law.specs.world.Sound.{IsSound}
@@ -19,8 +16,7 @@ use Rattle.law.proofs.world.Reached.{reached_sound}
 use Rattle.law.specs.lasting.Ranges.{OwnerFits}
 use Rattle.law.proofs.lasting.Lasting.{held_live}
 use Rattle.law.proofs.lasting.Ranges_Law.{reached_owners}
-use Rattle.law.proofs.lasting.Telling.{hand_tells}
-use Rattle.law.specs.declared.known.word.Field.TheVariants.{Owner as OwnerWord, Local}
+use Rattle.law.specs.declared.known.word.Field.TheVariants.{Owner as OwnerWord}
 use Rattle.law.specs.declared.known.word.Word.{Word}
 use Rattle.law.specs.declared.known.word.Word.TheVariants.{Of}
 use Rattle.law.specs.known.Items.{IsWord, WordShows}
@@ -32,10 +28,9 @@ use Rattle.law.specs.declared.rule.view.View.{View}
 use Rattle.law.specs.rule.Layout.{spot}
 use Rattle.law.specs.rule.Logs.{world}
 use Rattle.law.specs.rule.Rule.{with_told, Kept}
-use Rattle.law.specs.rule.Seen.{part_seen, own_may}
+use Rattle.law.specs.rule.Seen.{part_seen}
 use Rattle.law.proofs.rule.Knowing.{Known, knows}
 use Rattle.law.proofs.rule.Looking.{saw, unmoved}
-use Rattle.law.proofs.rule.Noting.{hand_in, part_hand, adding_hand, adding_nobody}
 
 -- the owner of an object that lives is a thread or nobody
 owner_small : (threads : ℕ) (owner : Owner) (number : ℕ) → threads ≤ MOST_THREADS + 1 → OwnerFits threads owner
@@ -54,21 +49,6 @@ carried_owner n limit h t log c number known carried shown =
     let live : lives (cell_at h c).owner ≡ true = held_live h c sound (carried_held h t c (one-true _ carrying)) in
     owner_small (length h.rows) (cell_at h c).owner number sound.shaped.threads (reached_owners h known.reached c) live
     (live_shown (length h.rows) (cell_at h c).owner number live shown)
-
-merging_local : (n limit : ℕ) (h : Heap) (t : ℕ) (log : List LogItem) (c number : ℕ) → Known n limit h t log
-    → own_may n (part_seen n log) (MergeAdd c) ≡ true → WordShows h (Of Local c) number → number ≤ limit
-merging_local n limit h t log c number known own shown =
-    let hand = adding_hand (part_seen n log).row.hand c (part_hand n (part_seen n log) (MergeAdd c) own) in
-    let busy : (row_at h t).hand ≡ hands.Busy hand.0 c = hand_in n limit h t log log (hands.Busy hand.0 c) known
-    refl hand.1 in
-    let live : lives (cell_at h c).owner ≡ true = ap lives (adding_nobody h t c hand.0 known.reached busy hand.2) in
-    omega (
-      arith,
-      shown,
-      ((reached_sound h known.reached).cells c
-          (hand_tells h t c hand.0 known.reached busy).0).limited live,
-      known.limit_is,
-    )
 
 module _ {B : Type 0} (shows : B → ℕ × Contents) (n limit : ℕ) where
   abbrev Rule : Table (Option B) View → Type 0
@@ -100,11 +80,3 @@ module _ {B : Type 0} (shows : B → ℕ × Contents) (n limit : ℕ) where
   looks_owner id v slots c active some_thread low carried =
       looks_and id v slots (Of OwnerWord c) (λ number. number ≤ MOST_THREADS) active some_thread low
       (λ h there known shown. carried_owner n limit h v.thread v.log c there known carried shown)
-
-  pub looks_local : (id : ℕ) (v : View) (slots : List (ℕ × Option B)) (c : ℕ) → v.active ≡ true → 0 < v.thread → c < n
-      → own_may n (part_seen n v.log) (MergeAdd c) ≡ true
-      → Allows Rule n id (v, slots) (spot n (Of Local c)) (λ number. number)
-      (λ number me. (me ≡ (with_told (Loaded (Of Local c) number) v, slots)) × (number ≤ limit))
-  looks_local id v slots c active some_thread low own =
-      looks_and id v slots (Of Local c) (λ number. number ≤ limit) active some_thread low
-      (λ h there known shown. merging_local n limit h v.thread v.log c there known own shown)

@@ -47,7 +47,7 @@ pub thread_enabled : (h : Heap) (t : ℕ) (s : Step) → 0 < t → thread_may h 
 thread_enabled h t s some_thread may = ap (λ b. if b then root_may h s else thread_may h t s)
     (ne_eqb t 0 (λ same. omega (arith, same, some_thread))) ∙ may
 
-same_threads : (h : Heap) (t : ℕ) (s : Step) (o : Option ℕ) → SameThreads h (after_target h t s o)
+pub same_threads : (h : Heap) (t : ℕ) (s : Step) (o : Option ℕ) → SameThreads h (after_target h t s o)
 same_threads h t s None = record { rows = same_rows h t s None; gathered = refl }
 same_threads h t s (Some c) = record { rows = same_rows h t s (Some c); gathered = refl }
 
@@ -136,3 +136,54 @@ module _ {B : Type 0} (shows : B → ℕ × Contents) (n limit : ℕ) where
             (subst (λ m. IsWord m u) (sym (run_cells n limit (events_of (items_of r.run)))) there)
             (λ e. other (ap (spot n) (e ∙ did.word))) (r.each_word u there))
       ]
+
+-- the same of an event whose word is none of the table's: all words stay, and show the world after it
+pub record DoesQuietly (n : ℕ) (h : Heap) (run : Run) (t : ℕ) (s : Step) (w : Word) (number : ℕ)
+    (moved : Moved) : Type 0 where
+  pub some_thread : 0 < t
+  pub may : thread_may h t s ≡ true
+  pub word : works_on h t s (target_at h t s) ≡ w
+  pub no_word : IsWord n w → ⊥
+  pub told : IsNumberFound h t s number
+  pub entries : entries_found moved ≡ found h t s
+  pub moves : MovesWith h run t s moved
+
+module _ {B : Type 0} (shows : B → ℕ × Contents) (n limit : ℕ) where
+  abbrev QuietRule : State (Option B) View → Type 0
+  QuietRule = Kept shows n limit
+
+  pub does_quietly : (st : State (Option B) View) (r : QuietRule st) (id : ℕ) (v : View) (s : Step) (w : Word) (number : ℕ)
+      (moved : Moved) → get_elem? st.views id ≡ some v → v.active ≡ true
+      → DoesQuietly n (world n limit r.run) r.run v.thread s w number moved
+      → ((c : ℕ) → c < n → HomeShown shows st.homes (moved_on (world n limit r.run) v.thread s)
+      ((v.thread, Stepped s number moved) ∷ r.run) c)
+      → QuietRule (record {
+        words = st.words;
+        homes = st.homes;
+        views = set st.views id
+            (with_told (Stepped s number moved) v);
+      })
+  does_quietly st r id v s w number moved at active did each_home =
+      let t : ℕ = v.thread in
+      let x : LogItem = Stepped s number moved in
+      let h : Heap = world n limit r.run in
+      let may : May h t s = may_parts h t s did.may in
+      let is : world n limit ((t, x) ∷ r.run) ≡ moved_on h t s = thread_after h t s did.some_thread in
+      grows shows n limit st r id v x st.words st.homes at active
+      (record {
+        threads = subst (SameThreads h) (sym is) (same_threads h t s (target_at h t s));
+        starts = no_start h t s number moved may;
+        gathers = no_gather h t s number moved may;
+      })
+      (thread_enabled h t s did.some_thread did.may, did.told, did.entries) did.moves
+      (record {
+        wide = r.wide;
+        deep = r.deep;
+        each_word = λ u there. subst (λ z. WordShows z u (get_or st.words (spot n u) 0)) (sym is)
+            (others_shown h t s u (get_or st.words (spot n u) 0)
+            (run_reached n limit (events_of (items_of r.run)) r.options
+            (events_run (start_of n limit) (items_of r.run) r.legal.items)) may
+            (subst (λ m. IsWord m u) (sym (run_cells n limit (events_of (items_of r.run)))) there)
+            (λ e. did.no_word (subst (IsWord n) (e ∙ did.word) there)) (r.each_word u there));
+        each_home = λ c low. subst (λ z. HomeShown shows st.homes z ((t, x) ∷ r.run) c) (sym is) (each_home c low);
+      })

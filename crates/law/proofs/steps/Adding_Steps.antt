@@ -1,14 +1,16 @@
 -- MergeAdd: the local count joins the shared one, and the object is merged.
-use Rattle.std.proofs.Common.{◌≡◌, ℕ, ◌+◌, ◌*◌, ◌<◌, ◌≤◌, ◌/◌, ◌%◌, ◌^◌, true, false, if◌then◌else◌, pos, ◌+ℤ◌, List}
+use Rattle.std.proofs.Common.{◌≡◌, ◌≢◌, ℕ, ◌+◌, ◌*◌, ◌<◌, ◌≤◌, ◌/◌, ◌%◌, ◌^◌, ◌&&◌, not, true, false, if◌then◌else◌, pos, ◌+ℤ◌, List}
 use Rattle.std.proofs.Common.{[], length, Option, Some, None, refl, sym, ◌∙◌, ap, subst, inl, inr, arith}
 use Rattle.std.proofs.lemmas.Int.{ints}
+use Rattle.std.proofs.lemmas.Bool.{and_parts, eq-eqb, true≢false}
+use Rattle.std.specs.Cmp.Derive.{both_true}
 use Rattle.atomic_table.specs.Table.{State as Table, Allows}
 use Rattle.brc_words.specs.declared.limits.TheConstants.{FIRST_MORTAL}
 use Rattle.brc_words.specs.declared.state.State.TheVariants as states
 use Rattle.brc_words.specs.Shared.{CountFits}
 use Rattle.law.specs.declared.world.cell.Cell.{Cell}
 use Rattle.law.specs.declared.world.event.Step.{Step}
-use Rattle.law.specs.declared.world.event.Step.TheVariants.{MergeAdd}
+use Rattle.law.specs.declared.world.event.Step.TheVariants.{MergeAdd, Register, Untie}
 use Rattle.law.specs.declared.world.row.Hand.TheVariants as hands
 use Rattle.law.specs.declared.world.row.Phase.{Phase}
 use Rattle.law.specs.declared.world.row.Phase.TheVariants as phases
@@ -16,7 +18,8 @@ use Rattle.law.specs.world.Heap.{Heap, cell_at, entries_at, row_at}
 use Rattle.law.specs.world.Holding.{lives, count_of_state}
 use Rattle.law.specs.world.Runs.{IsReached}
 use Rattle.law.specs.world.Sound.{IsSound, held}
-use Rattle.law.specs.world.Steps.{thread_may, cell_after, takes_block, is_active}
+use Rattle.law.specs.world.Steps.{thread_may, cell_after, takes_block, is_active, is_mine, is_owned_by, is_shut_hand}
+use Rattle.law.specs.world.Steps.{edition_ok}
 use Rattle.law.proofs.world.Merging.{popped_held, nonzero}
 use Rattle.law.proofs.world.Naming.{live_counts}
 use Rattle.law.proofs.world.Reached.{reached_sound}
@@ -25,7 +28,7 @@ use Rattle.law.specs.lasting.Staying.{StaysMerging}
 use Rattle.law.proofs.lasting.Lasting.{live_owner}
 use Rattle.law.proofs.lasting.Progress.{inside}
 use Rattle.law.proofs.lasting.Telling.{hand_tells, merging_lasts, yielding_lasts}
-use Rattle.law.specs.declared.known.word.Field.TheVariants.{Local, Shared}
+use Rattle.law.specs.declared.known.word.Field.TheVariants.{Shared}
 use Rattle.law.specs.declared.known.word.Word.TheVariants.{Of}
 use Rattle.law.specs.known.Items.{WordShows, shared_word, cell_told}
 use Rattle.law.specs.declared.rule.contents.Contents.{Contents}
@@ -43,13 +46,14 @@ use Rattle.law.proofs.steps.Numbers.{word_merged}
 use Rattle.law.proofs.steps.Plain_Steps.{IsPlain, plain_on, same_owner, stays_on, plain_step}
 use Rattle.law.proofs.steps.Shared_Steps.{count_after}
 use Rattle.law.proofs.steps.Telling.{tells_found}
-use Rattle.law.proofs.rule.Since.{since}
+use Rattle.law.proofs.rule.Since.{since_count}
+use Rattle.law.proofs.rule.Stepping.{moved_on}
 use Rattle.law.proofs.rule.Noting.{hand_in, merging_words}
-use Rattle.law.specs.rule.Seen.{part_seen, own_may}
+use Rattle.law.specs.rule.Seen.{part_seen, counts_seen, own_may}
 use Rattle.law.specs.lasting.Staying.{Yields as HandsOver}
 use Rattle.law.proofs.lasting.Adding_Hands.{pops_active}
 use Rattle.law.proofs.lasting.Ranges_Law.{hand_unmarked}
-use Rattle.law.proofs.world.Asking.{may_parts}
+use Rattle.law.proofs.world.Asking.{May, may_parts, mine, UntieWay, at_end, shut_out, handed_over, from_queue, untie_way}
 use Rattle.brc_words.specs.declared.owner.Owner.TheVariants as owners
 use Rattle.law.specs.steps.Taking.{EndedObject}
 use Rattle.law.proofs.steps.Taking_Steps.{EndsOn, end_step_as}
@@ -101,22 +105,64 @@ sum_stored n limit h t log c local there p some_thread known own now shown =
     ∙ sym (word_merged x.count local (reached_count_range h known.reached c) more few)
     ∙ ap (λ m. shared_word (x.count +ℤ pos m) states.Merged) (sym now.count)
 
+-- ---- since the object was untied
+
+no_register : (t c : ℕ) → Untie c ≢ Register t
+no_register t c bad = absurd (cc)
+
+-- it was the thread's own, and the thread was active
+untied_mine : (n limit : ℕ) (h : Heap) (t : ℕ) (log : List LogItem) (c : ℕ) → May h t (Untie c) → Known n limit h t log
+    → is_mine t (row_at h t).stage (cell_at h c) ≡ true
+untied_mine n limit h t log c may known =
+    let two : (is_active (row_at h t).stage && not (is_shut_hand (row_at h t).hand)) ≡ true =
+    subst (λ e. edition_ok e (row_at h t) (Untie c) ≡ true) (known_edition n limit h t log known) may.edition in
+    let parts = and_parts _ _ two in
+    both_true (ap (is_owned_by t) (by_way (untie_way h t c (reached_sound h known.reached) may) parts.1)
+    ∙ eq-eqb t t refl) parts.0
+  where
+    by_way : UntieWay h t c → not (is_shut_hand (row_at h t).hand) ≡ true → (cell_at h c).owner ≡ owners.Thread t
+    by_way (at_end hand owner) unshut = owner
+    by_way (shut_out hand owned first) unshut =
+        absurd (true≢false (sym unshut ∙ ap (λ g. not (is_shut_hand g)) hand))
+    by_way (handed_over hand owner) unshut = owner
+    by_way (from_queue hand bit owner) unshut = owner
+
+-- the step leaves its local count, which is what the log told before
+untied_count : (n limit : ℕ) (h : Heap) (t : ℕ) (log : List LogItem) (c local : ℕ) → FIRST_MORTAL ≤ c
+    → May h t (Untie c) → Known n limit h t log → counts_seen n log c ≡ local
+    → (cell_at (moved_on h t (Untie c)) c).local ≡ local
+untied_count n limit h t log c local mortal may known says =
+    let x : Cell = cell_at h c in
+    let his : is_mine t (row_at h t).stage x ≡ true = untied_mine n limit h t log c may known in
+    let low : c < length h.cells = inside h c
+    (λ free. not_free (sym (mine t (row_at h t).stage x his).owner ∙ free)) in
+    ap (λ (y : Cell). y.local) (read_cell h t (Untie c) c low)
+    ∙ sym (ap (λ b. if b then x.local else 0) his) ∙ known.counts c mortal ∙ says
+  where
+    not_free : owners.Thread t ≡ owners.Free → ⊥
+    not_free bad = absurd (cc)
+
 -- ---- for a popped entry
 
-noted_local : (h : Heap) (t c local : ℕ) → IsReached h → (row_at h t).hand ≡ hands.Busy phases.Popping c
-    → WordShows h (Of Local c) local → StaysMerging h t c local phases.Popping
-noted_local h t c local reached busy found =
+untied_popped : (h : Heap) (t c local : ℕ) → IsReached h → (row_at h t).hand ≡ hands.Busy phases.Popping c
+    → (cell_at h c).local ≡ local → StaysMerging h t c local phases.Popping
+untied_popped h t c local reached busy count =
     let words = merging_words h t c phases.Popping reached busy (inl refl) in
-    record { hand = busy; phase = inr refl; owner = words.0; state = words.1; count = sym found }
+    record { hand = busy; phase = inr refl; owner = words.0; state = words.1; count = count }
 
--- the local count is the one that was noted, since nobody else writes it
+-- the local count is what the log told before, since nobody else counts on it
 merges_now : (n limit : ℕ) (h : Heap) (t : ℕ) (log : List LogItem) (c local : ℕ) → 0 < t → Known n limit h t log
     → AddsLocal n log c local → Sums h t c local phases.Popping
 merges_now n limit h t log c local some_thread known adds =
-    let merges : StaysMerging h t c local phases.Popping = since n limit h t log Local c local
-    (λ z. StaysMerging z t c local phases.Popping) some_thread known adds.found (merging_lasts t c local phases.Popping)
-    (λ old before was same found. noted_local old t c local was.reached
-    (hand_in n limit old t before log (hands.Busy phases.Popping c) was same adds.hand) found) in
+    let busy : (row_at h t).hand ≡ hands.Busy phases.Popping c =
+    hand_in n limit h t log log (hands.Busy phases.Popping c) known refl adds.hand in
+    let mortal : FIRST_MORTAL ≤ c = (hand_tells h t c phases.Popping known.reached busy).0 in
+    let merges : StaysMerging h t c local phases.Popping = since_count n limit h t log (Untie c) c local
+    (λ z. StaysMerging z t c local phases.Popping) some_thread known adds.untied (adds.counted mortal)
+    (no_register t c) (merging_lasts t c local phases.Popping)
+    (λ old before later may was says now same. untied_popped (moved_on old t (Untie c)) t c local now.reached
+    (hand_in n limit (moved_on old t (Untie c)) t later log (hands.Busy phases.Popping c) now same adds.hand)
+    (untied_count n limit old t before c local mortal may was says)) in
     record {
       hand = merges.hand;
       owner = merges.owner;
@@ -186,19 +232,23 @@ adds_up n limit h t log c local there some_thread known adds shown =
 
 -- ---- to be handed over
 
-noted_own : (h : Heap) (t c local : ℕ) → IsReached h → (row_at h t).hand ≡ hands.Busy phases.Yielding c
-    → WordShows h (Of Local c) local → HandsOver h t c local
-noted_own h t c local reached busy found =
+untied_own : (h : Heap) (t c local : ℕ) → IsReached h → (row_at h t).hand ≡ hands.Busy phases.Yielding c
+    → (cell_at h c).local ≡ local → HandsOver h t c local
+untied_own h t c local reached busy count =
     let words = merging_words h t c phases.Yielding reached busy (inr refl) in
-    record { hand = busy; owner = words.0; state = words.1; count = sym found }
+    record { hand = busy; owner = words.0; state = words.1; count = count }
 
 yields_now : (n limit : ℕ) (h : Heap) (t : ℕ) (log : List LogItem) (c local : ℕ) → 0 < t → Known n limit h t log
     → MayYield n log c local → Sums h t c local phases.Yielding
 yields_now n limit h t log c local some_thread known yields =
-    let over : HandsOver h t c local = since n limit h t log Local c local (λ z. HandsOver z t c local) some_thread
-    known yields.found (yielding_lasts t c local)
-    (λ old before was same found. noted_own old t c local was.reached
-    (hand_in n limit old t before log (hands.Busy phases.Yielding c) was same yields.hand) found) in
+    let busy : (row_at h t).hand ≡ hands.Busy phases.Yielding c =
+    hand_in n limit h t log log (hands.Busy phases.Yielding c) known refl yields.hand in
+    let mortal : FIRST_MORTAL ≤ c = (hand_tells h t c phases.Yielding known.reached busy).0 in
+    let over : HandsOver h t c local = since_count n limit h t log (Untie c) c local (λ z. HandsOver z t c local)
+    some_thread known yields.untied (yields.counted mortal) (no_register t c) (yielding_lasts t c local)
+    (λ old before later may was says now same. untied_own (moved_on old t (Untie c)) t c local now.reached
+    (hand_in n limit (moved_on old t (Untie c)) t later log (hands.Busy phases.Yielding c) now same yields.hand)
+    (untied_count n limit old t before c local mortal may was says)) in
     record {
       hand = over.hand;
       owner = over.owner;

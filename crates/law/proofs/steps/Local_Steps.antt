@@ -1,10 +1,11 @@
--- The owner's counting: LocalUp and LocalDown, with the number that the thread keeps and no look.
+-- The owner's counting: LocalUp and LocalDown, with the number that the thread keeps and no look. The count stands in no
+-- word of the table, so any word is loaded.
 use Rattle.std.proofs.Common.{◌≡◌, ℕ, ◌+◌, ◌-◌, ◌<◌, ◌≤◌, ◌||◌, true, false, if◌then◌else◌, List, length, Option, Some}
 use Rattle.std.proofs.Common.{refl, sym, ◌∙◌, ap, subst, arith}
 use Rattle.std.proofs.lemmas.Bool.{lt-ltb, le-ltb}
 use Rattle.std.specs.Cmp.Derive.{both_true}
 use Rattle.atomic_table.specs.Table.{State, Allows}
-use Rattle.brc_words.specs.declared.limits.TheConstants.{FIRST_MORTAL}
+use Rattle.brc_words.specs.declared.limits.TheConstants.{FIRST_MORTAL, IMMORTAL_LOCAL}
 use Rattle.brc_words.specs.declared.owner.Owner.TheVariants as owners
 use Rattle.law.specs.declared.world.cell.Cell.{Cell}
 use Rattle.law.specs.declared.world.event.Source.{Source}
@@ -15,10 +16,11 @@ use Rattle.law.specs.world.Heap.{Heap, cell_at, row_at, no_cell, is_immortal}
 use Rattle.law.specs.world.Steps.{target_at, target_ok, cell_ok, cell_after, is_mine, counts_up_locally, stepped}
 use Rattle.law.proofs.world.Asking.{mine}
 use Rattle.law.proofs.world.Changes.{read_here}
+use Rattle.law.proofs.world.Reached.{reached_sound}
 use Rattle.law.proofs.lasting.Progress.{inside}
 use Rattle.law.specs.declared.known.word.Field.TheVariants.{Local}
+use Rattle.law.specs.declared.known.word.Word.{Word}
 use Rattle.law.specs.declared.known.word.Word.TheVariants.{Of}
-use Rattle.law.specs.known.Items.{WordShows}
 use Rattle.law.specs.known.Counts.{own_count}
 use Rattle.law.proofs.known.Counts_Law.{counted}
 use Rattle.law.specs.declared.rule.contents.Contents.{Contents}
@@ -31,7 +33,7 @@ use Rattle.law.specs.rule.Rule.{with_told, Kept}
 use Rattle.law.specs.rule.Seen.{counts_seen}
 use Rattle.law.specs.steps.Owing.{MayRaise, MayRaiseImmortal, MayLower, MayLowerImmortal}
 use Rattle.law.proofs.rule.Knowing.{Known, is_enabled, meant_there}
-use Rattle.law.proofs.steps.Plain_Steps.{IsPlain, plain_on, same_owner, stays_on, plain_step}
+use Rattle.law.proofs.steps.Plain_Steps.{IsPlain, plain_on, same_owner, stays_on, quiet_step}
 
 -- an object that the log counts
 pub record Counted (n limit : ℕ) (h : Heap) (t : ℕ) (log : List LogItem) (c count : ℕ) : Type 0 where
@@ -111,14 +113,13 @@ module _ {B : Type 0} (shows : B → ℕ × Contents) (n limit : ℕ) where
       })
 
   -- the owner counts up
-  pub counts_up : (id : ℕ) (v : View) (slots : List (ℕ × Option B)) (source : Source) (k c count : ℕ) → v.active ≡ true
-      → 0 < v.thread → c < n → MayRaise n limit v.log source k c count
-      → Allows Rule n id (v, slots) (spot n (Of Local c)) (λ there. count + 1)
+  pub counts_up : (id : ℕ) (v : View) (slots : List (ℕ × Option B)) (u : Word) (source : Source) (k c count : ℕ)
+      → v.active ≡ true → 0 < v.thread → MayRaise n limit v.log source k c count
+      → Allows Rule n id (v, slots) (spot n u) (λ there. there)
       (λ there me. me ≡ (with_told (Stepped (LocalUp source k) (count + 1) moves.Nothing) v, slots))
-  counts_up id v slots source k c count active some_thread low raises =
-      plain_step shows n limit id v slots (LocalUp source k) (Of Local c) (λ there. count + 1)
-      (λ there. count + 1) active some_thread low
-      (λ h there known shown small. raised h v.thread v.log source k c count some_thread known raises)
+  counts_up id v slots u source k c count active some_thread raises =
+      quiet_step shows n limit id v slots (LocalUp source k) (Of Local c) u (count + 1) (count + 1) active some_thread
+      (λ none. none) (λ h known. raised h v.thread v.log source k c count some_thread known raises)
 
   lowered : (h : Heap) (t : ℕ) (log : List LogItem) (drop : Dropped) (c count : ℕ) → 0 < t → Known n limit h t log
       → MayLower n log drop c count
@@ -151,46 +152,45 @@ module _ {B : Type 0} (shows : B → ℕ × Contents) (n limit : ℕ) where
       })
 
   -- the owner counts down
-  pub counts_down : (id : ℕ) (v : View) (slots : List (ℕ × Option B)) (drop : Dropped) (c count : ℕ) → v.active ≡ true
-      → 0 < v.thread → c < n → MayLower n v.log drop c count
-      → Allows Rule n id (v, slots) (spot n (Of Local c)) (λ there. count - 1)
+  pub counts_down : (id : ℕ) (v : View) (slots : List (ℕ × Option B)) (u : Word) (drop : Dropped) (c count : ℕ)
+      → v.active ≡ true → 0 < v.thread → MayLower n v.log drop c count
+      → Allows Rule n id (v, slots) (spot n u) (λ there. there)
       (λ there me. me ≡ (with_told (Stepped (LocalDown drop) (count - 1) moves.Nothing) v, slots))
-  counts_down id v slots drop c count active some_thread low lowers =
-      plain_step shows n limit id v slots (LocalDown drop) (Of Local c) (λ there. count - 1) (λ there. count - 1) active
-      some_thread low
-      (λ h there known shown small. lowered h v.thread v.log drop c count some_thread known lowers)
+  counts_down id v slots u drop c count active some_thread lowers =
+      quiet_step shows n limit id v slots (LocalDown drop) (Of Local c) u (count - 1) (count - 1) active some_thread
+      (λ none. none) (λ h known. lowered h v.thread v.log drop c count some_thread known lowers)
 
-  -- ---- an immortal's count: its word is read, and says what it said
+  -- ---- an immortal's count stays as the heap is opened
 
   -- an immortal is a cell of every heap
   immortal_low : (h : Heap) (t : ℕ) (log : List LogItem) (c : ℕ) → Known n limit h t log → c < FIRST_MORTAL
       → c < length h.cells
   immortal_low h t log c known low = omega (arith, known.options.enough, known.cells, low)
 
-  kept_count : (h : Heap) (t : ℕ) (log : List LogItem) (s : Step) (c there : ℕ) → c < length h.cells
-      → cell_after t s c (cell_at h c) ≡ cell_at h c
-      → WordShows h (Of Local c) there → there ≡ (cell_at (stepped h t s c) c).local
-  kept_count h t log s c there low same shown = shown ∙ sym (ap (λ (y : Cell). y.local) (read_cell h t s c low ∙ same))
+  fixed_count : (h : Heap) (t : ℕ) (log : List LogItem) (c : ℕ) → Known n limit h t log → c < FIRST_MORTAL
+      → (cell_at h c).local ≡ IMMORTAL_LOCAL
+  fixed_count h t log c known low = ((reached_sound h known.reached).immortals c low).local
 
-  up_immortal : (h : Heap) (t : ℕ) (log : List LogItem) (source : Source) (k c there : ℕ) → 0 < t
+  up_immortal : (h : Heap) (t : ℕ) (log : List LogItem) (source : Source) (k c : ℕ) → 0 < t
       → Known n limit h t log
-      → MayRaiseImmortal n log source k c → WordShows h (Of Local c) there
-      → IsPlain n h t (LocalUp source k) (Of Local c) there there
-  up_immortal h t log source k c there some_thread known raises shown =
+      → MayRaiseImmortal n log source k c
+      → IsPlain n h t (LocalUp source k) (Of Local c) IMMORTAL_LOCAL IMMORTAL_LOCAL
+  up_immortal h t log source k c some_thread known raises =
       let s : Step = LocalUp source k in
       let x : Cell = cell_at h c in
       let low : c < length h.cells = immortal_low h t log c known raises.immortal in
       let fixed : is_immortal c ≡ true = lt-ltb _ _ raises.immortal in
+      let count : x.local ≡ IMMORTAL_LOCAL = fixed_count h t log c known raises.immortal in
       let named : target_at h t s ≡ Some c = meant_there n limit h t log s (Some c) known raises.cell in
       let same : cell_after t s c x ≡ x = ap (λ b. if b then x else record x { local = x.local + 1 }) fixed in
-      plain_on n h t s c (Of Local c) there there (record {
+      plain_on n h t s c (Of Local c) IMMORTAL_LOCAL IMMORTAL_LOCAL (record {
         may = is_enabled n limit h t log s some_thread known raises.own refl refl
             (fits_cell n limit h t log s c known named low
             (ap (λ b. b || counts_up_locally limit t (row_at h t).stage x) fixed));
         target = named;
         word = refl;
-        shown = kept_count h t log s c there low same shown;
-        told = shown ∙ sym (ap (λ (y : Cell). y.local) same);
+        shown = sym (ap (λ (y : Cell). y.local) (read_cell h t s c low ∙ same) ∙ count);
+        told = sym (ap (λ (y : Cell). y.local) same ∙ count);
         finds_none = refl;
         puts_none = refl;
         takes_none = refl;
@@ -198,33 +198,33 @@ module _ {B : Type 0} (shows : B → ℕ × Contents) (n limit : ℕ) where
             (ap (λ (y : Cell). y.mutex) same));
       })
 
-  pub counts_immortal_up : (id : ℕ) (v : View) (slots : List (ℕ × Option B)) (source : Source) (k c : ℕ)
-      → v.active ≡ true → 0 < v.thread → c < n → MayRaiseImmortal n v.log source k c
-      → Allows Rule n id (v, slots) (spot n (Of Local c)) (λ there. there)
-      (λ there me. me ≡ (with_told (Stepped (LocalUp source k) there moves.Nothing) v, slots))
-  counts_immortal_up id v slots source k c active some_thread low raises =
-      plain_step shows n limit id v slots (LocalUp source k) (Of Local c) (λ there. there) (λ there. there) active
-      some_thread low
-      (λ h there known shown small. up_immortal h v.thread v.log source k c there some_thread known raises shown)
+  pub counts_immortal_up : (id : ℕ) (v : View) (slots : List (ℕ × Option B)) (u : Word) (source : Source) (k c : ℕ)
+      → v.active ≡ true → 0 < v.thread → MayRaiseImmortal n v.log source k c
+      → Allows Rule n id (v, slots) (spot n u) (λ there. there)
+      (λ there me. me ≡ (with_told (Stepped (LocalUp source k) IMMORTAL_LOCAL moves.Nothing) v, slots))
+  counts_immortal_up id v slots u source k c active some_thread raises =
+      quiet_step shows n limit id v slots (LocalUp source k) (Of Local c) u IMMORTAL_LOCAL IMMORTAL_LOCAL active
+      some_thread (λ none. none) (λ h known. up_immortal h v.thread v.log source k c some_thread known raises)
 
-  down_immortal : (h : Heap) (t : ℕ) (log : List LogItem) (drop : Dropped) (c there : ℕ) → 0 < t → Known n limit h t log
-      → MayLowerImmortal n log drop c → WordShows h (Of Local c) there
-      → IsPlain n h t (LocalDown drop) (Of Local c) there there
-  down_immortal h t log drop c there some_thread known lowers shown =
+  down_immortal : (h : Heap) (t : ℕ) (log : List LogItem) (drop : Dropped) (c : ℕ) → 0 < t → Known n limit h t log
+      → MayLowerImmortal n log drop c
+      → IsPlain n h t (LocalDown drop) (Of Local c) IMMORTAL_LOCAL IMMORTAL_LOCAL
+  down_immortal h t log drop c some_thread known lowers =
       let s : Step = LocalDown drop in
       let x : Cell = cell_at h c in
       let low : c < length h.cells = immortal_low h t log c known lowers.immortal in
       let fixed : is_immortal c ≡ true = lt-ltb _ _ lowers.immortal in
+      let count : x.local ≡ IMMORTAL_LOCAL = fixed_count h t log c known lowers.immortal in
       let named : target_at h t s ≡ Some c = meant_there n limit h t log s (Some c) known lowers.cell in
       let same : cell_after t s c x ≡ x = ap (λ b. if b then x else record x { local = x.local - 1 }) fixed in
-      plain_on n h t s c (Of Local c) there there (record {
+      plain_on n h t s c (Of Local c) IMMORTAL_LOCAL IMMORTAL_LOCAL (record {
         may = is_enabled n limit h t log s some_thread known lowers.own refl refl
             (fits_cell n limit h t log s c known named low
             (ap (λ b. b || is_mine t (row_at h t).stage x) fixed));
         target = named;
         word = refl;
-        shown = kept_count h t log s c there low same shown;
-        told = shown ∙ sym (ap (λ (y : Cell). y.local) same);
+        shown = sym (ap (λ (y : Cell). y.local) (read_cell h t s c low ∙ same) ∙ count);
+        told = sym (ap (λ (y : Cell). y.local) same ∙ count);
         finds_none = refl;
         puts_none = refl;
         takes_none = refl;
@@ -232,11 +232,10 @@ module _ {B : Type 0} (shows : B → ℕ × Contents) (n limit : ℕ) where
             (ap (λ (y : Cell). y.mutex) same));
       })
 
-  pub counts_immortal_down : (id : ℕ) (v : View) (slots : List (ℕ × Option B)) (drop : Dropped) (c : ℕ)
-      → v.active ≡ true → 0 < v.thread → c < n → MayLowerImmortal n v.log drop c
-      → Allows Rule n id (v, slots) (spot n (Of Local c)) (λ there. there)
-      (λ there me. me ≡ (with_told (Stepped (LocalDown drop) there moves.Nothing) v, slots))
-  counts_immortal_down id v slots drop c active some_thread low lowers =
-      plain_step shows n limit id v slots (LocalDown drop) (Of Local c) (λ there. there) (λ there. there) active
-      some_thread low
-      (λ h there known shown small. down_immortal h v.thread v.log drop c there some_thread known lowers shown)
+  pub counts_immortal_down : (id : ℕ) (v : View) (slots : List (ℕ × Option B)) (u : Word) (drop : Dropped) (c : ℕ)
+      → v.active ≡ true → 0 < v.thread → MayLowerImmortal n v.log drop c
+      → Allows Rule n id (v, slots) (spot n u) (λ there. there)
+      (λ there me. me ≡ (with_told (Stepped (LocalDown drop) IMMORTAL_LOCAL moves.Nothing) v, slots))
+  counts_immortal_down id v slots u drop c active some_thread lowers =
+      quiet_step shows n limit id v slots (LocalDown drop) (Of Local c) u IMMORTAL_LOCAL IMMORTAL_LOCAL active
+      some_thread (λ none. none) (λ h known. down_immortal h v.thread v.log drop c some_thread known lowers)

@@ -28,6 +28,7 @@ use Rattle.law.proofs.world.Reached.{reached_sound}
 use Rattle.law.proofs.lasting.Progress.{inside}
 use Rattle.law.proofs.lasting.Telling.{hand_tells}
 use Rattle.law.specs.declared.known.word.Field.TheVariants.{Owner as OwnerWord, Local, Shared}
+use Rattle.law.specs.declared.known.word.Word.{Word}
 use Rattle.law.specs.declared.known.word.Word.TheVariants.{Of, FreeWord}
 use Rattle.law.specs.known.Free_Words.{is_free_cell, ShowsOwner}
 use Rattle.law.specs.known.Items.{shared_word, IsWord, WordShows}
@@ -50,7 +51,7 @@ use Rattle.law.proofs.rule.Keys_Law.{bare_keys}
 use Rattle.law.proofs.rule.Knowing.{Known, knows, is_enabled, hand_there}
 use Rattle.law.proofs.steps.Local_Steps.{fits_cell, read_cell}
 use Rattle.law.proofs.rule.Looking.{lost, unmoved}
-use Rattle.law.proofs.steps.Plain_Steps.{IsPlain, plain_on, same_owner, stays_on, plain_step}
+use Rattle.law.proofs.steps.Plain_Steps.{IsPlain, plain_on, same_owner, stays_on, plain_step, quiet_step}
 use Rattle.law.proofs.steps.Block_Steps.{block_moved}
 use Rattle.law.proofs.steps.Taking_Steps.{unlisted_seen}
 
@@ -152,13 +153,13 @@ module _ {B : Type 0} (shows : B → ℕ × Contents) (n limit : ℕ) where
         stays = stays_on h t s c low refl refl (same_owner x (cell_after t s c x) refl refl);
       })
 
-  pub sets_local : (id : ℕ) (v : View) (slots : List (ℕ × Option B)) (c : ℕ) → v.active ≡ true → 0 < v.thread → c < n
-      → MayCarry n v.log (InitLocal c) c
-      → Allows Rule n id (v, slots) (spot n (Of Local c)) (λ there. 1)
+  pub sets_local : (id : ℕ) (v : View) (slots : List (ℕ × Option B)) (u : Word) (c : ℕ) → v.active ≡ true
+      → 0 < v.thread → MayCarry n v.log (InitLocal c) c
+      → Allows Rule n id (v, slots) (spot n u) (λ there. there)
       (λ there me. me ≡ (with_told (Stepped (InitLocal c) 1 moves.Nothing) v, slots))
-  sets_local id v slots c active some_thread low carries =
-      plain_step shows n limit id v slots (InitLocal c) (Of Local c) (λ there. 1) (λ there. 1) active some_thread low
-      (λ h there known shown small. inits_local h v.thread v.log c some_thread known carries)
+  sets_local id v slots u c active some_thread carries =
+      quiet_step shows n limit id v slots (InitLocal c) (Of Local c) u 1 1 active some_thread (λ none. none)
+      (λ h known. inits_local h v.thread v.log c some_thread known carries)
 
   inits_shared : (h : Heap) (t : ℕ) (log : List LogItem) (c : ℕ) → 0 < t → Known n limit h t log
       → MayCarry n log (InitShared c) c → IsPlain n h t (InitShared c) (Of Shared c) (2 ^ 42) (2 ^ 42)

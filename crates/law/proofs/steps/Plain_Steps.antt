@@ -5,6 +5,7 @@ use Rattle.std.proofs.lemmas.Bool.{cases_eq, eq-eqb, ne_eqb}
 use mathlib.Core.Option.{some}
 use prog.Atomic.{either}
 use lib.ListN.{get_elem?}
+use lib.Seq.{set-get_or}
 use Rattle.atomic_table.specs.Table.{State, Allows, keeps}
 use Rattle.brc_words.specs.declared.owner.Owner.TheVariants as owners
 use Rattle.law.specs.declared.world.cell.Cell.{Cell}
@@ -27,7 +28,7 @@ use Rattle.law.specs.rule.Layout.{spot}
 use Rattle.law.specs.rule.Logs.{world, puts, takes, takes_of}
 use Rattle.law.specs.rule.Rule.{with_told, Kept}
 use Rattle.law.proofs.rule.Homing.{Stays, home_stays}
-use Rattle.law.proofs.rule.Stepping.{moved_on, does}
+use Rattle.law.proofs.rule.Stepping.{moved_on, does, does_quietly}
 use Rattle.law.proofs.rule.Looking.{lost, unmoved}
 use Rattle.law.proofs.rule.Knowing.{Known, knows}
 
@@ -210,3 +211,49 @@ module _ {B : Type 0} (shows : B → ℕ × Contents) (n limit : ℕ) where
               (ne_eqb there old other)),
         )
       ]
+
+  -- ---- events whose word is none of the table's
+
+  quietly : (st : Table) (r : Rule st) (id : ℕ) (v : View) (s : Step) (w : Word) (written number : ℕ)
+      → get_elem? st.views id ≡ some v → v.active ≡ true → 0 < v.thread → (IsWord n w → ⊥)
+      → IsPlain n (world n limit r.run) v.thread s w written number
+      → Rule (record {
+        words = st.words;
+        homes = st.homes;
+        views = set st.views id
+            (with_told (Stepped s number moves.Nothing) v);
+      })
+  quietly st r id v s w written number at active some_thread none plain =
+      does_quietly shows n limit st r id v s w number moves.Nothing at active
+      (record {
+        some_thread = some_thread;
+        may = plain.may;
+        word = plain.word;
+        no_word = none;
+        told = plain.told;
+        entries = sym plain.finds_none;
+        moves = (plain.puts_none, plain.takes_none);
+      })
+      (λ d low. home_stays shows st.homes (world n limit r.run) (moved_on (world n limit r.run) v.thread s) r.run
+      ((v.thread, Stepped s number moves.Nothing) ∷ r.run) d (plain.stays d low) refl (r.each_home d low))
+
+  -- what the log says is enough for the event, and it may be made as any word is loaded
+  pub quiet_step : (id : ℕ) (v : View) (slots : List (ℕ × Option B)) (s : Step) (w u : Word) (written number : ℕ)
+      → v.active ≡ true → 0 < v.thread → (IsWord n w → ⊥)
+      → ((h : Heap) → Known n limit h v.thread v.log → IsPlain n h v.thread s w written number)
+      → Allows Rule n id (v, slots) (spot n u) (λ there. there)
+      (λ there me. me ≡ (with_told (Stepped s number moves.Nothing) v, slots))
+  quiet_step id v slots s w u written number active some_thread none plain st r deep at small = (
+    with_told (Stepped s number moves.Nothing) v,
+    keeps,
+    tt,
+    subst (λ (words : List ℕ). Rule (record {
+      words = words;
+      homes = st.homes;
+      views = set st.views id
+          (with_told (Stepped s number moves.Nothing) v);
+    })) (sym (set-get_or st.words (spot n u) 0))
+        (quietly st r id v s w written number at active some_thread none
+        (plain (world n limit r.run) (knows shows n limit st r id v at active some_thread))),
+    refl,
+  )

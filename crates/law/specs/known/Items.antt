@@ -157,8 +157,9 @@ works_on h t Wake None = NotifyWord t
 works_on h t (Reopen k) None = Queue t k
 works_on h t s None = Queue t (number_in (drained_word s))
 
--- the words of a heap of so many cells
+-- The words of a heap of so many cells. The owner's count stands in none: the owner's own items tell it.
 abbrev pub IsWord : ℕ → Word → Type 0
+IsWord cells (Of Local c) = ⊥
 IsWord cells (Of field c) = c < cells
 IsWord cells (Queue t k) = (t < MOST_THREADS + 1) × (k < words_for cells)
 IsWord cells (NotifyWord t) = t < MOST_THREADS + 1

@@ -3,8 +3,8 @@
 -- The free words come first, since a search for a free cell reads one after the other, and the notify words behind them,
 -- one a line. Both have as many places as the largest heap fills, so that no place of theirs, and none of a cell's words,
 -- depends on n: n would be loaded again after each step. Then come the counts. Those of neighbouring cells, which belong
--- to different threads, share no cache line: a local word has a line of 64 bytes of its own, and the shared word, the
--- mutex and the owner word have the next, as who asks for an owner has come from the shared word. The 32 queue words of a
+-- to different threads, share no cache line: the shared word, the mutex and the owner word have one of 64 bytes, as who
+-- asks for an owner has come from the shared word. An owner's count has no place. The 32 queue words of a
 -- thread that one bit of its notify word names lie side by side: a poll drains them in a row, and they share no line with
 -- another thread's, but at their ends.
 use Rattle.std.specs.Prelude.{ℕ, ◌+◌, ◌*◌, ◌/◌, ◌%◌}
@@ -24,17 +24,17 @@ counts_from = notify_from + (MOST_THREADS + 1) * 8
 
 -- the first word after the counts
 abbrev pub queues_from : ℕ → ℕ
-queues_from n = counts_from + n * 16
+queues_from n = counts_from + n * 8
 
 -- how many rows of 32 queue words a thread has
 abbrev pub rows_for : ℕ → ℕ
 rows_for n = (words_for n + 31) / 32
 
 abbrev pub spot : ℕ → Word → ℕ
-spot n (Of Local c) = counts_from + c * 16
-spot n (Of Shared c) = counts_from + c * 16 + 8
-spot n (Of Mutex c) = counts_from + c * 16 + 9
-spot n (Of Owner c) = counts_from + c * 16 + 10
+spot n (Of Local c) = 0
+spot n (Of Shared c) = counts_from + c * 8
+spot n (Of Mutex c) = counts_from + c * 8 + 1
+spot n (Of Owner c) = counts_from + c * 8 + 2
 spot n (Queue t k) = queues_from n + (k / 32 * (MOST_THREADS + 1) + t) * 32 + k % 32
 spot n (NotifyWord t) = notify_from + t * 8
 spot n (FreeWord k) = k

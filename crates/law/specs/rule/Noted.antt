@@ -8,6 +8,7 @@ use Rattle.law.specs.declared.known.word.Word.TheVariants.{Of}
 use Rattle.law.specs.known.Items.{same_field}
 use Rattle.law.specs.declared.rule.told.LogItem.{LogItem}
 use Rattle.law.specs.declared.rule.told.LogItem.TheVariants.{Stepped, Loaded, Lost}
+use Rattle.law.specs.rule.Seen.{counts_seen}
 
 -- this word of the cell
 abbrev pub is_of : Field → ℕ → Word → Bool
@@ -34,3 +35,13 @@ newest_on (Lost word number) before = before
 abbrev pub newest_step : List LogItem → Option Step
 newest_step [] = None
 newest_step (x ∷ log) = newest_on x (newest_step log)
+
+-- the cell's own count as the thread's log told it before the newest of the thread's own steps
+abbrev pub counted_on : ℕ → ℕ → LogItem → List LogItem → ℕ → ℕ
+counted_on n c (Stepped s number moved) log before = counts_seen n log c
+counted_on n c (Loaded word number) log before = before
+counted_on n c (Lost word number) log before = before
+
+abbrev pub counted_before : ℕ → ℕ → List LogItem → ℕ
+counted_before n c [] = 0
+counted_before n c (x ∷ log) = counted_on n c x log (counted_before n c log)

@@ -14,7 +14,7 @@ use Rattle.law.specs.world.Steps.{is_active, is_keep, entries_changed}
 use Rattle.law.specs.world.Heap.{words_for}
 use Rattle.law.specs.declared.world.row.Hand.TheVariants as hands
 use Rattle.law.specs.declared.world.row.Phase.TheVariants as phases
-use Rattle.law.specs.declared.known.word.Field.TheVariants.{Owner, Local, Shared}
+use Rattle.law.specs.declared.known.word.Field.TheVariants.{Owner, Shared}
 use Rattle.law.specs.known.Items.{meant}
 use Rattle.law.specs.known.Owners_Seen.{has_seen_owner}
 use Rattle.brc_words.specs.declared.kind.Kind.{Kind}
@@ -23,7 +23,7 @@ use Rattle.law.specs.declared.rule.told.LogItem.{LogItem}
 use Rattle.law.specs.rule.Keys.{KeysGo}
 use Rattle.law.specs.rule.Logs.{kind_in, entries_in, log_items}
 use Rattle.law.specs.rule.Seen.{part_seen, counts_seen, risen_seen, contents_locked, own_may}
-use Rattle.law.specs.rule.Noted.{noted, newest_step}
+use Rattle.law.specs.rule.Noted.{noted, newest_step, counted_before}
 
 -- an own object whose count may rise
 pub record MayRaise (n limit : ℕ) (log : List LogItem) (source : Source) (k c count : ℕ) : Type 0 where
@@ -178,17 +178,20 @@ pub record UntiesPopped (n : ℕ) (log : List LogItem) (c number : ℕ) : Type 0
   pub found : noted Shared c log ≡ Some number
   pub unmerged : number % ONE_COUNT ≢ MERGED_BITS
 
--- an object of which the thread has popped a reference and that it has made nobody's, with its local count as noted
+-- an object of which the thread has popped a reference and that it has just made nobody's, with the count that its log
+-- told before
 pub record AddsLocal (n : ℕ) (log : List LogItem) (c local : ℕ) : Type 0 where
   pub own : own_may n (part_seen n log) (MergeAdd c) ≡ true
   pub hand : (part_seen n log).row.hand ≡ hands.Busy phases.Popping c
-  pub found : noted Local c log ≡ Some local
+  pub untied : newest_step log ≡ Some (Untie c)
+  pub counted : FIRST_MORTAL ≤ c → counted_before n c log ≡ local
 
--- an object that the thread hands over, with its local count as it is noted
+-- an object that the thread hands over and has just made nobody's, with the count that its log told before
 pub record MayYield (n : ℕ) (log : List LogItem) (c local : ℕ) : Type 0 where
   pub own : own_may n (part_seen n log) (MergeAdd c) ≡ true
   pub hand : (part_seen n log).row.hand ≡ hands.Busy phases.Yielding c
-  pub found : noted Local c log ≡ Some local
+  pub untied : newest_step log ≡ Some (Untie c)
+  pub counted : FIRST_MORTAL ≤ c → counted_before n c log ≡ local
 
 -- an object that the thread has asked for, and that is noted as thread q's
 pub record Enqueues (n : ℕ) (log : List LogItem) (c q : ℕ) : Type 0 where

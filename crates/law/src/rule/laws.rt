@@ -26,7 +26,7 @@ ghost use Rattle.law.specs.rule.Keys.{HasDistinctKeys, KeysGo};
 ghost use Rattle.law.specs.rule.Logs.{Run, world, own_of, all_of, lives_of, contents_at, keeps, IsLegal};
 ghost use Rattle.law.specs.rule.Homes.{AtRest, ContentsFit};
 ghost use Rattle.law.specs.rule.Rule.{log_in, with_told, StandsOnce, Kept};
-ghost use Rattle.law.specs.rule.Seen.{part_seen, contents_locked, own_may};
+ghost use Rattle.law.specs.rule.Seen.{part_seen, contents_locked};
 ghost use Rattle.law.specs.rule.Opening.{first_view, Opens};
 
 /// Each word of the table has a spot of its own.
@@ -79,20 +79,14 @@ pub fn looks_keep_the_rule<B>()
         (λ number me. me ≡ (with_told (told.Loaded w number) v, slots)) }
 {}
 
-/// A look at the owner word of a cell that the thread carries finds a thread's number or 0, and one at the local word
-/// of an object that it merges a count within the limit.
-#[tactic(auto, using(crate::proofs::rule::Small_Looks::looks_owner, crate::proofs::rule::Small_Looks::looks_local))]
+/// A look at the owner word of a cell that the thread carries finds a thread's number or 0.
+#[tactic(auto, using(crate::proofs::rule::Small_Looks::looks_owner))]
 pub fn looks_at_the_hands_cell_find_small_numbers<B>()
     ensures owner { (shows : B → ℕ × contents) (n limit id : ℕ) (v : view) (slots : List (ℕ × Option B)) (c : ℕ)
         → v.active ≡ true → 0 < v.thread → c < n → carries c (part_seen n v.log).row.hand ≡ true
         → Allows (Kept shows n limit) n id (v, slots) (spot n (words.Of fields.Owner c)) (λ number. number)
         (λ number me. (me ≡ (with_told (told.Loaded (words.Of fields.Owner c) number) v, slots))
         × (number ≤ MOST_THREADS)) }
-    ensures local { (shows : B → ℕ × contents) (n limit id : ℕ) (v : view) (slots : List (ℕ × Option B)) (c : ℕ)
-        → v.active ≡ true → 0 < v.thread → c < n → own_may n (part_seen n v.log) (steps.MergeAdd c) ≡ true
-        → Allows (Kept shows n limit) n id (v, slots) (spot n (words.Of fields.Local c)) (λ number. number)
-        (λ number me. (me ≡ (with_told (told.Loaded (words.Of fields.Local c) number) v, slots))
-        × (number ≤ limit)) }
 {}
 
 /// What a locking finds is what the last birth or unlock of that cell put home, and so is what the taker of a dead

@@ -7,7 +7,7 @@ ghost use Rattle.std.specs.Int.{bit_at};
 ghost use prog.Atomic.{either};
 ghost use Rattle.atomic_table.specs.Table.{Allows, Splits, Joins};
 ghost use Rattle.brc_words.specs.declared.kind.Kind.{Kind as kind};
-ghost use Rattle.brc_words.specs.declared.limits.TheConstants.{MOST_THREADS};
+ghost use Rattle.brc_words.specs.declared.limits.TheConstants.{IMMORTAL_LOCAL, MOST_THREADS};
 ghost use Rattle.brc_words.specs.declared.look.TheConstants.{CLOSED_BIT, MERGED_BITS, NO_COUNT, ONE_COUNT, QUEUED_BITS};
 ghost use Rattle.law.specs.declared.world.event.Change.{Change as change};
 ghost use Rattle.law.specs.declared.world.event.Dropped.{Dropped as dropped};
@@ -18,6 +18,7 @@ ghost use Rattle.law.specs.world.Lists.{WORD_LIMIT};
 ghost use Rattle.law.specs.world.Heap.{words_for};
 ghost use Rattle.law.specs.world.Steps.{takes_block};
 ghost use Rattle.law.specs.declared.known.word.Field.TheVariants as fields;
+ghost use Rattle.law.specs.declared.known.word.Word.{Word as word};
 ghost use Rattle.law.specs.declared.known.word.Word.TheVariants as words;
 ghost use Rattle.law.specs.known.Items.{cell_told};
 ghost use Rattle.law.specs.declared.rule.contents.Contents.{Contents as contents};
@@ -36,30 +37,30 @@ ghost use Rattle.law.specs.steps.Owing.{AddsLocal, MayYield, Offers, MayClose, E
 ghost use Rattle.law.specs.steps.Taking.{AreQueued, CountsSome, EndedObject, Claimed, LockedOrBusy};
 ghost use Rattle.law.specs.steps.Joining.{registering, starting, gathering, spent, MayRegister, HasLeft};
 
-/// An owner counts by plain stores of the number that its log tells, without a look. An immortal's count is read, and
-/// stays.
+/// An owner counts in its log alone, by the number that the log tells: its count stands in no word, so the event is told
+/// as any word of the table is loaded. An immortal's count stays.
 #[tactic(auto, using(crate::proofs::steps::Local_Steps::counts_up, crate::proofs::steps::Local_Steps::counts_down, crate::proofs::steps::Local_Steps::counts_immortal_up, crate::proofs::steps::Local_Steps::counts_immortal_down))]
 pub fn owners_count<B>()
-    ensures up { (shows : B → ℕ × contents) (n limit id : ℕ) (v : view) (slots : List (ℕ × Option B)) (source : source)
-        (k c count : ℕ)
-        → v.active ≡ true → 0 < v.thread → c < n → MayRaise n limit v.log source k c count
-        → Allows (Kept shows n limit) n id (v, slots) (spot n (words.Of fields.Local c)) (λ there. count + 1)
+    ensures up { (shows : B → ℕ × contents) (n limit id : ℕ) (v : view) (slots : List (ℕ × Option B)) (u : word)
+        (source : source) (k c count : ℕ)
+        → v.active ≡ true → 0 < v.thread → MayRaise n limit v.log source k c count
+        → Allows (Kept shows n limit) n id (v, slots) (spot n u) (λ there. there)
         (λ there me. me ≡ (with_told (told.Stepped (steps.LocalUp source k) (count + 1) moves.Nothing) v, slots)) }
-    ensures down { (shows : B → ℕ × contents) (n limit id : ℕ) (v : view) (slots : List (ℕ × Option B)) (drop : dropped)
-        (c count : ℕ)
-        → v.active ≡ true → 0 < v.thread → c < n → MayLower n v.log drop c count
-        → Allows (Kept shows n limit) n id (v, slots) (spot n (words.Of fields.Local c)) (λ there. count - 1)
+    ensures down { (shows : B → ℕ × contents) (n limit id : ℕ) (v : view) (slots : List (ℕ × Option B)) (u : word)
+        (drop : dropped) (c count : ℕ)
+        → v.active ≡ true → 0 < v.thread → MayLower n v.log drop c count
+        → Allows (Kept shows n limit) n id (v, slots) (spot n u) (λ there. there)
         (λ there me. me ≡ (with_told (told.Stepped (steps.LocalDown drop) (count - 1) moves.Nothing) v, slots)) }
-    ensures immortal_up { (shows : B → ℕ × contents) (n limit id : ℕ) (v : view) (slots : List (ℕ × Option B))
+    ensures immortal_up { (shows : B → ℕ × contents) (n limit id : ℕ) (v : view) (slots : List (ℕ × Option B)) (u : word)
         (source : source) (k c : ℕ)
-        → v.active ≡ true → 0 < v.thread → c < n → MayRaiseImmortal n v.log source k c
-        → Allows (Kept shows n limit) n id (v, slots) (spot n (words.Of fields.Local c)) (λ there. there)
-        (λ there me. me ≡ (with_told (told.Stepped (steps.LocalUp source k) there moves.Nothing) v, slots)) }
-    ensures immortal_down { (shows : B → ℕ × contents) (n limit id : ℕ) (v : view) (slots : List (ℕ × Option B))
+        → v.active ≡ true → 0 < v.thread → MayRaiseImmortal n v.log source k c
+        → Allows (Kept shows n limit) n id (v, slots) (spot n u) (λ there. there)
+        (λ there me. me ≡ (with_told (told.Stepped (steps.LocalUp source k) IMMORTAL_LOCAL moves.Nothing) v, slots)) }
+    ensures immortal_down { (shows : B → ℕ × contents) (n limit id : ℕ) (v : view) (slots : List (ℕ × Option B)) (u : word)
         (drop : dropped) (c : ℕ)
-        → v.active ≡ true → 0 < v.thread → c < n → MayLowerImmortal n v.log drop c
-        → Allows (Kept shows n limit) n id (v, slots) (spot n (words.Of fields.Local c)) (λ there. there)
-        (λ there me. me ≡ (with_told (told.Stepped (steps.LocalDown drop) there moves.Nothing) v, slots)) }
+        → v.active ≡ true → 0 < v.thread → MayLowerImmortal n v.log drop c
+        → Allows (Kept shows n limit) n id (v, slots) (spot n u) (λ there. there)
+        (λ there me. me ≡ (with_told (told.Stepped (steps.LocalDown drop) IMMORTAL_LOCAL moves.Nothing) v, slots)) }
 {}
 
 /// Who doesn't own counts on the shared word: up by an addition of 4, down by a compare-exchange of a word that says
@@ -125,9 +126,9 @@ pub fn cells_are_used_again<B>()
         → Allows (Kept shows n limit) n id (v, slots) (spot n (words.FreeWord (c / 64)))
         (λ there. bit_and there (WORD_LIMIT - 1 - 2 ^ (c % 64)))
         (λ there me. Claimed n v slots c there (bit_at there (c % 64) == 1) me) }
-    ensures init_local { (shows : B → ℕ × contents) (n limit id : ℕ) (v : view) (slots : List (ℕ × Option B)) (c : ℕ)
-        → v.active ≡ true → 0 < v.thread → c < n → MayCarry n v.log (steps.InitLocal c) c
-        → Allows (Kept shows n limit) n id (v, slots) (spot n (words.Of fields.Local c)) (λ there. 1)
+    ensures init_local { (shows : B → ℕ × contents) (n limit id : ℕ) (v : view) (slots : List (ℕ × Option B)) (u : word) (c : ℕ)
+        → v.active ≡ true → 0 < v.thread → MayCarry n v.log (steps.InitLocal c) c
+        → Allows (Kept shows n limit) n id (v, slots) (spot n u) (λ there. there)
         (λ there me. me ≡ (with_told (told.Stepped (steps.InitLocal c) 1 moves.Nothing) v, slots)) }
     ensures init_shared { (shows : B → ℕ × contents) (n limit id : ℕ) (v : view) (slots : List (ℕ × Option B)) (c : ℕ)
         → v.active ≡ true → 0 < v.thread → c < n → MayCarry n v.log (steps.InitShared c) c

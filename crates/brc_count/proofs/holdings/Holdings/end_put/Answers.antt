@@ -12,4 +12,4 @@ invariant_of-self g c =
     rw now.heap (after_end_put c.self.inside.counter.seat c.unlock.new.self.seat c.args.block.0 c.args.place
     c.self.invariant
     (subst IsLocked (sym c.self.view_is) c.requires.locked) locked now.home now.knows now.keeps
-    c.try_remove-held.ensures.updates)
+    c.take-held.ensures.updates)

@@ -1,7 +1,8 @@
 use Rattle.std.proofs.Common.{refl, sym, subst, ap, ◌∙◌}
 use Rattle.brc_table.specs.block.Payload.{kind_of}
 use Rattle.brc_table.specs.law.known.Items.{Part}
-use Rattle.brc_count.specs.Frames.{IsUnlocked, StartSeen, cell_held}
+use Rattle.brc_count.specs.Frames.{IsUnlocked, StartSeen}
+use Rattle.brc_count.specs.Places.{cell_held}
 use Rattle.brc_count.proofs.Bearing.{born_known, after_birth, contents_kind}
 use Rattle.brc_count.proofs.holdings.Holdings.make.Goals as goal
 
@@ -9,32 +10,32 @@ pub invariant_of-self-2 : goal.invariant_of-self-2
 invariant_of-self-2 g c =
     let n = c.self.inside.counter.heap.cells in
     let unlocked = subst IsUnlocked (sym c.self.view_is) c.requires.unlocked in
-    let at_key = rw (c.insert_reserved-key.ensures.key ∙ sym c.vacant_key-place.ensures.value) at
-    c.insert_reserved-key.ensures.updates in
+    let at_key = rw (c.fill-same.ensures.place ∙ sym c.next-place.ensures.next) at
+    c.fill-same.ensures.updates in
     let born = rw (c.seek_from.ensures.heap, c.set_cell.ensures) at c.bear.ensures.knows in
     let all = after_birth c.self.inside.counter.seat c.seek_from.new.self.seat c.bear.new.self.seat
-    {places = c.insert_reserved-key.new.self} c.vacant_key-place.result c.in-Some.cell
+    {places = c.fill-same.new.self} c.next-place.result c.in-Some.cell
     c.self.invariant c.in-Some.ensures.claimed_knows born c.seek_from.ensures.keeps
     (rw c.seek_from.ensures.heap at c.bear.ensures.risen)
     c.in-Some.ensures.out c.bear.ensures.home c.in-Some.ensures.fresh c.in-Some.ensures.inside
-    (record { changed = at_key.changed; others = at_key.others }) c.vacant_key-place.ensures.vacant unlocked in
+    (record { changed = at_key.changed; others = at_key.others }) c.next-place.ensures.vacant unlocked in
     rw (c.bear.ensures.heap, c.seek_from.ensures.heap) all
 
 pub returns-clause-made : goal.returns-clause-made
 returns-clause-made g c =
     let n = c.self.inside.counter.heap.cells in
     let unlocked = subst IsUnlocked (sym c.self.view_is) c.requires.unlocked in
-    let at_key = rw (c.insert_reserved-key.ensures.key ∙ sym c.vacant_key-place.ensures.value) at
-    c.insert_reserved-key.ensures.updates in
+    let at_key = rw (c.fill-same.ensures.place ∙ sym c.next-place.ensures.next) at
+    c.fill-same.ensures.updates in
     let born = rw (c.seek_from.ensures.heap, c.set_cell.ensures) at c.bear.ensures.knows in
     let all = after_birth c.self.inside.counter.seat c.seek_from.new.self.seat c.bear.new.self.seat
-    {places = c.insert_reserved-key.new.self} c.vacant_key-place.result c.in-Some.cell
+    {places = c.fill-same.new.self} c.next-place.result c.in-Some.cell
     c.self.invariant c.in-Some.ensures.claimed_knows born c.seek_from.ensures.keeps
     (rw c.seek_from.ensures.heap at c.bear.ensures.risen)
     c.in-Some.ensures.out c.bear.ensures.home c.in-Some.ensures.fresh c.in-Some.ensures.inside
-    (record { changed = at_key.changed; others = at_key.others }) c.vacant_key-place.ensures.vacant unlocked in
+    (record { changed = at_key.changed; others = at_key.others }) c.next-place.ensures.vacant unlocked in
     let part = born_known n c.self.inside.counter.seat.log c.seek_from.new.self.seat.log c.bear.new.self.seat.log
-    c.vacant_key-place.result c.in-Some.cell c.in-Some.ensures.claimed_knows born in
+    c.next-place.result c.in-Some.cell c.in-Some.ensures.claimed_knows born in
     rw (← c.self.view_is, c.bear.ensures.heap, c.seek_from.ensures.heap) record {
       cell = c.in-Some.cell;
       mortal = c.in-Some.ensures.mortal;
@@ -49,13 +50,13 @@ returns-clause-made g c =
       ) (rw c.set_cell.ensures at c.bear.ensures.told);
       heap = refl;
       thread = c.bear.ensures.seat.1 ∙ c.seek_from.ensures.seat.1;
-      place = c.vacant_key-place.ensures.value;
-      room = rw c.vacant_key-place.ensures.value (rw (← c.self.view_is) at c.requires.low);
-      vacant = c.self.invariant.placed c.vacant_key-place.result ∙ ap cell_held c.vacant_key-place.ensures.vacant;
-      has = all.placed c.vacant_key-place.result ∙ ap cell_held at_key.changed;
+      place = c.next-place.ensures.next;
+      room = rw c.next-place.ensures.next (rw (← c.self.view_is) at c.requires.low);
+      vacant = c.self.invariant.placed c.next-place.result ∙ ap cell_held c.next-place.ensures.vacant;
+      has = all.placed c.next-place.result ∙ ap cell_held at_key.changed;
       others = λ j other. all.placed j ∙ ap cell_held (at_key.others j other) ∙ sym (c.self.invariant.placed j);
       seat = (c.bear.ensures.seat.0 ∙ c.seek_from.ensures.seat.0, c.bear.ensures.seat.1 ∙ c.seek_from.ensures.seat.1);
-      len = c.insert_reserved-key.ensures.len;
+      len = c.fill-same.ensures.len;
       works = refl;
       rest = record {
         stage = ap (λ (p : Part). p.row.stage) part;

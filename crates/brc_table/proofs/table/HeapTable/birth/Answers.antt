@@ -13,8 +13,8 @@ use Rattle.law.specs.steps.Owing.{MayBear}
 use Rattle.law.proofs.steps.Making_Steps.{bears_object}
 use Rattle.brc_table.proofs.table.HeapTable.birth.Goals as goal
 
-pub give-requires-clause-allowed : goal.give-requires-clause-allowed
-give-requires-clause-allowed g c =
+pub give_unless_there-requires-clause-allowed : goal.give_unless_there-requires-clause-allowed
+give_unless_there-requires-clause-allowed g c =
     let n : ℕ = c.args.self.now.cells in let limit : ℕ = c.args.self.now.local_limit in let place =
     c.seat.inside.place in let is = c.seat.invariant in
     let block = c.args.block in

@@ -1,0 +1,24 @@
+use Rattle.std.proofs.Common.{ℕ, ◌<◌, ◌+◌, sym, subst}
+use Rattle.law.specs.declared.known.word.Word.TheVariants.{NotifyWord}
+use Rattle.law.specs.declared.rule.told.Moved.TheVariants.{Nothing}
+use Rattle.law.specs.declared.rule.told.LogItem.TheVariants.{Stepped}
+use Rattle.law.specs.steps.Owing.{MayRaise}
+use Rattle.law.specs.declared.world.event.Step.TheVariants.{LocalUp}
+use Rattle.brc_table.specs.Machine.{MayTell}
+use Rattle.brc_table.specs.Seated.{SeatSeen}
+use Rattle.brc_table.specs.Shown.{shows}
+use Rattle.brc_table.proofs.Own_Counts.{raises}
+use Rattle.brc_table.proofs.table.HeapTable.local_up.Goals as goal
+
+pub tell-requires-clause-allowed : goal.tell-requires-clause-allowed
+tell-requires-clause-allowed g c =
+    let n : ℕ = c.args.self.now.cells in let limit : ℕ = c.args.self.now.local_limit in let place =
+    c.seat.inside.place in let is = c.seat.invariant in
+    let some_thread : 0 < place.me.0.thread = subst (λ t. 0 < t) (sym is.1) is.2 in
+    let owes : MayRaise n limit place.me.0.log c.args.source c.args.place c.args.cell c.args.count =
+    subst (λ (z : SeatSeen g.row.A.Denot). MayRaise n limit z.log c.args.source c.args.place c.args.cell c.args.count)
+    (sym c.seat.view_is) c.requires.raises in
+    subst (λ count. MayTell shows n limit place.id place.me (NotifyWord 0) (λ there. there)
+    (λ _. Stepped (LocalUp c.args.source c.args.place) (count + 1) Nothing)) (sym c.from.ensures)
+    (raises shows n limit place.id place.me.0 place.me.1 c.args.source c.args.place c.args.cell c.args.count is.0
+    some_thread owes)
