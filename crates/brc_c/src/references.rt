@@ -2,10 +2,11 @@
 
 ghost use Rattle.std.specs.Prelude.{◌≡◌, ◌≢◌};
 ghost use Rattle.brc_client.specs.Answers.{Gives, RetainsOne, LetsGo, FindsSame};
-ghost use Rattle.brc_c.specs.Exports.{CarriesOut, Writes, WritesNothing, itself, truth_number};
+ghost use Rattle.brc_c.specs.Exports.{Carries, CarriesOut, Writes, WritesNothing, itself, truth_number};
 
 use crate::outs::{gone, status_of, write, write_truth};
 use crate::slots::CThread;
+use brc_client::Client;
 
 #[unsafe(no_mangle)]
 pub extern "C" fn brc_retain(thread: &mut CThread, held: u64, more: &mut u64) -> u32
@@ -14,9 +15,25 @@ pub extern "C" fn brc_retain(thread: &mut CThread, held: u64, more: &mut u64) ->
         (Writes itself more.old more.new) }
 {
     match thread.as_mut().client() {
-        Some(client) => write(client.retain(held), more),
+        Some(client) => {
+            if client.is_ready() {
+                write(client.retain(held), more)
+            } else {
+                retain_late(client, held, more)
+            }
+        }
         None => gone(),
     }
+}
+
+/// As `brc_retain`, where a call may make more places: where one is ready no register is saved for it.
+#[cold]
+#[inline(never)]
+fn retain_late(client: &mut Client, held: u64, more: &mut u64) -> u32
+    ensures kept { result ≢ 0 → more.new ≡ more.old }
+    ensures does { Carries (Gives RetainsOne held) client.old client.new result (Writes itself more.old more.new) }
+{
+    write(client.retain(held), more)
 }
 
 #[unsafe(no_mangle)]

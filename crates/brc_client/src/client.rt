@@ -1,12 +1,12 @@
 //! A thread's references by numbers: how they are found, made more and let go.
 
 ghost use Rattle.std.specs.Prelude.{◌≡◌, ◌-◌, ◌<◌, ◌≤◌, ◌⊎◌, ℕ, Some, None, [], length, slice_set, IfOk, IfErr};
-ghost use Rattle.std.specs.Prelude.{OnOk, OnErr};
+ghost use Rattle.std.specs.Prelude.{OnOk, OnErr, IsTrue, IsFalse, ¬};
 ghost use Rattle.brc_count.specs.biased.Bounded.{IsBounded};
 ghost use Rattle.brc_count.specs.Owned.{Loses};
 ghost use Rattle.brc_count.specs.Polling.{Polled};
 ghost use Rattle.brc_count.specs.Closing.{GoesOut};
-ghost use Rattle.brc_count.specs.Frames.{Owns, Turns, IsUnlocked, KeepsHandles, ledger_seen, word_asked};
+ghost use Rattle.brc_count.specs.Frames.{Owns, Turns, HasSpare, IsUnlocked, KeepsHandles, ledger_seen, word_asked};
 ghost use Rattle.brc_handles.specs.Handles.{slot, filled, IsApart, IsBare, ComesIn};
 ghost use Rattle.brc_client.specs.Numbers.{number_at, place_in};
 ghost use Rattle.brc_client.specs.Clients.{IsClient, Names, NamesIn, NamesNone, NamesNoneIn};
@@ -91,11 +91,12 @@ pub(crate) fn find<'h>(
     numbers: &Numbers,
     number: u64,
 ) -> Result<&'h Handle<Global>, Status>
+    requires places { length handles.now ≡ 65536 }
     ensures named { IfOk result (λ handle. NamesIn handles.now numbers.now number handle.now) }
     ensures refused { IfErr result (NamesNoneIn handles.now numbers.now number) }
 {
     let place = numbers.place(number)?;
-    match handles.get(place) {
+    match handles.at(place) {
         Some(handle) => Ok(handle),
         None => Err(Status::Stale),
     }
@@ -207,9 +208,18 @@ impl Client {
         self.mutator.ledger()
     }
 
+    /// Whether a place is ready for the next reference, so that one more needs no memory.
+    #[inline(always)]
+    pub fn is_ready(&self) -> bool
+        ensures ready { IsTrue result → HasSpare self.now.frame }
+        ensures none { IsFalse result → ¬ HasSpare self.now.frame }
+    {
+        self.mutator.spare_place().is_some()
+    }
+
     /// One reference more to the object, under a number of its own. Foreign, Stale; then FrameFull, if the thread has
     /// 65,536 references, and OutOfMemory.
-    #[inline]
+    #[inline(always)]
     pub fn retain(&mut self, number: u64) -> Result<u64, Status>
         ensures more { IfOk result (λ more. OfNamed self.old number
             (λ object. Adds (Retained self.old.frame object.place) self.old self.new more)) }

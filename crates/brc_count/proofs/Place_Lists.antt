@@ -361,16 +361,16 @@ grows_on old now next len at grown few =
 
 -- ---- what the calls make of the array
 
--- the next place gets a reference
-pub record Fills (places : List Slot) (next len : ℕ) (there new : Slot) (held : PlaceEntry) : Type 0 where
-  pub links : AreLinked (set places next new) there.number (len + 1)
-  pub shows : Updates (shown places next) (shown (set places next new) there.number) next (Some held)
-  pub count : count_by is_some (map held_by (set places next new)) ≡ count_by is_some (map held_by places) + 1
+-- the next place, which is k, gets a reference
+pub record Fills (places : List Slot) (next len k : ℕ) (there new : Slot) (held : PlaceEntry) : Type 0 where
+  pub links : AreLinked (set places k new) there.number (len + 1)
+  pub shows : Updates (shown places next) (shown (set places k new) there.number) k (Some held)
+  pub count : count_by is_some (map held_by (set places k new)) ≡ count_by is_some (map held_by places) + 1
 
-pub fills : (places : List Slot) (next len : ℕ) (there new : Slot) (held : PlaceEntry) → AreLinked places next len
+fills_next : (places : List Slot) (next len : ℕ) (there new : Slot) (held : PlaceEntry) → AreLinked places next len
     → 0 < spare_in (shown places next) → there ≡ get_or places next there → held_by new ≡ Some held
-    → Fills places next len there new held
-fills places next len there new held are spare read is =
+    → Fills places next len next there new held
+fills_next places next len there new held are spare read is =
     elim (next_cases places next len are) [
       | inl full ↦ absurd (omega (arith, spare, full.1))
       | inr some ↦
@@ -385,6 +385,13 @@ fills places next len there new held are spare read is =
             count = sym links.counted ∙ ap (λ m. m + 1) are.counted;
           }
     ]
+
+pub fills : (places : List Slot) (next len k : ℕ) (there new : Slot) (held : PlaceEntry) → k ≡ next
+    → AreLinked places next len → 0 < spare_in (shown places next) → there ≡ get_or places k there
+    → held_by new ≡ Some held → Fills places next len k there new held
+fills places next len k there new held at are spare read is =
+    subst (λ j. Fills places next len j there new held) (sym at)
+    (fills_next places next len there new held are spare (subst (λ j. there ≡ get_or places j there) at read) is)
 
 -- a place is vacated
 pub record Vacates (places : List Slot) (next len k : ℕ) : Type 0 where

@@ -194,20 +194,18 @@ impl<A: Allocator> Places<A> {
         true
     }
 
-    /// The next place has this; the answer is that place.
+    /// The next place, which the caller has looked up, has this. So no store since makes it be loaded again.
     #[inline(always)]
-    pub(crate) fn fill(&mut self, held: PlaceEntry) -> u32
+    pub(crate) fn fill(&mut self, place: u32, held: PlaceEntry)
+        requires next { place ≡ self.old.next }
         requires spare { 0 < spare_in self.old }
-        ensures place { result ≡ self.old.next }
-        ensures vacant { held_at self.old result ≡ None }
-        ensures updates { Updates self.old self.new result (Some held) }
+        ensures vacant { held_at self.old place ≡ None }
+        ensures updates { Updates self.old self.new place (Some held) }
         ensures len { held_in self.new ≡ held_in self.old + 1 }
     {
-        let place = self.next;
         self.next = self.slots[place as usize].number;
         self.len += 1;
         self.slots[place as usize] = Slot::of(held);
-        place
     }
 
     /// The place, which isn't, is vacant; the answer is what it had. It is the next to be filled.

@@ -201,7 +201,7 @@ impl<H: HasTable<A>, A: Allocator> Holdings<H, A> {
     {
         let place = self.places.next();
         let risen = self.counter.up(source, place, cell);
-        let _same = self.places.fill(PlaceEntry { cell, risen });
+        self.places.fill(place, PlaceEntry { cell, risen });
         place
     }
 

@@ -122,7 +122,7 @@ impl<H: HasTable<A>, A: Allocator> Holdings<H, A> {
         let place = self.places.next();
         self.counter.unlock(block, Change::Take { index, place });
         // Whether its state has risen wasn't looked at since the place has it, so its release will look.
-        let _same = self.places.fill(PlaceEntry { cell, risen: false });
+        self.places.fill(place, PlaceEntry { cell, risen: false });
         place
     }
 

@@ -68,7 +68,7 @@ impl<H: HasTable<A>, A: Allocator> Holdings<H, A> {
         let mut block = block;
         block.set_cell(cell);
         self.counter.bear(block, kind, place);
-        let _same = self.places.fill(PlaceEntry { cell, risen: false });
+        self.places.fill(place, PlaceEntry { cell, risen: false });
         self.ledger.allocs += 1;
         Ok(place)
     }

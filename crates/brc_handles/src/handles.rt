@@ -70,6 +70,15 @@ impl<A: Allocator> Handles<A> {
         }
     }
 
+    /// The handle in this place, which is one of them; None where it is empty.
+    #[inline(always)]
+    pub fn at(&self, index: usize) -> Option<&Handle<A>>
+        requires inside { index < length self.now }
+        ensures { option_copied result ≡ slot self.now index }
+    {
+        self.slots[index].as_ref()
+    }
+
     /// A handle more, in a new place after all others. OutOfMemory where the place can't be had: the handle is handed
     /// back.
     #[inline(always)]

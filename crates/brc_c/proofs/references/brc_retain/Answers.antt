@@ -5,8 +5,8 @@ use Rattle.brc_c.specs.Exports.{IsMade, HasLeft}
 use Rattle.brc_c.proofs.Made.{works_at, left_at, same_at}
 use Rattle.brc_c.proofs.references.brc_retain.Goals as goal
 
-pub returns-in-Some-clause-does : goal.returns-in-Some-clause-does
-returns-in-Some-clause-does c = record {
+pub returns-then-is_ready-clause-does : goal.returns-then-is_ready-clause-does
+returns-then-is_ready-clause-does c = record {
   answer = c.retain.result;
   made = IsMade c.in-Some.client.now c.retain.new.self
       (works_at _ _ _ c.in-Some.ensures.value c.as_mut.ensures.value) refl
@@ -20,6 +20,17 @@ returns-in-Some-clause-does c = record {
   told = c.write.ensures.code;
   written = c.write.ensures.written;
 }
+
+pub returns-then-not-is_ready-clause-does : goal.returns-then-not-is_ready-clause-does
+returns-then-not-is_ready-clause-does c =
+    let does = c.retain_late.ensures.does in
+    record {
+      answer = does.answer;
+      made = IsMade c.in-Some.client.now c.retain_late.new.client
+          (works_at _ _ _ c.in-Some.ensures.value c.as_mut.ensures.value) refl does.made;
+      told = does.told;
+      written = does.written;
+    }
 
 pub returns-in-None-clause-does : goal.returns-in-None-clause-does
 returns-in-None-clause-does c = record {

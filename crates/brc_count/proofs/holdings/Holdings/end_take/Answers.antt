@@ -1,5 +1,5 @@
 use Rattle.std.proofs.Common.{◌≡◌, ◌<◌, Some, None, ◌∙◌, sym, ap, subst, refl, false}
-use Rattle.brc_count.specs.Places.{Updates, cell_held}
+use Rattle.brc_count.specs.Places.{cell_held}
 use Rattle.brc_words.specs.declared.limits.TheConstants.{MOST_PLACES}
 use Rattle.brc_table.specs.law.declared.world.event.Change.TheVariants as changes
 use Rattle.brc_table.specs.law.declared.world.row.Hand.TheVariants as hands
@@ -33,9 +33,7 @@ invariant_of-self g c =
     let locked = subst (λ (f : FrameSeen g.row.A.Denot). cell_locked f ≡ Some c.args.block.0)
     (sym c.self.view_is) c.requires.of_cell in
     let place = c.next-place.result in
-    let updates = subst (λ k. Updates c.self.inside.places c.fill-same.new.self k
-    (Some (record { cell = c.args.cell; risen = false })))
-    (c.fill-same.ensures.place ∙ sym c.next-place.ensures.next) c.fill-same.ensures.updates in
+    let updates = c.fill.ensures.updates in
     let all = after_end_filled c.self.inside.counter.seat c.unlock.new.self.seat (changes.Take c.args.index place)
     c.args.block.0 c.args.index place c.args.cell
     c.self.invariant (subst IsLocked (sym c.self.view_is) c.requires.locked) locked
@@ -49,9 +47,7 @@ returns-clause-places g c =
     let locked = subst (λ (f : FrameSeen g.row.A.Denot). cell_locked f ≡ Some c.args.block.0)
     (sym c.self.view_is) c.requires.of_cell in
     let place = c.next-place.result in
-    let updates = subst (λ k. Updates c.self.inside.places c.fill-same.new.self k
-    (Some (record { cell = c.args.cell; risen = false })))
-    (c.fill-same.ensures.place ∙ sym c.next-place.ensures.next) c.fill-same.ensures.updates in
+    let updates = c.fill.ensures.updates in
     let all = after_end_filled c.self.inside.counter.seat c.unlock.new.self.seat (changes.Take c.args.index place)
     c.args.block.0 c.args.index place c.args.cell
     c.self.invariant (subst IsLocked (sym c.self.view_is) c.requires.locked) locked

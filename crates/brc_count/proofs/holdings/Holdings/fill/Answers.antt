@@ -18,33 +18,29 @@ up-risen-requires-clause-raising g c =
 pub invariant_of-self : goal.invariant_of-self
 invariant_of-self g c =
     let up = c.up-risen.ensures in
-    let at_key = rw (c.fill-same.ensures.place ∙ sym c.next-place.ensures.next) at
-    c.fill-same.ensures.updates in
     rw up.heap (after_up c.self.inside.counter.seat c.up-risen.new.self.seat c.next-place.result c.args.cell
     c.up-risen.result
     c.self.invariant up.seat up.knows up.keeps up.risen (rw (← c.self.view_is) at c.requires.inside)
-    (record { changed = at_key.changed; others = at_key.others }) c.next-place.ensures.vacant up.found)
+    c.fill.ensures.updates c.next-place.ensures.vacant up.found)
 
 pub returns-clause-given : goal.returns-clause-given
 returns-clause-given g c =
     let up = c.up-risen.ensures in
-    let at_key = rw (c.fill-same.ensures.place ∙ sym c.next-place.ensures.next) at
-    c.fill-same.ensures.updates in
-    let all = after_up c.self.inside.counter.seat c.up-risen.new.self.seat {places = c.fill-same.new.self}
+    let all = after_up c.self.inside.counter.seat c.up-risen.new.self.seat {places = c.fill.new.self}
     c.next-place.result c.args.cell c.up-risen.result
     c.self.invariant up.seat up.knows up.keeps up.risen (rw (← c.self.view_is) at c.requires.inside)
-    (record { changed = at_key.changed; others = at_key.others }) c.next-place.ensures.vacant up.found in
+    c.fill.ensures.updates c.next-place.ensures.vacant up.found in
     rw (← c.self.view_is, up.heap) record {
       heap = refl;
       thread = up.seat.1;
       place = c.next-place.ensures.next;
       room = rw c.next-place.ensures.next (rw (← c.self.view_is) at c.requires.low);
       vacant = c.self.invariant.placed c.next-place.result ∙ ap cell_held c.next-place.ensures.vacant;
-      has = all.placed c.next-place.result ∙ ap cell_held at_key.changed;
-      others = λ j other. all.placed j ∙ ap cell_held (at_key.others j other) ∙ sym (c.self.invariant.placed j);
+      has = all.placed c.next-place.result ∙ ap cell_held c.fill.ensures.updates.changed;
+      others = λ j other. all.placed j ∙ ap cell_held (c.fill.ensures.updates.others j other) ∙ sym (c.self.invariant.placed j);
       counted = record { immortal = up.immortal; own = up.own; risen = c.up-risen.result; shared = up.shared };
       seat = up.seat;
-      len = c.fill-same.ensures.len;
+      len = c.fill.ensures.len;
       works = refl;
       rest = record {
         stage = ap (λ (p : Part). p.row.stage) up.knows.part;

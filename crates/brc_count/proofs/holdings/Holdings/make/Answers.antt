@@ -10,30 +10,26 @@ pub invariant_of-self-2 : goal.invariant_of-self-2
 invariant_of-self-2 g c =
     let n = c.self.inside.counter.heap.cells in
     let unlocked = subst IsUnlocked (sym c.self.view_is) c.requires.unlocked in
-    let at_key = rw (c.fill-same.ensures.place ∙ sym c.next-place.ensures.next) at
-    c.fill-same.ensures.updates in
     let born = rw (c.seek_from.ensures.heap, c.set_cell.ensures) at c.bear.ensures.knows in
     let all = after_birth c.self.inside.counter.seat c.seek_from.new.self.seat c.bear.new.self.seat
-    {places = c.fill-same.new.self} c.next-place.result c.in-Some.cell
+    {places = c.fill.new.self} c.next-place.result c.in-Some.cell
     c.self.invariant c.in-Some.ensures.claimed_knows born c.seek_from.ensures.keeps
     (rw c.seek_from.ensures.heap at c.bear.ensures.risen)
     c.in-Some.ensures.out c.bear.ensures.home c.in-Some.ensures.fresh c.in-Some.ensures.inside
-    (record { changed = at_key.changed; others = at_key.others }) c.next-place.ensures.vacant unlocked in
+    c.fill.ensures.updates c.next-place.ensures.vacant unlocked in
     rw (c.bear.ensures.heap, c.seek_from.ensures.heap) all
 
 pub returns-clause-made : goal.returns-clause-made
 returns-clause-made g c =
     let n = c.self.inside.counter.heap.cells in
     let unlocked = subst IsUnlocked (sym c.self.view_is) c.requires.unlocked in
-    let at_key = rw (c.fill-same.ensures.place ∙ sym c.next-place.ensures.next) at
-    c.fill-same.ensures.updates in
     let born = rw (c.seek_from.ensures.heap, c.set_cell.ensures) at c.bear.ensures.knows in
     let all = after_birth c.self.inside.counter.seat c.seek_from.new.self.seat c.bear.new.self.seat
-    {places = c.fill-same.new.self} c.next-place.result c.in-Some.cell
+    {places = c.fill.new.self} c.next-place.result c.in-Some.cell
     c.self.invariant c.in-Some.ensures.claimed_knows born c.seek_from.ensures.keeps
     (rw c.seek_from.ensures.heap at c.bear.ensures.risen)
     c.in-Some.ensures.out c.bear.ensures.home c.in-Some.ensures.fresh c.in-Some.ensures.inside
-    (record { changed = at_key.changed; others = at_key.others }) c.next-place.ensures.vacant unlocked in
+    c.fill.ensures.updates c.next-place.ensures.vacant unlocked in
     let part = born_known n c.self.inside.counter.seat.log c.seek_from.new.self.seat.log c.bear.new.self.seat.log
     c.next-place.result c.in-Some.cell c.in-Some.ensures.claimed_knows born in
     rw (← c.self.view_is, c.bear.ensures.heap, c.seek_from.ensures.heap) record {
@@ -53,10 +49,10 @@ returns-clause-made g c =
       place = c.next-place.ensures.next;
       room = rw c.next-place.ensures.next (rw (← c.self.view_is) at c.requires.low);
       vacant = c.self.invariant.placed c.next-place.result ∙ ap cell_held c.next-place.ensures.vacant;
-      has = all.placed c.next-place.result ∙ ap cell_held at_key.changed;
-      others = λ j other. all.placed j ∙ ap cell_held (at_key.others j other) ∙ sym (c.self.invariant.placed j);
+      has = all.placed c.next-place.result ∙ ap cell_held c.fill.ensures.updates.changed;
+      others = λ j other. all.placed j ∙ ap cell_held (c.fill.ensures.updates.others j other) ∙ sym (c.self.invariant.placed j);
       seat = (c.bear.ensures.seat.0 ∙ c.seek_from.ensures.seat.0, c.bear.ensures.seat.1 ∙ c.seek_from.ensures.seat.1);
-      len = c.fill-same.ensures.len;
+      len = c.fill.ensures.len;
       works = refl;
       rest = record {
         stage = ap (λ (p : Part). p.row.stage) part;
