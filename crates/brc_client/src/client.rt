@@ -1,7 +1,7 @@
 //! A thread's references by numbers: how they are found, made more and let go.
 
 ghost use Rattle.std.specs.Prelude.{◌≡◌, ◌-◌, ◌<◌, ◌≤◌, ◌⊎◌, ℕ, Some, None, [], length, slice_set, IfOk, IfErr};
-ghost use Rattle.std.specs.Prelude.{OnOk, OnErr, IsTrue, IsFalse, ¬};
+ghost use Rattle.std.specs.Prelude.{OnOk, OnErr, IsTrue, IsFalse};
 ghost use Rattle.brc_count.specs.biased.Bounded.{IsBounded};
 ghost use Rattle.brc_count.specs.Owned.{Loses};
 ghost use Rattle.brc_count.specs.Polling.{Polled};
