@@ -21,8 +21,8 @@ returns-then-is_ready-clause-does c = record {
   written = c.write.ensures.written;
 }
 
-pub returns-then-not-is_ready-clause-does : goal.returns-then-not-is_ready-clause-does
-returns-then-not-is_ready-clause-does c =
+pub returns-else-is_ready-clause-does : goal.returns-else-is_ready-clause-does
+returns-else-is_ready-clause-does c =
     let does = c.retain_late.ensures.does in
     record {
       answer = does.answer;
