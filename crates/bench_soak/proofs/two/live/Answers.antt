@@ -8,13 +8,13 @@ use mir.Syntax.{named}
 use Rattle.std.proofs.Crossing.{crosses}
 use Rattle.brc_thread.proofs.Sent.{heap_sync}
 use Rattle.bench_soak.proofs.Sent.{maybe_send}
-use Rattle.bench_soak.proofs.two.live.Lts.{of-26}
+use Rattle.bench_soak.proofs.two.live.Lts.{of-24}
 use Rattle.bench_soak.proofs.two.live.Goals as goal
 
 pub join_mut-retired-requires-send-F : goal.join_mut-retired-requires-send-F
 join_mut-retired-requires-send-F g c κs within =
     let e = κs.1.1.1.1.1.1.1.1 in
-    let T = type_at _ (of-26 g.row.R g.R.laws g.R.Threads-dict g.R.Wait-dict record { mir = named 8; lft = e.0 }
+    let T = type_at _ (of-24 g.row.R g.R.laws g.R.Threads-dict g.R.Wait-dict record { mir = named 8; lft = e.0 }
     record { mir = named 9; lft = e.1.0 } record { mir = named 10; lft = e.1.1.0 }
     record { mir = named 11; lft = e.1.1.1.0 } record { mir = named 12; lft = e.1.1.1.1.0 }) in
     param_send 1 _
