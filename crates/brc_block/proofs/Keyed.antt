@@ -9,14 +9,15 @@ use Rattle.std.proofs.lemmas.List.Quantifiers.{position-Some}
 use Rattle.indexmap.specs.IndexMap.{set_value_at}
 use Rattle.brc_words.specs.declared.key.Key.{Key}
 use Rattle.brc_words.specs.Keys.{same_key, same_key-exact, same_key-itself}
-use Rattle.brc_block.specs.Pairs.{keys_in, cells_in}
+use Rattle.brc_words.specs.declared.entry.Entry.{Entry}
+use Rattle.brc_block.specs.Pairs.{keys_in, noted_in}
 
--- another value beside the key at a place is another cell at that place
-pub cells-set_value_at : {K : Type 0} (pairs : List (K × ℕ)) (i cell : ℕ)
-    → cells_in (set_value_at pairs i cell) ≡ slice_set (cells_in pairs) i cell
-cells-set_value_at [] i cell = refl
-cells-set_value_at (pair ∷ pairs) zero cell = refl
-cells-set_value_at (pair ∷ pairs) (suc i) cell = ap (λ cells. pair.1 ∷ cells) (cells-set_value_at pairs i cell)
+-- another value beside the key at a place is another entry at that place
+pub noted-set_value_at : {K : Type 0} (pairs : List (K × Entry)) (i : ℕ) (entry : Entry)
+    → noted_in (set_value_at pairs i entry) ≡ slice_set (noted_in pairs) i entry
+noted-set_value_at [] i entry = refl
+noted-set_value_at (pair ∷ pairs) zero entry = refl
+noted-set_value_at (pair ∷ pairs) (suc i) entry = ap (λ rest. pair.1 ∷ rest) (noted-set_value_at pairs i entry)
 
 some_is_none : {X : Type 0} {x : X} → Some x ≡ None → ⊥
 some_is_none told = true≢false (ap is_some told)
@@ -65,19 +66,19 @@ module _ {A : Type 0} (key : Key A) where
 
   -- ---- a key that isn't there
 
-  nowhere : (pairs : List (Key A × ℕ)) → lookup (same_key key) pairs ≡ None → All (λ other. other ≢ key) (keys_in pairs)
+  nowhere : (pairs : List (Key A × Entry)) → lookup (same_key key) pairs ≡ None → All (λ other. other ≢ key) (keys_in pairs)
   nowhere [] none k d below = absurd (omega arith)
   nowhere (pair ∷ pairs) none zero d below =
       other_from_false pair.0 (apart (same_key key pair.0) pair.1 (lookup (same_key key) pairs) none).0
   nowhere (pair ∷ pairs) none (suc k) d below =
       nowhere pairs (apart (same_key key pair.0) pair.1 (lookup (same_key key) pairs) none).1 k d (omega arith)
 
-  pub absent_key : (pairs : List (Key A × ℕ)) (place : Option ℕ) → is_some place ≡ is_some (lookup (same_key key) pairs)
+  pub absent_key : (pairs : List (Key A × Entry)) (place : Option ℕ) → is_some place ≡ is_some (lookup (same_key key) pairs)
       → IfNone place (All (λ other. other ≢ key) (keys_in pairs))
   absent_key pairs (Some i) is = tt
   absent_key pairs None is = nowhere pairs (none_from_test (lookup (same_key key) pairs) (sym is))
 
-  pub none_there : (pairs : List (Key A × ℕ)) → All (λ other. other ≢ key) (keys_in pairs)
+  pub none_there : (pairs : List (Key A × Entry)) → All (λ other. other ≢ key) (keys_in pairs)
       → lookup (same_key key) pairs ≡ None
   none_there [] none = refl
   none_there (pair ∷ pairs) none =

@@ -1,9 +1,11 @@
--- A payload as its kind, its entries and their keys.
+-- A payload as its kind, its entries with what is noted beside them, and their keys.
 use Rattle.std.specs.Prelude.{ℕ, List, [], true, false}
 use Rattle.brc_words.specs.declared.key.Key.{Key}
+use Rattle.brc_words.specs.declared.entry.Entry.{Entry}
+use Rattle.brc_words.specs.Notes.{cells_of}
 use Rattle.brc_words.specs.declared.kind.Kind.{Kind}
 use Rattle.brc_words.specs.declared.kind.Kind.TheVariants as kinds
-use Rattle.brc_block.specs.Pairs.{keys_in, cells_in}
+use Rattle.brc_block.specs.Pairs.{keys_in, noted_in}
 use Rattle.brc_block.specs.declared.payload.Payload.{Payload}
 use Rattle.brc_block.specs.declared.payload.Payload.TheVariants.{Int, Text, «List» as Items, Dict, Mailbox, Nothing}
 use Rattle.brc_block.specs.declared.payload.Payload.TheVariants.{Truth}
@@ -20,15 +22,20 @@ module _ {A : Type 0} where
   kind_of (Truth false) = kinds.False
   kind_of (Truth true) = kinds.True
 
-  -- the cells that it holds: of a dictionary in the order of their keys, of a mailbox the first put in first
+  -- the entries, each a cell and what is noted beside it: of a dictionary in the order of their keys, of a mailbox the
+  -- first put in first
+  abbrev pub noted_of : Payload A → List Entry
+  noted_of (Int number) = []
+  noted_of (Text text) = []
+  noted_of (Items cells) = cells.items
+  noted_of (Dict pairs) = noted_in pairs.items
+  noted_of (Mailbox letters) = letters.items
+  noted_of Nothing = []
+  noted_of (Truth truth) = []
+
+  -- the cells alone
   abbrev pub entries_of : Payload A → List ℕ
-  entries_of (Int number) = []
-  entries_of (Text text) = []
-  entries_of (Items cells) = cells.items
-  entries_of (Dict pairs) = cells_in pairs.items
-  entries_of (Mailbox letters) = letters.items
-  entries_of Nothing = []
-  entries_of (Truth truth) = []
+  entries_of payload = cells_of (noted_of payload)
 
   -- the keys of a dictionary, in the order in which they came; nothing else has keys
   abbrev pub keys_of : Payload A → List (Key A)

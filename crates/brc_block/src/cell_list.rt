@@ -1,27 +1,29 @@
 //! The entries of a list.
 
-ghost use Rattle.std.specs.Prelude.{◌≡◌, ◌-◌, ◌<◌, OnOk, OnErr, vec_len};
+ghost use Rattle.std.specs.Prelude.{◌≡◌, ◌-◌, ◌<◌, Some, OnOk, OnErr, length, remove, slice_get, vec_len};
 ghost use Rattle.std.specs.Vec.{vec_capacity};
 
 use crate::entries::Entries;
+use brc_words::Entry;
 use std::alloc::{AllocError, Allocator};
 use std::marker::Model;
 
 /// How many entries the first growth makes room for.
 const FEWEST: usize = 8;
 
-/// The entries of a list, as cells.
+/// The entries of a list: cells, each with what is noted beside it.
 #[derive(Drop)]
 pub struct CellList<A: Allocator> {
-    list: Vec<u32, A>,
+    list: Vec<Entry, A>,
 }
 
 impl<A: Allocator> Model for CellList<A> {
-    ghost use Rattle.std.specs.Prelude.{ℕ, ◌-◌, vec_len};
+    ghost use Rattle.std.specs.Prelude.{◌-◌, vec_len};
+    ghost use Rattle.brc_words.specs.declared.entry.Entry.{Entry};
     ghost use Rattle.std.specs.Vec.{vec_capacity};
     ghost use Rattle.brc_block.specs.Row.{RowSeen};
 
-    ghost Value = { RowSeen ℕ };
+    ghost Value = { RowSeen Entry };
 
     ghost view = { λ c. record {
       items = c.list.items;
@@ -31,7 +33,7 @@ impl<A: Allocator> Model for CellList<A> {
 
 impl<A: Allocator> CellList<A> {
     /// The vector as entries; its spare capacity stays spare.
-    pub fn new(list: Vec<u32, A>) -> Self
+    pub fn new(list: Vec<Entry, A>) -> Self
         ensures items { result.items ≡ list.items }
         ensures spare { result.spare ≡ vec_capacity list - vec_len list }
     {
@@ -52,8 +54,8 @@ impl<A: Allocator> CellList<A> {
         self.list.reserve_exact(more)
     }
 
-    /// The cells in their order.
-    pub fn as_slice(&self) -> &[u32]
+    /// The entries in their order.
+    pub fn as_slice(&self) -> &[Entry]
         ensures { result.now ≡ self.now.items }
     {
         self.list.as_slice()
@@ -69,7 +71,7 @@ impl<A: Allocator> Entries for CellList<A> {
     }
 
     #[inline(always)]
-    fn entry(&self, index: usize) -> Option<u32> {
+    fn noted(&self, index: usize) -> Option<Entry> {
         self.list.get(index).copied()
     }
 
@@ -82,26 +84,37 @@ impl<A: Allocator> Entries for CellList<A> {
     }
 
     #[inline(always)]
-    fn put_reserved(&mut self, cell: u32) {
-        self.list.push_reserved(cell);
+    fn put_reserved(&mut self, entry: Entry) {
+        self.list.push_reserved(entry);
     }
 
     #[inline(always)]
-    fn set(&mut self, index: usize, cell: u32) {
-        self.list[index] = cell;
+    fn set(&mut self, index: usize, entry: Entry) {
+        self.list[index] = entry;
     }
 
     #[inline(always)]
-    fn remove(&mut self, index: usize) -> u32 {
+    fn remove(&mut self, index: usize) -> Entry {
         if self.list.len() - 1 == index {
             self.list.take_last()
         } else {
-            self.list.remove(index)
+            remove_between(&mut self.list, index)
         }
     }
 
     #[inline(always)]
-    fn pop(&mut self) -> Option<u32> {
+    fn pop(&mut self) -> Option<Entry> {
         self.list.pop()
     }
+}
+
+/// An entry that isn't the last goes, by a call. What that returns into is set to zero here, and not where the last goes.
+#[inline(always)]
+fn remove_between<A: Allocator>(list: &mut Vec<Entry, A>, index: usize) -> Entry
+    requires within { index < length list.old.items }
+    ensures taken { slice_get list.old.items index ≡ Some result }
+    ensures left { list.new.items ≡ remove list.old.items index }
+    ensures spare { vec_capacity list.new ≡ vec_capacity list.old }
+{
+    list.remove(index)
 }

@@ -1,4 +1,4 @@
-//! Cells by their keys, in the order in which the keys came.
+//! Entries by their keys, in the order in which the keys came.
 
 ghost use Rattle.std.specs.Prelude.{◌≡◌, ◌≢◌, ◌+◌, ◌<◌, ◌≤◌, ◌++◌, [], ◌∷◌, length, take, All, Some, OnOk, OnErr};
 ghost use Rattle.std.specs.Prelude.{IfSome, IfNone, is_some, position, slice_get, slice_set, remove};
@@ -6,10 +6,10 @@ ghost use Rattle.std.specs.Map.{lookup};
 ghost use Rattle.std.specs.Option.{option_to_list};
 ghost use Rattle.brc_words.specs.Keys.{same_key};
 ghost use Rattle.brc_block.specs.Lent_Keys.{key_lent};
-ghost use Rattle.brc_block.specs.Pairs.{keys_in, cells_in};
+ghost use Rattle.brc_block.specs.Pairs.{keys_in, noted_in};
 
 use crate::key_ref::KeyRef;
-use brc_words::Key;
+use brc_words::{Entry, Key};
 use indexmap::IndexMap;
 use std::alloc::{AllocError, Allocator};
 use std::hash::{BuildHasherDefault, FoldHasher};
@@ -18,16 +18,16 @@ use std::marker::Model;
 /// The map of a dictionary. No key stands twice, and a removal keeps the order.
 #[derive(Drop)]
 pub(crate) struct KeyMap<A: Allocator> {
-    map: IndexMap<Key<A>, u32, BuildHasherDefault<FoldHasher>, A>,
+    map: IndexMap<Key<A>, Entry, BuildHasherDefault<FoldHasher>, A>,
 }
 
 impl<A: Allocator> Model for KeyMap<A> {
-    ghost use Rattle.std.specs.Prelude.{ℕ};
+    ghost use Rattle.brc_words.specs.declared.entry.Entry.{Entry};
     ghost use Rattle.brc_words.specs.declared.key.Key.{Key};
     ghost use Rattle.indexmap.specs.IndexMap.{spare};
     ghost use Rattle.brc_block.specs.Row.{RowSeen};
 
-    ghost Value = { RowSeen (Key A × ℕ) };
+    ghost Value = { RowSeen (Key A × Entry) };
 
     ghost view = { λ m. record {
       items = m.map.entries;
@@ -53,15 +53,15 @@ impl<A: Allocator> KeyMap<A> {
         self.map.len()
     }
 
-    /// The key and the cell at an index, or None past the end.
+    /// The key and the entry at an index, or None past the end.
     #[inline(always)]
-    pub(crate) fn pair(&self, index: usize) -> Option<(&Key<A>, u32)>
+    pub(crate) fn pair(&self, index: usize) -> Option<(&Key<A>, Entry)>
         ensures there { IfSome result
             (λ pair. slice_get self.now.items index ≡ Some (pair.0.now, pair.1)) }
         ensures past { IfNone result (length self.now.items ≤ index) }
     {
         match self.map.get_index(index) {
-            Some((key, cell)) => Some((key, *cell)),
+            Some((key, entry)) => Some((key, *entry)),
             None => None,
         }
     }
@@ -110,31 +110,31 @@ impl<A: Allocator> KeyMap<A> {
     }
 
     /// One more pair, of a key that isn't there, at the end, in the room that was made for it.
-    pub(crate) fn put_reserved(&mut self, key: Key<A>, cell: u32)
+    pub(crate) fn put_reserved(&mut self, key: Key<A>, entry: Entry)
         requires room { 0 < self.old.spare }
         requires absent { All (λ other. other ≢ key) (keys_in self.old.items) }
-        ensures put { self.new.items ≡ self.old.items ++ (key, cell) ∷ [] }
+        ensures put { self.new.items ≡ self.old.items ++ (key, entry) ∷ [] }
         ensures used { self.old.spare ≤ self.new.spare + 1 }
     {
-        match self.map.insert(key, cell) {
+        match self.map.insert(key, entry) {
             Ok(_old) => {}
             Err(_refused) => unreachable!(),
         }
     }
 
-    /// Another cell for a key; its place stays.
+    /// Another entry for a key; its place stays.
     #[inline(always)]
-    pub(crate) fn set(&mut self, index: usize, cell: u32)
+    pub(crate) fn set(&mut self, index: usize, entry: Entry)
         requires within { index < length self.old.items }
-        ensures set { cells_in self.new.items ≡ slice_set (cells_in self.old.items) index cell }
+        ensures set { noted_in self.new.items ≡ slice_set (noted_in self.old.items) index entry }
         ensures keys { keys_in self.new.items ≡ keys_in self.old.items }
         ensures spare { self.new.spare ≡ self.old.spare }
     {
-        self.map[index] = cell;
+        self.map[index] = entry;
     }
 
     /// Takes a pair, and the later ones close up.
-    pub(crate) fn remove(&mut self, index: usize) -> (Key<A>, u32)
+    pub(crate) fn remove(&mut self, index: usize) -> (Key<A>, Entry)
         requires within { index < length self.old.items }
         ensures taken { slice_get self.old.items index ≡ Some result }
         ensures left { self.new.items ≡ remove self.old.items index }
@@ -147,7 +147,7 @@ impl<A: Allocator> KeyMap<A> {
     }
 
     /// Takes the last pair.
-    pub(crate) fn pop(&mut self) -> Option<(Key<A>, u32)>
+    pub(crate) fn pop(&mut self) -> Option<(Key<A>, Entry)>
         ensures last { self.old.items ≡ self.new.items ++ option_to_list result }
         ensures spare { self.old.spare ≤ self.new.spare }
         ensures empty { IfNone result (self.old.items ≡ []) }

@@ -4,6 +4,7 @@ ghost use Rattle.std.specs.Prelude.{◌≡◌, ◌+◌, ◌++◌, [], IfOk, OnSo
 ghost use Rattle.std.specs.Option.{option_to_list};
 
 use crate::entries::Entries;
+use brc_words::Entry;
 use std::alloc::{AllocError, Allocator};
 use std::collections::VecDeque;
 use std::marker::Model;
@@ -11,20 +12,21 @@ use std::marker::Model;
 /// How many entries the first growth makes room for.
 const FEWEST: usize = 4;
 
-/// The entries of a mailbox, as cells: the first put in is the first taken out.
+/// The entries of a mailbox, as cells with notes: the first put in is the first taken out.
 ///
 /// The queue stands in memory of its own, so that blocks stay small, and is made with the mailbox.
 #[derive(Drop)]
 pub struct Letters<A: Allocator> {
-    queue: Box<VecDeque<u32, A>, A>,
+    queue: Box<VecDeque<Entry, A>, A>,
 }
 
 impl<A: Allocator> Model for Letters<A> {
-    ghost use Rattle.std.specs.Prelude.{ℕ, ◌-◌};
+    ghost use Rattle.std.specs.Prelude.{◌-◌};
+    ghost use Rattle.brc_words.specs.declared.entry.Entry.{Entry};
     ghost use Rattle.std.specs.VecDeque.{deque_items, deque_len, deque_capacity};
     ghost use Rattle.brc_block.specs.Row.{RowSeen};
 
-    ghost Value = { RowSeen ℕ };
+    ghost Value = { RowSeen Entry };
 
     ghost view = { λ l. record {
       items = deque_items l.queue.value;
@@ -46,7 +48,7 @@ impl<A: Allocator + Copy> Letters<A> {
 
 impl<A: Allocator> Letters<A> {
     /// Takes the first entry.
-    pub fn take(&mut self) -> Option<u32>
+    pub fn take(&mut self) -> Option<Entry>
         ensures first { self.old.items ≡ option_to_list result ++ self.new.items }
         ensures spare { OnSome result (self.new.spare ≡ self.old.spare + 1) }
         ensures empty { IfNone result (self.old.items ≡ []) }
@@ -65,7 +67,7 @@ impl<A: Allocator> Entries for Letters<A> {
     }
 
     #[inline(always)]
-    fn entry(&self, index: usize) -> Option<u32> {
+    fn noted(&self, index: usize) -> Option<Entry> {
         self.queue.get(index).copied()
     }
 
@@ -80,33 +82,33 @@ impl<A: Allocator> Entries for Letters<A> {
     }
 
     #[inline(always)]
-    fn put_reserved(&mut self, cell: u32) {
-        match self.queue.push_back(cell) {
+    fn put_reserved(&mut self, entry: Entry) {
+        match self.queue.push_back(entry) {
             Ok(()) => {}
             Err(_refused) => unreachable!(),
         }
     }
 
-    fn set(&mut self, index: usize, cell: u32) {
-        self.queue[index] = cell;
+    fn set(&mut self, index: usize, entry: Entry) {
+        self.queue[index] = entry;
     }
 
     // The first and the last are taken at once.
     #[inline(always)]
-    fn remove(&mut self, index: usize) -> u32 {
+    fn remove(&mut self, index: usize) -> Entry {
         if index == 0 {
             return match self.queue.pop_front() {
-                Some(cell) => cell,
+                Some(entry) => entry,
                 None => unreachable!(),
             };
         }
         match self.queue.remove(index) {
-            Some(cell) => cell,
+            Some(entry) => entry,
             None => unreachable!(),
         }
     }
 
-    fn pop(&mut self) -> Option<u32> {
+    fn pop(&mut self) -> Option<Entry> {
         self.queue.pop_back()
     }
 }

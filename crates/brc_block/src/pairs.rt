@@ -4,15 +4,15 @@ ghost use Rattle.std.specs.Prelude.{◌≡◌, ◌≢◌, ◌+◌, ◌<◌, ◌�
 ghost use Rattle.std.specs.Prelude.{IfOk, IfErr, IfSome, IfNone, slice_get, slice_set, remove};
 ghost use Rattle.std.specs.Option.{option_to_list};
 ghost use Rattle.brc_block.specs.Lent_Keys.{key_lent};
-ghost use Rattle.brc_block.specs.Pairs.{keys_in, cells_in};
+ghost use Rattle.brc_block.specs.Pairs.{keys_in, noted_in};
 
 use crate::key_map::KeyMap;
 use crate::key_ref::KeyRef;
-use brc_words::Key;
+use brc_words::{Entry, Key};
 use std::alloc::{AllocError, Allocator};
 use std::marker::Model;
 
-/// The entries of a dictionary: each key with its cell, in the order in which the keys came.
+/// The entries of a dictionary: each key with its cell and note, in the order in which the keys came.
 ///
 /// The map stands in memory of its own, so that blocks stay small, and is made for the first entry.
 #[derive(Drop)]
@@ -22,12 +22,12 @@ pub struct Pairs<A: Allocator> {
 }
 
 impl<A: Allocator> Model for Pairs<A> {
-    ghost use Rattle.std.specs.Prelude.{ℕ};
+    ghost use Rattle.brc_words.specs.declared.entry.Entry.{Entry};
     ghost use Rattle.brc_words.specs.declared.key.Key.{Key};
     ghost use Rattle.brc_block.specs.Row.{RowSeen};
     ghost use Rattle.brc_block.specs.Pairs.{row_of};
 
-    ghost Value = { RowSeen (Key A × ℕ) };
+    ghost Value = { RowSeen (Key A × Entry) };
 
     ghost view = { λ p. row_of p.map };
 }
@@ -63,9 +63,9 @@ impl<A: Allocator> Pairs<A> {
         }
     }
 
-    /// The key and the cell of an entry, or None past the end.
+    /// A key and its entry, or None past the end.
     #[inline(always)]
-    pub fn pair(&self, index: usize) -> Option<(&Key<A>, u32)>
+    pub fn pair(&self, index: usize) -> Option<(&Key<A>, Entry)>
         ensures there { IfSome result
             (λ pair. slice_get self.now.items index ≡ Some (pair.0.now, pair.1)) }
         ensures past { IfNone result (slice_get self.now.items index ≡ None) }
@@ -76,14 +76,14 @@ impl<A: Allocator> Pairs<A> {
         }
     }
 
-    /// The cell of an entry, or None past the end.
+    /// An entry, or None past the end.
     #[inline(always)]
-    pub fn entry(&self, index: usize) -> Option<u32>
-        ensures { result ≡ slice_get (cells_in self.now.items) index }
+    pub fn noted(&self, index: usize) -> Option<Entry>
+        ensures { result ≡ slice_get (noted_in self.now.items) index }
     {
         match self.pair(index) {
             None => None,
-            Some((_key, cell)) => Some(cell),
+            Some((_key, entry)) => Some(entry),
         }
     }
 
@@ -103,34 +103,34 @@ impl<A: Allocator> Pairs<A> {
     }
 
     /// One more entry, of a key that isn't there, at the end, in the room that was made for it.
-    pub fn put_reserved(&mut self, key: Key<A>, cell: u32)
+    pub fn put_reserved(&mut self, key: Key<A>, entry: Entry)
         requires room { 0 < self.old.spare }
         requires absent { All (λ other. other ≢ key) (keys_in self.old.items) }
-        ensures put { self.new.items ≡ self.old.items ++ (key, cell) ∷ [] }
+        ensures put { self.new.items ≡ self.old.items ++ (key, entry) ∷ [] }
         ensures used { self.old.spare ≤ self.new.spare + 1 }
     {
         match &mut self.map {
             None => unreachable!(),
-            Some(map) => map.put_reserved(key, cell),
+            Some(map) => map.put_reserved(key, entry),
         }
     }
 
-    /// Another cell for a key; its place stays.
+    /// Another entry for a key; its place stays.
     #[inline(always)]
-    pub fn set(&mut self, index: usize, cell: u32)
+    pub fn set(&mut self, index: usize, entry: Entry)
         requires within { index < length self.old.items }
-        ensures set { cells_in self.new.items ≡ slice_set (cells_in self.old.items) index cell }
+        ensures set { noted_in self.new.items ≡ slice_set (noted_in self.old.items) index entry }
         ensures keys { keys_in self.new.items ≡ keys_in self.old.items }
         ensures spare { self.new.spare ≡ self.old.spare }
     {
         match &mut self.map {
             None => unreachable!(),
-            Some(map) => map.set(index, cell),
+            Some(map) => map.set(index, entry),
         }
     }
 
     /// Takes a pair, and the later ones close up.
-    pub fn remove(&mut self, index: usize) -> (Key<A>, u32)
+    pub fn remove(&mut self, index: usize) -> (Key<A>, Entry)
         requires within { index < length self.old.items }
         ensures taken { slice_get self.old.items index ≡ Some result }
         ensures left { self.new.items ≡ remove self.old.items index }
@@ -143,7 +143,7 @@ impl<A: Allocator> Pairs<A> {
     }
 
     /// Takes the last pair.
-    pub fn pop(&mut self) -> Option<(Key<A>, u32)>
+    pub fn pop(&mut self) -> Option<(Key<A>, Entry)>
         ensures last { self.old.items ≡ self.new.items ++ option_to_list result }
         ensures spare { self.old.spare ≤ self.new.spare }
         ensures empty { IfNone result (self.old.items ≡ []) }
@@ -177,9 +177,9 @@ impl<A: Allocator + Copy> Pairs<A> {
     }
 
     /// One more entry, of a key that isn't there, at the end, or its key back.
-    pub fn put(&mut self, key: Key<A>, cell: u32) -> Result<(), Key<A>>
+    pub fn put(&mut self, key: Key<A>, entry: Entry) -> Result<(), Key<A>>
         requires absent { All (λ other. other ≢ key) (keys_in self.old.items) }
-        ensures put { OnOk result (self.new.items ≡ self.old.items ++ (key, cell) ∷ []) }
+        ensures put { OnOk result (self.new.items ≡ self.old.items ++ (key, entry) ∷ []) }
         ensures left { OnOk result (self.old.spare ≤ self.new.spare + 1) }
         ensures back { IfErr result (λ back. back ≡ key) }
         ensures needed { OnErr result (self.old.spare ≡ 0) }
@@ -188,7 +188,7 @@ impl<A: Allocator + Copy> Pairs<A> {
         match self.reserve() {
             Err(AllocError) => Err(key),
             Ok(()) => {
-                self.put_reserved(key, cell);
+                self.put_reserved(key, entry);
                 Ok(())
             }
         }

@@ -7,6 +7,7 @@ use Rattle.std.proofs.Math.Seq.{take-append_seam, get_or-append_seam}
 use Rattle.std.proofs.lemmas.List.{length-append, get_or_append_left, length-set, get_or-set_same, get_or_past}
 use Rattle.std.proofs.lemmas.Option.{slice_get_within, slice_get-get_or, get_or_from_slice_get}
 use Rattle.std.proofs.lemmas.Bool.{cases_eq, cases_lt, eq-eqb, ne_eqb}
+use Rattle.brc_words.specs.Notes.{cells_of}
 use Rattle.brc_table.specs.block.declared.payload.Payload.{Payload}
 use Rattle.brc_table.specs.block.declared.payload.Payload.TheVariants as payloads
 use Rattle.brc_table.specs.block.Payload.{entries_of}
@@ -199,8 +200,8 @@ after_given c (Some there) b fresh low wide cells = after_take c (answered (Some
 
 -- ---- payloads and their contents
 
-values_of : {K L : Type 0} (f : K → L) (pairs : List (K × ℕ))
-    → map (λ (p : L × ℕ). p.1) (map (λ (pair : K × ℕ). (f pair.0, pair.1)) pairs) ≡ map (λ (p : K × ℕ). p.1) pairs
+values_of : {K L E : Type 0} (f : K → L) (pairs : List (K × E))
+    → map (λ (p : L × E). p.1) (map (λ (pair : K × E). (f pair.0, pair.1)) pairs) ≡ map (λ (p : K × E). p.1) pairs
 values_of f [] = refl
 values_of f (pair ∷ pairs) = ap (λ xs. pair.1 ∷ xs) (values_of f pairs)
 
@@ -208,7 +209,7 @@ pub contents_have : {A : Type 0} (payload : Payload A) → entries_in (contents_
 contents_have (payloads.Int number) = refl
 contents_have (payloads.Text text) = refl
 contents_have (payloads.«List» cells) = refl
-contents_have (payloads.Dict pairs) = values_of plain_key pairs.items
+contents_have (payloads.Dict pairs) = ap cells_of (values_of plain_key pairs.items)
 contents_have (payloads.Mailbox letters) = refl
 contents_have payloads.Nothing = refl
 contents_have (payloads.Truth truth) = refl

@@ -3,6 +3,7 @@ use Rattle.std.proofs.Common.{◌≡◌, ◌≢◌, ◌++◌, ℕ, All, true, fa
 use Rattle.std.proofs.Common.{subst}
 use Rattle.std.proofs.lemmas.List.{map-append}
 use Rattle.std.proofs.lemmas.List.Elements.{All-map}
+use Rattle.brc_words.specs.declared.entry.Entry.{Entry}
 use Rattle.brc_words.specs.declared.key.Key.{Key}
 use Rattle.brc_words.specs.declared.key.Key.TheVariants as keys
 use Rattle.brc_words.specs.declared.kind.Kind.TheVariants as kinds
@@ -23,9 +24,9 @@ module _ {A : Type 0} where
   same_key (keys.Text a) (keys.Int b) same = cc
 
   -- a pair's key is shown plainly
-  plainly : (pairs : List (Key A × ℕ))
-      → map (λ (p : PlainKey × ℕ). p.0) (map (λ (pair : Key A × ℕ). (plain_key pair.0, pair.1)) pairs) ≡ map plain_key
-      (map (λ (pair : Key A × ℕ). pair.0) pairs)
+  plainly : (pairs : List (Key A × Entry))
+      → map (λ (p : PlainKey × Entry). p.0) (map (λ (pair : Key A × Entry). (plain_key pair.0, pair.1)) pairs) ≡ map plain_key
+      (map (λ (pair : Key A × Entry). pair.0) pairs)
   plainly [] = refl
   plainly (pair ∷ pairs) = ap (λ ks. plain_key pair.0 ∷ ks) (plainly pairs)
 

@@ -1,6 +1,8 @@
 -- From why a call is refused to what was wanting, and on to later frames.
 use Rattle.std.proofs.Common.{◌≡◌, ◌≤◌, ◌∙◌, ℕ, ℤ, List, Option, Some, None}
 use Rattle.std.proofs.Common.{Result, Ok, Err, IfErr, refl, sym, ap, subst, true≢false}
+use Rattle.brc_words.specs.declared.entry.Entry.{Entry}
+use Rattle.brc_words.specs.Notes.{bare}
 use Rattle.brc_words.specs.declared.fault.Fault.{Fault}
 use Rattle.brc_words.specs.declared.fault.Fault.TheVariants as faults
 use Rattle.brc_words.specs.declared.key.Key.{Key}
@@ -147,14 +149,14 @@ module _ {A : Type 0} where
       subst (λ (n : ℕ). MOST_PLACES ≤ n) (sym len) why.1
   place_caused old mid new k call _ needs len why = tt
 
-  pub takes_caused : (old new : FrameSeen A) (k : ℕ) (call : PlainCall ℕ) (result : Result HandleSeen Fault)
+  pub takes_caused : (old new : FrameSeen A) (k : ℕ) (call : PlainCall Entry) (result : Result HandleSeen Fault)
       → NeedsNoRoom call
       → Late old k (λ mid. TakesEntry mid new k call result) → IfErr result (Caused old new)
   takes_caused old new k call (Ok given) needs late = tt
   takes_caused old new k call (Err fault) needs late =
       place_caused old late.0 new k call fault needs late.2.places.len late.2.refused
 
-  pub shares_caused : (old new : FrameSeen A) (k : ℕ) (call : PlainCall ℕ) (result : Result HandleSeen Fault)
+  pub shares_caused : (old new : FrameSeen A) (k : ℕ) (call : PlainCall Entry) (result : Result HandleSeen Fault)
       → NeedsNoRoom call
       → Late old k (λ mid. SharesEntry mid new k call result) → IfErr result (Caused old new)
   shares_caused old new k call (Ok given) needs late = tt
@@ -174,7 +176,7 @@ module _ {A : Type 0} where
   call_room mid new k call faults.Busy needs why = refl
   call_room mid new k call fault needs why = plainly call fault needs why
 
-  pair_room : (mid new : FrameSeen A) (k : ℕ) (call : PlainCall (Option ℕ)) (fault : Fault) → NeedsNoRoom call
+  pair_room : (mid new : FrameSeen A) (k : ℕ) (call : PlainCall (Option Entry)) (fault : Fault) → NeedsNoRoom call
       → RefusedPair mid new k call fault → WantsNoRoom fault
   pair_room mid new k call faults.Busy needs why = refl
   pair_room mid new k call faults.OutOfMemory needs why = refl
@@ -190,7 +192,7 @@ module _ {A : Type 0} where
       (λ mid. PutsValue mid new k value.place call (Err handed)) owns late in
       entry_room late.0 new k (call at.0) handed.fault (needs at.0) (late.2.refused at.0 at.1)
 
-  pub swaps_room : (old new : FrameSeen A) (k : ℕ) (value : HandleSeen) (call : ℕ → PlainCall ℕ)
+  pub swaps_room : (old new : FrameSeen A) (k : ℕ) (value : HandleSeen) (call : ℕ → PlainCall Entry)
       (result : Result HandleSeen (HandedBack HandleSeen)) → ((c : ℕ) → NeedsNoRoom (call c)) → Owns old value
       → Late old k (λ mid. SwapsValue mid new k value.place call result)
       → IfErr result (λ handed. WantsNoRoom handed.fault)
@@ -201,13 +203,13 @@ module _ {A : Type 0} where
       call_room late.0 new k (call at.0) handed.fault (needs at.0) (late.2.refused at.0 at.1)
 
   pub pair_put_room : {V : Type 0} (old new : FrameSeen A) (k : ℕ) (key : Key A) (value : HandleSeen)
-      (handed : HandedBack V) → ((c : ℕ) → NeedsNoRoom (plain_put key c)) → Owns old value
+      (handed : HandedBack V) → ((c : ℕ) → NeedsNoRoom (plain_put key (bare c))) → Owns old value
       → Late old k (λ mid. DictPut mid new k key value (Err handed))
       → WantsNoRoom handed.fault
   pair_put_room old new k key value handed needs owns late =
       let at : (c : ℕ) × (cell_in late.0 value.place ≡ Some c) = cell_still old k value
       (λ mid. DictPut mid new k key value (Err handed)) owns late in
-      pair_room late.0 new k (plain_put key at.0) handed.fault (needs at.0) (late.2.refused at.0 at.1)
+      pair_room late.0 new k (plain_put key (bare at.0)) handed.fault (needs at.0) (late.2.refused at.0 at.1)
 
   look_room : (mid new : FrameSeen A) (k : ℕ) (fits : Contents → Type 0) (fault : Fault)
       → RefusedLook mid new k fits fault

@@ -2,6 +2,8 @@
 use Rattle.std.proofs.Common.{◌≡◌, ◌≢◌, ◌∙◌, ℕ, ℤ, true, false, List, Option, Some, None, is_some, Result, Ok, Err}
 use Rattle.std.proofs.Common.{slice_index_or, slice_set, MatchOption, refl, sym, ap, subst}
 use Rattle.std.specs.Prelude.{IfSome}
+use Rattle.brc_words.specs.declared.entry.Entry.{Entry}
+use Rattle.brc_words.specs.Notes.{bare}
 use Rattle.brc_words.specs.declared.fault.Fault.{Fault}
 use Rattle.brc_words.specs.declared.fault.Fault.TheVariants as faults
 use Rattle.brc_words.specs.declared.key.Key.{Key}
@@ -107,12 +109,12 @@ module _ {A : Type 0} where
   later_refused_place old new k call faults.OutOfMemory why = later_changes why.0.looks
   later_refused_place old new k call fault why = later_changes why.looks
 
-  later_takes : (old new : FrameSeen A) (k : ℕ) (call : PlainCall ℕ) (result : Result HandleSeen Fault)
+  later_takes : (old new : FrameSeen A) (k : ℕ) (call : PlainCall Entry) (result : Result HandleSeen Fault)
       → TakesEntry old new k call result → IsLater old.seat.log new.seat.log
   later_takes old new k call (Ok given) is = later_changes is.did.changes
   later_takes old new k call (Err fault) is = later_refused_place old new k call fault is.refused
 
-  later_shared : (old new : FrameSeen A) (k : ℕ) (call : PlainCall ℕ) (result : Result HandleSeen Fault)
+  later_shared : (old new : FrameSeen A) (k : ℕ) (call : PlainCall Entry) (result : Result HandleSeen Fault)
       → SharesEntry old new k call result → IsLater old.seat.log new.seat.log
   later_shared old new k call (Ok given) is = later_shares is.did
   later_shared old new k call (Err fault) is = later_refused_place old new k call fault is.refused
@@ -124,7 +126,7 @@ module _ {A : Type 0} where
   later_puts old new k v c call (Err handed) at is = later_refused_entry old new k (call c) handed.fault
       (is.refused c at)
 
-  later_swaps : (old new : FrameSeen A) (k v c : ℕ) (call : ℕ → PlainCall ℕ)
+  later_swaps : (old new : FrameSeen A) (k v c : ℕ) (call : ℕ → PlainCall Entry)
       (result : Result HandleSeen (HandedBack HandleSeen)) → cell_in old v ≡ Some c
       → SwapsValue old new k v call result → IsLater old.seat.log new.seat.log
   later_swaps old new k v c call (Ok given) at is = later_changes is.did.changes
@@ -138,13 +140,13 @@ module _ {A : Type 0} where
   cell_still old k value done owns late =
       let at = cell_of owns in (at.0, (waited old k late.0 late.1).places value.place ∙ at.1)
 
-  pub late_takes : (old new : FrameSeen A) (k : ℕ) (call : PlainCall ℕ) (result : Result HandleSeen Fault)
+  pub late_takes : (old new : FrameSeen A) (k : ℕ) (call : PlainCall Entry) (result : Result HandleSeen Fault)
       → Late old k (λ mid. TakesEntry mid new k call result) → IsLater old.seat.log new.seat.log
   late_takes old new k call result late =
       later_both old.seat.log late.0.seat.log new.seat.log (later_waits late.1)
       (later_takes late.0 new k call result late.2)
 
-  pub late_shares : (old new : FrameSeen A) (k : ℕ) (call : PlainCall ℕ) (result : Result HandleSeen Fault)
+  pub late_shares : (old new : FrameSeen A) (k : ℕ) (call : PlainCall Entry) (result : Result HandleSeen Fault)
       → Late old k (λ mid. SharesEntry mid new k call result) → IsLater old.seat.log new.seat.log
   late_shares old new k call result late =
       later_both old.seat.log late.0.seat.log new.seat.log (later_waits late.1)
@@ -159,7 +161,7 @@ module _ {A : Type 0} where
       later_both old.seat.log late.0.seat.log new.seat.log (later_waits late.1)
       (later_puts late.0 new k value.place at.0 call result at.1 late.2)
 
-  pub late_swaps : (old new : FrameSeen A) (k : ℕ) (value : HandleSeen) (call : ℕ → PlainCall ℕ)
+  pub late_swaps : (old new : FrameSeen A) (k : ℕ) (value : HandleSeen) (call : ℕ → PlainCall Entry)
       (result : Result HandleSeen (HandedBack HandleSeen)) → Owns old value
       → Late old k (λ mid. SwapsValue mid new k value.place call result) → IsLater old.seat.log new.seat.log
   late_swaps old new k value call result owns late =
@@ -168,7 +170,7 @@ module _ {A : Type 0} where
       later_both old.seat.log late.0.seat.log new.seat.log (later_waits late.1)
       (later_swaps late.0 new k value.place at.0 call result at.1 late.2)
 
-  later_refused_pair : (old new : FrameSeen A) (k : ℕ) (call : PlainCall (Option ℕ)) (fault : Fault)
+  later_refused_pair : (old new : FrameSeen A) (k : ℕ) (call : PlainCall (Option Entry)) (fault : Fault)
       → RefusedPair old new k call fault → IsLater old.seat.log new.seat.log
   later_refused_pair old new k call faults.Busy why = later_busy old new k why
   later_refused_pair old new k call faults.OutOfMemory why = later_changes why.looks
@@ -180,7 +182,7 @@ module _ {A : Type 0} where
   later_pair_put old new k key value c (Ok None) at is = later_changes is.did.changes
   later_pair_put old new k key value c (Ok (Some given)) at is = later_changes is.did.1.changes
   later_pair_put old new k key value c (Err handed) at is =
-      later_refused_pair old new k (plain_put key c) handed.fault (is.refused c at)
+      later_refused_pair old new k (plain_put key (bare c)) handed.fault (is.refused c at)
 
   pub late_pair_put : {V : Type 0} (old new : FrameSeen A) (k : ℕ) (key : Key A) (value : HandleSeen)
       (result : Result (Option HandleSeen) (HandedBack V)) → Owns old value

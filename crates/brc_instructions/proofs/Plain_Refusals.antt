@@ -1,6 +1,7 @@
 -- No call on plain data is refused for want of a cell, a place or a birth.
 use Rattle.std.proofs.Common.{ℕ, Bool, true, false, if◌then◌else◌, List, Option, Some, None, Result, Ok, Err, IfErr}
 use Rattle.std.proofs.Common.{[], ◌∷◌, ◌++◌, length, nat_lt, slice_get, refl}
+use Rattle.brc_words.specs.declared.entry.Entry.{Entry}
 use Rattle.brc_words.specs.declared.fault.Fault.{Fault}
 use Rattle.brc_words.specs.declared.fault.Fault.TheVariants as faults
 use Rattle.brc_words.specs.declared.key.Key.{Key}
@@ -37,33 +38,33 @@ module _ {R C : Type 0} where
   leaving_of left (Err fault) none = none
 
 module _ {R : Type 0} where
-  left_of : (object : List ℕ → Contents) (answer : Result (R × List ℕ) Fault) → IfErr answer WantsNoRoom
+  left_of : (object : List Entry → Contents) (answer : Result (R × List Entry) Fault) → IfErr answer WantsNoRoom
       → IfErr (left_in object answer) WantsNoRoom
   left_of object (Ok done) none = tt
   left_of object (Err fault) none = none
 
-  of_list : (call : List ℕ → Result (R × List ℕ) Fault) → ((cells : List ℕ) → IfErr (call cells) WantsNoRoom)
+  of_list : (call : List Entry → Result (R × List Entry) Fault) → ((cells : List Entry) → IfErr (call cells) WantsNoRoom)
       → NeedsNoRoom (on_list call)
   of_list call none (contents.«List» cells) = left_of contents.«List» (call cells) (none cells)
   of_list call none _ = refl
 
-  of_mailbox : (call : List ℕ → Result (R × List ℕ) Fault) → ((cells : List ℕ) → IfErr (call cells) WantsNoRoom)
+  of_mailbox : (call : List Entry → Result (R × List Entry) Fault) → ((cells : List Entry) → IfErr (call cells) WantsNoRoom)
       → NeedsNoRoom (on_mailbox call)
   of_mailbox call none (contents.Mailbox letters) = left_of contents.Mailbox (call letters) (none letters)
   of_mailbox call none _ = refl
 
-entry_at : (list : List ℕ) (index : ℕ) → IfErr (lists.get list index) WantsNoRoom
+entry_at : (list : List Entry) (index : ℕ) → IfErr (lists.get list index) WantsNoRoom
 entry_at list index = or_of faults.NoSuchPlace (slice_get list index) refl
 
-pushed : (list : List ℕ) (value : ℕ) → IfErr (lists.push list value) WantsNoRoom
+pushed : (list : List Entry) (value : Entry) → IfErr (lists.push list value) WantsNoRoom
 pushed list value = room_of (nat_lt (length list) MOST_ENTRIES) _ faults.Full refl
 
 -- ---- lists and mailboxes
 
-pub push_needs : (value : ℕ) → NeedsNoRoom (plain_push value)
+pub push_needs : (value : Entry) → NeedsNoRoom (plain_push value)
 push_needs value = of_list (λ cells. lists.push cells value) (λ cells. pushed cells value)
 
-pub send_needs : (value : ℕ) → NeedsNoRoom (plain_send value)
+pub send_needs : (value : Entry) → NeedsNoRoom (plain_send value)
 send_needs value = of_mailbox (λ letters. queues.send letters value) (λ letters. pushed letters value)
 
 pub pop_needs : NeedsNoRoom plain_pop
@@ -76,23 +77,23 @@ pub get_needs : (index : ℕ) → NeedsNoRoom (plain_get index)
 get_needs index = of_list (λ cells. leaving cells (lists.get cells index))
     (λ cells. leaving_of cells (lists.get cells index) (entry_at cells index))
 
-pub set_needs : (index value : ℕ) → NeedsNoRoom (plain_set index value)
+pub set_needs : (index : ℕ) (value : Entry) → NeedsNoRoom (plain_set index value)
 set_needs index value = of_list (λ cells. lists.set cells index value)
     (λ cells. leaving_of _ (lists.get cells index) (entry_at cells index))
 
 -- ---- dictionaries
 
 module _ {A : Type 0} where
-  dict_of : {R : Type 0} (answer : Result (R × List (Key A × ℕ)) Fault) → IfErr answer WantsNoRoom
+  dict_of : {R : Type 0} (answer : Result (R × List (Key A × Entry)) Fault) → IfErr answer WantsNoRoom
       → IfErr (leaving_dict answer) WantsNoRoom
   dict_of (Ok done) none = tt
   dict_of (Err fault) none = none
 
-  put_of : (pairs : List (Key A × ℕ)) (key : Key A) (value : ℕ) → IfErr (dicts.put pairs key value) WantsNoRoom
+  put_of : (pairs : List (Key A × Entry)) (key : Key A) (value : Entry) → IfErr (dicts.put pairs key value) WantsNoRoom
   put_of pairs key value = by (dicts.value_at key pairs)
     where
-      by : (beside : Option ℕ)
-          → IfErr {T = Option ℕ × List (Key A × ℕ)} (elim beside [
+      by : (beside : Option Entry)
+          → IfErr {T = Option Entry × List (Key A × Entry)} (elim beside [
             | Some old ↦ Ok (Some old, dicts.replaced key value pairs)
             | None ↦ if nat_lt (length pairs) MOST_ENTRIES then Ok (
               None,
@@ -103,7 +104,7 @@ module _ {A : Type 0} where
       by (Some old) = tt
       by None = room_of (nat_lt (length pairs) MOST_ENTRIES) _ faults.Full refl
 
-  pub put_needs : (key : Key A) (value : ℕ) → NeedsNoRoom (plain_put key value)
+  pub put_needs : (key : Key A) (value : Entry) → NeedsNoRoom (plain_put key value)
   put_needs key value (contents.Dict shown) = dict_of _ (put_of (pairs_of shown) key value)
   put_needs key value _ = refl
 

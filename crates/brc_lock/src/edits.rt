@@ -8,7 +8,7 @@ ghost use Rattle.brc_count.specs.table.Shown.{contents_of};
 ghost use Rattle.brc_lock.specs.Edits.{with_last, without, replaced, KeyFits};
 
 use brc_count::block::{Entries, Payload};
-use brc_words::Key;
+use brc_words::{Entry, Key};
 use std::alloc::{AllocError, Allocator};
 
 /// Makes room for one entry more.
@@ -27,48 +27,50 @@ pub(crate) fn make_room<A: Allocator + Copy>(payload: &mut Payload<A>) -> Result
 }
 
 /// One entry more, at the end, in the room that was made for it; of a dictionary beside this key.
-pub(crate) fn put_last<A: Allocator>(payload: &mut Payload<A>, key: Option<Key<A>>, cell: u32)
+pub(crate) fn put_last<A: Allocator>(payload: &mut Payload<A>, key: Option<Key<A>>, entry: Entry)
     requires fits { KeyFits (contents_of payload.old) key }
     requires room { 0 < spare_of payload.old }
-    ensures { contents_of payload.new ≡ with_last (contents_of payload.old) key cell }
+    ensures { contents_of payload.new ≡ with_last (contents_of payload.old) key entry }
 {
     match payload {
-        Payload::List(cells) => cells.put_reserved(cell),
-        Payload::Mailbox(letters) => letters.put_reserved(cell),
+        Payload::List(cells) => cells.put_reserved(entry),
+        Payload::Mailbox(letters) => letters.put_reserved(entry),
         Payload::Dict(pairs) => match key {
-            Some(key) => pairs.put_reserved(key, cell),
+            Some(key) => pairs.put_reserved(key, entry),
             None => unreachable!(),
         },
         _ => unreachable!(),
     }
 }
 
+#[tactic(auto, using(brc_words::proofs::Cells::cells_there, brc_words::proofs::Cells::cells_long))]
 /// One entry fewer, of a dictionary with its key; the answer is the entry.
-pub(crate) fn take_at<A: Allocator>(payload: &mut Payload<A>, index: usize) -> u32
+pub(crate) fn take_at<A: Allocator>(payload: &mut Payload<A>, index: usize) -> Entry
     requires within { index < length (entries_in (contents_of payload.old)) }
-    ensures taken { slice_get (entries_in (contents_of payload.old)) index ≡ Some result }
+    ensures taken { slice_get (entries_in (contents_of payload.old)) index ≡ Some result.cell }
     ensures left { contents_of payload.new ≡ without (contents_of payload.old) index }
 {
     match payload {
         Payload::List(cells) => cells.remove(index),
         Payload::Mailbox(letters) => letters.remove(index),
         Payload::Dict(pairs) => {
-            let (_key, cell) = pairs.remove(index);
-            cell
+            let (_key, entry) = pairs.remove(index);
+            entry
         }
         _ => unreachable!(),
     }
 }
 
-/// Another cell for an entry, of a dictionary beside the same key.
-pub(crate) fn set_at<A: Allocator>(payload: &mut Payload<A>, index: usize, cell: u32)
+#[tactic(auto, using(brc_words::proofs::Cells::cells_long))]
+/// Another entry at a place, of a dictionary beside the same key.
+pub(crate) fn set_at<A: Allocator>(payload: &mut Payload<A>, index: usize, entry: Entry)
     requires within { index < length (entries_in (contents_of payload.old)) }
-    ensures { contents_of payload.new ≡ replaced (contents_of payload.old) index cell }
+    ensures { contents_of payload.new ≡ replaced (contents_of payload.old) index entry }
 {
     match payload {
-        Payload::List(cells) => cells.set(index, cell),
-        Payload::Mailbox(letters) => letters.set(index, cell),
-        Payload::Dict(pairs) => pairs.set(index, cell),
+        Payload::List(cells) => cells.set(index, entry),
+        Payload::Mailbox(letters) => letters.set(index, entry),
+        Payload::Dict(pairs) => pairs.set(index, entry),
         _ => unreachable!(),
     }
 }

@@ -10,6 +10,7 @@ ghost use Rattle.brc_count.specs.table.Shown.{contents_of};
 ghost use Rattle.brc_count.specs.Frames.{Owns, GivenHandle, Refused, IsAsBefore, IsUnlocked};
 ghost use Rattle.brc_count.specs.Owned.{Keeps, Gains, Loses};
 ghost use Rattle.brc_count.specs.Locking.{KeepsFrame, KeepsLock, ChangesPlace, cell_in};
+ghost use Rattle.brc_words.specs.Notes.{bare};
 ghost use Rattle.brc_lock.specs.Edits.{with_last, without, replaced, KeyFits};
 ghost use Rattle.brc_lock.specs.Holding.{HasLockedBlock, Unlocked, HasRoom, RefusedRoom};
 
@@ -17,7 +18,7 @@ use crate::edits::{make_room, put_last, set_at, take_at};
 use brc_count::biased::HasTable;
 use brc_count::block::{Block, Payload};
 use brc_count::{Frame, Handle};
-use brc_words::{Fault, Key, MOST_ENTRIES};
+use brc_words::{Entry, Fault, Key, MOST_ENTRIES};
 use std::alloc::Allocator;
 
 /// An object that is locked: its frame, the handle by which it was locked, and its block. It must be unlocked. `B` is
@@ -114,7 +115,7 @@ impl<'f, H: HasTable<A>, A: Allocator> Locked<'f, H, A, Block<A>> {
         requires apart { value.place ≢ self.handle.now.place }
         ensures unlocks { (c : ℕ) → cell_in self.entry.frame.now value.place ≡ Some c →
             Unlocked self.entry.frame.now self.exit.0.now (changes.Put value.place) self.entry.block.0
-            (with_last (contents_of self.entry.block.1) key c) }
+            (with_last (contents_of self.entry.block.1) key (bare c)) }
         ensures places { ChangesPlace self.entry.frame.now self.exit.0.now value.place None }
         ensures len { self.exit.0.now.len + 1 ≡ self.entry.frame.now.len }
         ensures loses { Loses self.entry.frame.now self.exit.0.now value }
@@ -126,7 +127,8 @@ impl<'f, H: HasTable<A>, A: Allocator> Locked<'f, H, A, Block<A>> {
             block,
         } = self;
         let mut block = block;
-        put_last(block.payload_mut(), key, frame.cell(&value));
+        let entry = Entry::bare(frame.cell(&value));
+        put_last(block.payload_mut(), key, entry);
         frame.end_put(block, value);
     }
 
@@ -155,8 +157,8 @@ impl<'f, H: HasTable<A>, A: Allocator> Locked<'f, H, A, Block<A>> {
             block,
         } = self;
         let mut block = block;
-        let cell = take_at(block.payload_mut(), index as usize);
-        frame.end_take(block, index, cell)
+        let entry = take_at(block.payload_mut(), index as usize);
+        frame.end_take(block, index, entry.cell)
     }
 
     /// Unlocks the object with another entry at a place, of a dictionary beside the same key: its reference and the
@@ -169,7 +171,7 @@ impl<'f, H: HasTable<A>, A: Allocator> Locked<'f, H, A, Block<A>> {
         ensures same { result ≡ value }
         ensures unlocks { (c : ℕ) → cell_in self.entry.frame.now value.place ≡ Some c →
             Unlocked self.entry.frame.now self.exit.0.now (changes.Swap index value.place) self.entry.block.0
-            (replaced (contents_of self.entry.block.1) index c) }
+            (replaced (contents_of self.entry.block.1) index (bare c)) }
         ensures places { ChangesPlace self.entry.frame.now self.exit.0.now value.place
             (slice_get (entries_in (contents_of self.entry.block.1)) index) }
         ensures len { self.exit.0.now.len ≡ self.entry.frame.now.len }
@@ -186,7 +188,8 @@ impl<'f, H: HasTable<A>, A: Allocator> Locked<'f, H, A, Block<A>> {
         let Some(old) = block.payload().entry(index as usize) else {
             unreachable!()
         };
-        set_at(block.payload_mut(), index as usize, cell);
+        let entry = Entry::bare(cell);
+        set_at(block.payload_mut(), index as usize, entry);
         frame.end_swap(block, index, old, value)
     }
 }

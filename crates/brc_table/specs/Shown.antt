@@ -1,5 +1,6 @@
 -- What a block shows: its cell, and its payload as plain data.
 use Rattle.std.specs.Prelude.{ℕ, map}
+use Rattle.brc_words.specs.declared.entry.Entry.{Entry}
 use Rattle.brc_words.specs.declared.key.Key.{Key}
 use Rattle.brc_words.specs.declared.key.Key.TheVariants as keys
 use Rattle.brc_block.specs.declared.payload.Payload.{Payload}
@@ -18,7 +19,7 @@ module _ {A : Type 0} where
   contents_of (payloads.Int number) = contents.Int number
   contents_of (payloads.Text text) = contents.Text text
   contents_of (payloads.«List» cells) = contents.«List» cells.items
-  contents_of (payloads.Dict pairs) = contents.Dict (map (λ (pair : Key A × ℕ). (plain_key pair.0, pair.1)) pairs.items)
+  contents_of (payloads.Dict pairs) = contents.Dict (map (λ (pair : Key A × Entry). (plain_key pair.0, pair.1)) pairs.items)
   contents_of (payloads.Mailbox letters) = contents.Mailbox letters.items
   contents_of payloads.Nothing = contents.Nothing
   contents_of (payloads.Truth truth) = contents.Truth truth

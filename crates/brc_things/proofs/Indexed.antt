@@ -2,13 +2,14 @@
 use Rattle.std.proofs.Common.{◌≡◌, ◌≢◌, ℕ, true, List, Some, Ok, Err, refl, sym, ◌∙◌, ap, is_ok, slice_get}
 use Rattle.std.specs.Option.{option_map}
 use Rattle.std.proofs.lemmas.Option.{slice_get-map}
+use Rattle.brc_words.specs.declared.entry.Entry.{Entry}
 use Rattle.brc_words.specs.declared.fault.Fault.{Fault}
 use Rattle.brc_words.specs.declared.fault.Fault.TheVariants as faults
 use Rattle.brc_words.specs.declared.key.Key.{Key}
 use Rattle.brc_words.specs.declared.kind.Kind.TheVariants as kinds
 use Rattle.brc_count.specs.block.Row.{RowSeen}
-use Rattle.brc_count.specs.block.Pairs.{cells_in}
-use Rattle.brc_count.specs.block.Payload.{kind_of, entries_of}
+use Rattle.brc_count.specs.block.Pairs.{noted_in}
+use Rattle.brc_count.specs.block.Payload.{kind_of, noted_of}
 use Rattle.brc_count.specs.block.declared.payload.Payload.{Payload}
 use Rattle.brc_count.specs.block.declared.payload.Payload.TheVariants as payloads
 use Rattle.brc_plain.specs.Outcomes.{leaving, or_fault}
@@ -23,26 +24,26 @@ use Rattle.brc_things.specs.Indexing.{ReadsUnlocked, IsAt, IsPast, NoPair, Misse
 use Rattle.brc_things.proofs.Shown.{pairs_back}
 use Rattle.brc_things.proofs.Locked.{Stood, changes_since, refused_plainly, refused_for_want, refused_place}
 
-cell_at : {K : Type 0} (pairs : List (K × ℕ)) (index : ℕ) (key : K) (cell : ℕ)
+cell_at : {K : Type 0} (pairs : List (K × Entry)) (index : ℕ) (key : K) (cell : Entry)
     → slice_get pairs index ≡ Some (key, cell)
-    → slice_get (cells_in pairs) index ≡ Some cell
+    → slice_get (noted_in pairs) index ≡ Some cell
 cell_at pairs index key cell stands = slice_get-map (λ pair. pair.1) pairs index
     ∙ ap (option_map (λ pair. pair.1)) stands
 
 module _ {A : Type 0} where
   -- ---- what the plain calls answer
 
-  key_is : (pairs : RowSeen (Key A × ℕ)) (index : ℕ) → plain_key_at index (contents_of (payloads.Dict pairs))
+  key_is : (pairs : RowSeen (Key A × Entry)) (index : ℕ) → plain_key_at index (contents_of (payloads.Dict pairs))
       ≡ leaving (contents_of (payloads.Dict pairs)) (first_of (pair_at pairs.items index))
   key_is pairs index = ap (λ ps. leaving (contents_of (payloads.Dict pairs)) (first_of (pair_at ps index)))
       (pairs_back pairs.items)
 
-  value_is : (pairs : RowSeen (Key A × ℕ)) (index : ℕ) → plain_value_at A index (contents_of (payloads.Dict pairs))
+  value_is : (pairs : RowSeen (Key A × Entry)) (index : ℕ) → plain_value_at A index (contents_of (payloads.Dict pairs))
       ≡ leaving (contents_of (payloads.Dict pairs)) (second_of (pair_at pairs.items index))
   value_is pairs index = ap (λ ps. leaving (contents_of (payloads.Dict pairs)) (second_of (pair_at ps index)))
       (pairs_back pairs.items)
 
-  pub key_there : (payload : Payload A) (index : ℕ) (key : Key A) (cell : ℕ) → IsAt payload index key cell
+  pub key_there : (payload : Payload A) (index : ℕ) (key : Key A) (cell : Entry) → IsAt payload index key cell
       → plain_key_at index (contents_of payload) ≡ Ok (key, contents_of payload)
   key_there payload index key cell there =
       let before = there.pairs in
@@ -51,7 +52,7 @@ module _ {A : Type 0} where
       ∙ ap (λ o. leaving (contents_of (payloads.Dict before)) (first_of (or_fault faults.NoSuchPlace o))) there.stands
       ∙ ap (λ p. Ok (key, contents_of p)) (sym there.is)
 
-  pub value_there : (payload : Payload A) (index : ℕ) (key : Key A) (cell : ℕ) → IsAt payload index key cell
+  pub value_there : (payload : Payload A) (index : ℕ) (key : Key A) (cell : Entry) → IsAt payload index key cell
       → plain_value_at A index (contents_of payload) ≡ Ok (cell, contents_of payload)
   value_there payload index key cell there =
       let before = there.pairs in
@@ -98,25 +99,25 @@ module _ {A : Type 0} where
   no_pair frame payload index faults.NoSuchPlace why = value_past payload index why
   no_pair frame payload index _ why = absurd why
 
-  pub key_may : (payload : Payload A) (index : ℕ) (key : Key A) (cell : ℕ) → IsAt payload index key cell
+  pub key_may : (payload : Payload A) (index : ℕ) (key : Key A) (cell : Entry) → IsAt payload index key cell
       → is_ok (plain_key_at {A = A} index (contents_of payload)) ≡ true
   key_may payload index key cell there = ap is_ok (key_there payload index key cell there)
 
-  pub value_may : (payload : Payload A) (index : ℕ) (key : Key A) (cell : ℕ) → IsAt payload index key cell
+  pub value_may : (payload : Payload A) (index : ℕ) (key : Key A) (cell : Entry) → IsAt payload index key cell
       → is_ok (plain_value_at A index (contents_of payload)) ≡ true
   value_may payload index key cell there = ap is_ok (value_there payload index key cell there)
 
   -- a place was refused to a pair that is there
-  pub place_missed : (frame : FrameSeen A) (payload : Payload A) (index : ℕ) (key : Key A) (cell : ℕ) (fault : Fault)
+  pub place_missed : (frame : FrameSeen A) (payload : Payload A) (index : ℕ) (key : Key A) (cell : Entry) (fault : Fault)
       → IsAt payload index key cell
       → Refused frame fault → MissesPair frame (contents_of payload) index fault
   place_missed frame payload index key cell faults.FrameFull there full = (value_may payload index key cell there, full)
   place_missed frame payload index key cell faults.OutOfMemory there low = (value_may payload index key cell there, low)
   place_missed frame payload index key cell _ there none = absurd none
 
-  pub entry_at : (payload : Payload A) (index : ℕ) (key : Key A) (cell : ℕ) → IsAt payload index key cell
-      → slice_get (entries_of payload) index ≡ Some cell
-  entry_at payload index key cell there = ap (λ p. slice_get (entries_of p) index) there.is
+  pub entry_at : (payload : Payload A) (index : ℕ) (key : Key A) (cell : Entry) → IsAt payload index key cell
+      → slice_get (noted_of payload) index ≡ Some cell
+  entry_at payload index key cell there = ap (λ p. slice_get (noted_of p) index) there.is
       ∙ cell_at there.pairs.items index key cell there.stands
 
   -- ---- from the frame that the locking began from

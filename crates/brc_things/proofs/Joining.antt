@@ -2,6 +2,7 @@
 use Rattle.std.proofs.Common.{◌≡◌, ◌<◌, ◌≤◌, ℕ, ◌+◌, ◌∷◌, List, Option, Some, None, true, is_ok, sym, ◌∙◌, ap, subst}
 use Rattle.std.proofs.Common.{Result, Ok, Err}
 use Rattle.std.specs.Result.{IfOk, IfErr, OnOk, OnErr}
+use Rattle.brc_words.specs.declared.entry.Entry.{Entry}
 use Rattle.brc_words.specs.declared.fault.Fault.{Fault}
 use Rattle.brc_words.specs.declared.fault.Fault.TheVariants as faults
 use Rattle.brc_count.specs.block.declared.payload.Payload.{Payload}
@@ -88,7 +89,7 @@ module _ {A R : Type 0} where
     len = puts.len ∙ frame.len;
   }
 
-  swaps_all : (old locked new : FrameSeen A) (k v : ℕ) (block : ℕ × Payload A) (call : ℕ → PlainCall R) (answer : ℕ → R)
+  swaps_all : (old locked new : FrameSeen A) (k v : ℕ) (block : ℕ × Payload A) (call : ℕ → PlainCall R) (answer : Entry → R)
       → Began old locked k block
       → KeepsThread old locked → KeepsFrame old locked → SwapsIn locked new v call answer
       → Swaps old new k v call answer
@@ -102,12 +103,12 @@ module _ {A R : Type 0} where
     at_index = swaps.at_index;
     plain = swaps.plain;
     changes = began_ends old locked new k block (Swap swaps.index v) swaps.put began thread swaps.ends;
-    places = changes_after old locked new v (Some swaps.entry) frame swaps.places;
+    places = changes_after old locked new v (Some swaps.entry.cell) frame swaps.places;
     len = swaps.len ∙ frame.len;
   }
 
 module _ {A : Type 0} where
-  takes_all : (old locked new : FrameSeen A) (k : ℕ) (block : ℕ × Payload A) (within call : PlainCall ℕ)
+  takes_all : (old locked new : FrameSeen A) (k : ℕ) (block : ℕ × Payload A) (within call : PlainCall Entry)
       (given : HandleSeen)
       → call (contents_found locked) ≡ within (contents_found locked) → Began old locked k block
       → KeepsThread old locked → KeepsFrame old locked
@@ -124,11 +125,11 @@ module _ {A : Type 0} where
     thread = takes.thread ∙ thread.thread;
     next = takes.next ∙ frame.next;
     vacant = sym (frame.places given.place) ∙ takes.vacant;
-    places = changes_after old locked new given.place (Some takes.entry) frame takes.places;
+    places = changes_after old locked new given.place (Some takes.entry.cell) frame takes.places;
     len = takes.len ∙ ap (λ n. n + 1) frame.len;
   }
 
-  shares_all : (old locked new : FrameSeen A) (k : ℕ) (block : ℕ × Payload A) (call : PlainCall ℕ) (given : HandleSeen)
+  shares_all : (old locked new : FrameSeen A) (k : ℕ) (block : ℕ × Payload A) (call : PlainCall Entry) (given : HandleSeen)
       → Began old locked k block
       → KeepsThread old locked → KeepsFrame old locked → KeepsThread locked new → SharesOut locked new call given
       → Shares old new k call given
@@ -222,7 +223,7 @@ module _ {A : Type 0} where
         handed.fault (why c);
   }
 
-  pub swaps_value : (v : ℕ) (call : ℕ → PlainCall ℕ) (r : Result HandleSeen (HandedBack HandleSeen))
+  pub swaps_value : (v : ℕ) (call : ℕ → PlainCall Entry) (r : Result HandleSeen (HandedBack HandleSeen))
       (locked new : FrameSeen A)
       {old : FrameSeen A} {k : ℕ} {block : ℕ × Payload A} → Began old locked k block → KeepsThread old locked
       → KeepsFrame old locked → KeepsThread locked new
@@ -244,7 +245,7 @@ module _ {A : Type 0} where
         handed.fault (why c);
   }
 
-  refused_out : (done : HandleSeen → Type 0) (call : PlainCall ℕ) (fault : Fault) (locked new : FrameSeen A)
+  refused_out : (done : HandleSeen → Type 0) (call : PlainCall Entry) (fault : Fault) (locked new : FrameSeen A)
       {old : FrameSeen A} {k : ℕ} {block : ℕ × Payload A} → Began old locked k block → KeepsThread old locked
       → KeepsFrame old locked → KeepsThread locked new
       → KeepsAllPlaces locked new → EndsWith locked new Keep (contents_found locked)
@@ -258,7 +259,7 @@ module _ {A : Type 0} where
   }
 
   -- the two plain calls are one on what was found
-  pub takes_entry : (within call : PlainCall ℕ) (r : Result HandleSeen Fault) (locked new : FrameSeen A)
+  pub takes_entry : (within call : PlainCall Entry) (r : Result HandleSeen Fault) (locked new : FrameSeen A)
       {old : FrameSeen A} {k : ℕ} {block : ℕ × Payload A}
       → call (contents_found locked) ≡ within (contents_found locked)
       → Began old locked k block → KeepsThread old locked → KeepsFrame old locked → KeepsThread locked new
@@ -275,7 +276,7 @@ module _ {A : Type 0} where
       refused_out (CallTakes old new k call) call fault locked new began thread frame then places kept
       (subst (λ o. RefusesPlace locked o fault) (sym is) why)
 
-  pub shares_entry : (call : PlainCall ℕ) (r : Result HandleSeen Fault) (locked new : FrameSeen A)
+  pub shares_entry : (call : PlainCall Entry) (r : Result HandleSeen Fault) (locked new : FrameSeen A)
       {old : FrameSeen A} {k : ℕ} {block : ℕ × Payload A} → Began old locked k block → KeepsThread old locked
       → KeepsFrame old locked → KeepsThread locked new
       → IfOk r (SharesOut locked new call) → OnErr r (KeepsAllPlaces locked new)

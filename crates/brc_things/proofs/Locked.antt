@@ -2,11 +2,12 @@
 use Rattle.std.proofs.Common.{◌≡◌, ◌+◌, ◌≤◌, ◌++◌, ℕ, true, [], ◌∷◌, Option, Some, None, Ok, Err, sym, ◌∙◌, ap}
 use Rattle.std.proofs.Common.{subst, length, slice_get, slice_set}
 use Rattle.std.specs.Result.{is_ok}
+use Rattle.brc_words.specs.declared.entry.Entry.{Entry}
 use Rattle.brc_words.specs.declared.fault.Fault.{Fault}
 use Rattle.brc_words.specs.declared.fault.Fault.TheVariants as faults
 use Rattle.brc_words.specs.declared.limits.TheConstants.{MOST_ENTRIES}
 use Rattle.brc_count.specs.block.declared.payload.Payload.{Payload}
-use Rattle.brc_count.specs.block.Payload.{entries_of}
+use Rattle.brc_count.specs.block.Payload.{noted_of, entries_of}
 use Rattle.brc_count.specs.law.declared.world.event.Change.{Change}
 use Rattle.brc_count.specs.law.declared.world.event.Change.TheVariants.{Keep, Put, Take, Swap}
 use Rattle.brc_count.specs.law.declared.world.event.Source.TheVariants as sources
@@ -29,7 +30,7 @@ use Rattle.brc_things.specs.Since.{JustLocked}
 use Rattle.brc_things.specs.Plain_Dicts.{dict_of, plain_put}
 use Rattle.brc_things.specs.Putting.{RefusedRoomFor, RefusedPair}
 use Rattle.brc_things.specs.Seeking.{IsAbsent}
-use Rattle.brc_things.proofs.Shown.{entries_shown, put_full, put_may}
+use Rattle.brc_things.proofs.Shown.{noted_shown, entries_shown, put_full, put_may}
 use Rattle.brc_words.specs.declared.key.Key.{Key}
 use Rattle.brc_things.proofs.Sharing.{given_keeps}
 
@@ -156,11 +157,11 @@ module _ {A : Type 0} where
   -- ---- what the calls that succeed did
 
   pub takes_since : (before now new : FrameSeen A) (k : ℕ) (block : ℕ × Payload A) (left : Payload A)
-      (call : PlainCall ℕ) (index cell : ℕ) (given : HandleSeen)
+      (call : PlainCall Entry) (index : ℕ) (cell : Entry) (given : HandleSeen)
       → Stood before now k block → UnlockedBy now new (Take index given.place) (block.0, left)
-      → slice_get (entries_of block.1) index ≡ Some cell → call (contents_of block.1) ≡ Ok (cell, contents_of left)
+      → slice_get (noted_of block.1) index ≡ Some cell → call (contents_of block.1) ≡ Ok (cell, contents_of left)
       → given.heap ≡ now.heap → given.thread ≡ now.seat.thread → given.place ≡ now.next → cell_in now given.place ≡ None
-      → ChangesPlace now new given.place (Some cell) → new.len ≡ now.len + 1
+      → ChangesPlace now new given.place (Some cell.cell) → new.len ≡ now.len + 1
       → CallTakes before new k call given
   takes_since before now new k block left call index cell given was ended entry plain heap thread next vacant places
       len = record {
@@ -168,28 +169,28 @@ module _ {A : Type 0} where
         put = contents_of left;
         index = index;
         entry = cell;
-        at_index = ap (λ es. slice_get es index) (entries_shown block.1) ∙ entry;
+        at_index = ap (λ es. slice_get es index) (noted_shown block.1) ∙ entry;
         plain = plain;
         changes = changes_since before now new k block left (Take index given.place) was ended;
         heap = heap ∙ was.keeps.heap;
         thread = thread ∙ was.keeps.thread;
         next = next ∙ was.places.next;
         vacant = sym (was.places.places given.place) ∙ vacant;
-        places = places_since before now new given.place (Some cell) was.places places;
+        places = places_since before now new given.place (Some cell.cell) was.places places;
         len = len ∙ ap (λ n. n + 1) was.places.len;
       }
 
-  abbrev pub shares_since : (before now shared new : FrameSeen A) (k : ℕ) (block : ℕ × Payload A) (call : PlainCall ℕ)
-      (index cell : ℕ) (given : HandleSeen)
-      → Stood before now k block → GivenHandle now shared (sources.Entry index) cell given → shared.heap ≡ now.heap
+  abbrev pub shares_since : (before now shared new : FrameSeen A) (k : ℕ) (block : ℕ × Payload A) (call : PlainCall Entry)
+      (index : ℕ) (cell : Entry) (given : HandleSeen)
+      → Stood before now k block → GivenHandle now shared (sources.Entry index) cell.cell given → shared.heap ≡ now.heap
       → UnlockedBy shared new Keep block → KeepsFrame shared new
-      → slice_get (entries_of block.1) index ≡ Some cell → call (contents_of block.1) ≡ Ok (cell, contents_of block.1)
+      → slice_get (noted_of block.1) index ≡ Some cell → call (contents_of block.1) ≡ Ok (cell, contents_of block.1)
       → Shares before new k call given
   shares_since before now shared new k block call index cell given was gives heap ended frame entry plain = record {
     found = contents_of block.1;
     index = index;
     entry = cell;
-    at_index = ap (λ es. slice_get es index) (entries_shown block.1) ∙ entry;
+    at_index = ap (λ es. slice_get es index) (noted_shown block.1) ∙ entry;
     plain = plain;
     cell = block.0;
     of_place = was.began.cell;
@@ -204,7 +205,7 @@ module _ {A : Type 0} where
     after = frame;
     unlocked = ended.unlocked;
     keeps = thread_kept_on was.keeps
-        (thread_kept_on (given_keeps now shared (sources.Entry index) cell given gives heap) ended.keeps);
+        (thread_kept_on (given_keeps now shared (sources.Entry index) cell.cell given gives heap) ended.keeps);
   }
 
   pub puts_since : {R : Type 0} (before now new : FrameSeen A) (k v : ℕ) (block : ℕ × Payload A) (left : Payload A)
@@ -225,12 +226,12 @@ module _ {A : Type 0} where
   }
 
   pub swaps_since : {R : Type 0} (before now new : FrameSeen A) (k v : ℕ) (block : ℕ × Payload A) (left : Payload A)
-      (call : ℕ → PlainCall R) (answer : ℕ → R)
-      (value index cell : ℕ)
+      (call : ℕ → PlainCall R) (answer : Entry → R)
+      (value index : ℕ) (cell : Entry)
       → Stood before now k block → UnlockedBy now new (Swap index v) (block.0, left)
-      → cell_in now v ≡ Some value → slice_get (entries_of block.1) index ≡ Some cell
+      → cell_in now v ≡ Some value → slice_get (noted_of block.1) index ≡ Some cell
       → call value (contents_of block.1) ≡ Ok (answer cell, contents_of left)
-      → ChangesPlace now new v (Some cell) → new.len ≡ now.len
+      → ChangesPlace now new v (Some cell.cell) → new.len ≡ now.len
       → Swaps before new k v call answer
   swaps_since before now new k v block left call answer value index cell was ended of_value entry plain places
       len = record {
@@ -240,10 +241,10 @@ module _ {A : Type 0} where
         put = contents_of left;
         index = index;
         entry = cell;
-        at_index = ap (λ es. slice_get es index) (entries_shown block.1) ∙ entry;
+        at_index = ap (λ es. slice_get es index) (noted_shown block.1) ∙ entry;
         plain = plain;
         changes = changes_since before now new k block left (Swap index v) was ended;
-        places = places_since before now new v (Some cell) was.places places;
+        places = places_since before now new v (Some cell.cell) was.places places;
         len = len ∙ was.places.len;
       }
 
@@ -264,7 +265,7 @@ module _ {A : Type 0} where
   }
 
   -- room for a new key was refused
-  pub refused_append : (before now new : FrameSeen A) (k : ℕ) (block : ℕ × Payload A) (key : Key A) (value : ℕ)
+  pub refused_append : (before now new : FrameSeen A) (k : ℕ) (block : ℕ × Payload A) (key : Key A) (value : Entry)
       (fault : Fault)
       → Stood before now k block → UnlockedBy now new Keep block → IsAbsent block.1 key
       → RefusedRoomFor (length (entries_of block.1)) fault

@@ -4,6 +4,7 @@ use Rattle.std.proofs.Common.{length, take, map, remove, slice_get, if◌then◌
 use Rattle.std.proofs.lemmas.Bool.{lt-ltb, true≢false}
 use Rattle.std.proofs.lemmas.List.{append-nil}
 use Rattle.std.proofs.Math.ListN.{drop_of_length-le}
+use Rattle.brc_words.specs.declared.entry.Entry.{Entry}
 use Rattle.brc_words.specs.declared.fault.Fault.{Fault}
 use Rattle.brc_words.specs.declared.fault.Fault.TheVariants as faults
 use Rattle.brc_words.specs.declared.kind.Kind.{Kind}
@@ -11,31 +12,32 @@ use Rattle.brc_words.specs.declared.kind.Kind.TheVariants as kinds
 use Rattle.brc_words.specs.declared.limits.TheConstants.{MOST_ENTRIES}
 use Rattle.brc_count.specs.block.declared.payload.Payload.{Payload}
 use Rattle.brc_count.specs.block.declared.payload.Payload.TheVariants as payloads
-use Rattle.brc_count.specs.block.Payload.{kind_of, entries_of}
+use Rattle.brc_count.specs.block.Payload.{kind_of, noted_of, entries_of}
+use Rattle.brc_words.proofs.Cells.{cells_long}
 use Rattle.brc_plain.specs.Outcomes.{leaving, or_fault}
 use Rattle.brc_plain.specs.Lists as lists
 use Rattle.brc_count.specs.law.declared.rule.contents.Contents.{Contents}
 use Rattle.brc_count.specs.law.declared.rule.contents.Contents.TheVariants as contents
-use Rattle.brc_count.specs.law.rule.Logs.{kind_in, entries_in}
+use Rattle.brc_count.specs.law.rule.Logs.{kind_in, noted_in}
 use Rattle.brc_count.specs.table.Shown.{contents_of, plain_key}
 use Rattle.brc_things.specs.Plain_Lists.{left_in, plain_pop}
 use Rattle.brc_things.specs.Rows.{is_row, on_row, plain_put, plain_at, plain_take}
 
 -- ---- a payload as contents
 
-values_of : {K L : Type 0} (f : K → L) (pairs : List (K × ℕ))
-    → map (λ (p : L × ℕ). p.1) (map (λ (pair : K × ℕ). (f pair.0, pair.1)) pairs) ≡ map (λ (p : K × ℕ). p.1) pairs
+values_of : {K L E : Type 0} (f : K → L) (pairs : List (K × E))
+    → map (λ (p : L × E). p.1) (map (λ (pair : K × E). (f pair.0, pair.1)) pairs) ≡ map (λ (p : K × E). p.1) pairs
 values_of f [] = refl
 values_of f (pair ∷ pairs) = ap (λ xs. pair.1 ∷ xs) (values_of f pairs)
 
-pub entries_shown : {A : Type 0} (payload : Payload A) → entries_in (contents_of payload) ≡ entries_of payload
-entries_shown (payloads.Int number) = refl
-entries_shown (payloads.Text text) = refl
-entries_shown (payloads.«List» cells) = refl
-entries_shown (payloads.Dict pairs) = values_of plain_key pairs.items
-entries_shown (payloads.Mailbox letters) = refl
-entries_shown payloads.Nothing = refl
-entries_shown (payloads.Truth truth) = refl
+pub noted_shown : {A : Type 0} (payload : Payload A) → noted_in (contents_of payload) ≡ noted_of payload
+noted_shown (payloads.Int number) = refl
+noted_shown (payloads.Text text) = refl
+noted_shown (payloads.«List» cells) = refl
+noted_shown (payloads.Dict pairs) = values_of plain_key pairs.items
+noted_shown (payloads.Mailbox letters) = refl
+noted_shown payloads.Nothing = refl
+noted_shown (payloads.Truth truth) = refl
 
 pub kind_shown : {A : Type 0} (payload : Payload A) → kind_in (contents_of payload) ≡ kind_of payload
 kind_shown (payloads.Int number) = refl
@@ -50,24 +52,24 @@ kind_shown (payloads.Truth false) = refl
 -- ---- rows
 
 -- the object of this kind with these entries
-abbrev pub row : Kind → List ℕ → Contents
+abbrev pub row : Kind → List Entry → Contents
 row kinds.Mailbox cells = contents.Mailbox cells
 row _ cells = contents.«List» cells
 
-list_is : (found : Contents) → kind_in found ≡ kinds.«List» → found ≡ contents.«List» (entries_in found)
+list_is : (found : Contents) → kind_in found ≡ kinds.«List» → found ≡ contents.«List» (noted_in found)
 list_is (contents.«List» cells) is = refl
 list_is (contents.Truth true) is = cc
 list_is (contents.Truth false) is = cc
 list_is _ is = cc
 
-mailbox_is : (found : Contents) → kind_in found ≡ kinds.Mailbox → found ≡ contents.Mailbox (entries_in found)
+mailbox_is : (found : Contents) → kind_in found ≡ kinds.Mailbox → found ≡ contents.Mailbox (noted_in found)
 mailbox_is (contents.Mailbox letters) is = refl
 mailbox_is (contents.Truth true) is = cc
 mailbox_is (contents.Truth false) is = cc
 mailbox_is _ is = cc
 
 row_is : (kind : Kind) → is_row kind ≡ true → (found : Contents) → kind_in found ≡ kind
-    → found ≡ row kind (entries_in found)
+    → found ≡ row kind (noted_in found)
 row_is kinds.«List» is found same = list_is found same
 row_is kinds.Mailbox is found same = mailbox_is found same
 row_is _ is found same = cc
@@ -77,32 +79,32 @@ pub row_keyless : (kind : Kind) → is_row kind ≡ true → kind ≢ kinds.Dict
 row_keyless kind row dict = true≢false (sym row ∙ ap is_row dict)
 
 module _ {R : Type 0} where
-  on_its_row : (kind : Kind) (call : List ℕ → Result (R × List ℕ) Fault) (cells : List ℕ)
+  on_its_row : (kind : Kind) (call : List Entry → Result (R × List Entry) Fault) (cells : List Entry)
       → on_row kind call (row kind cells) ≡ left_in (row kind) (call cells)
   on_its_row kinds.Mailbox call cells = refl
   on_its_row _ call cells = refl
 
   -- a call on an object of its kind is the call on its entries
-  pub on_kind : (kind : Kind) → is_row kind ≡ true → (call : List ℕ → Result (R × List ℕ) Fault) (found : Contents)
+  pub on_kind : (kind : Kind) → is_row kind ≡ true → (call : List Entry → Result (R × List Entry) Fault) (found : Contents)
       → kind_in found ≡ kind
-      → on_row kind call found ≡ left_in (row kind) (call (entries_in found))
+      → on_row kind call found ≡ left_in (row kind) (call (noted_in found))
   on_kind kind is call found same = ap (on_row kind call) (row_is kind is found same)
-      ∙ on_its_row kind call (entries_in found)
+      ∙ on_its_row kind call (noted_in found)
 
 -- ---- one entry more
 
-pub put_plain : (kind : Kind) → is_row kind ≡ true → (found : Contents) (value : ℕ) → kind_in found ≡ kind
-    → length (entries_in found) < MOST_ENTRIES
-    → plain_put kind value found ≡ Ok (tt, row kind (entries_in found ++ value ∷ []))
+pub put_plain : (kind : Kind) → is_row kind ≡ true → (found : Contents) (value : Entry) → kind_in found ≡ kind
+    → length (noted_in found) < MOST_ENTRIES
+    → plain_put kind value found ≡ Ok (tt, row kind (noted_in found ++ value ∷ []))
 put_plain kind is found value same few =
     on_kind kind is (λ cells. lists.push cells value) found same
-    ∙ ap (λ b. left_in (row kind) (if b then Ok (tt, entries_in found ++ value ∷ []) else Err faults.Full))
-    (lt-ltb (length (entries_in found)) MOST_ENTRIES few)
+    ∙ ap (λ b. left_in (row kind) (if b then Ok (tt, noted_in found ++ value ∷ []) else Err faults.Full))
+    (lt-ltb (length (noted_in found)) MOST_ENTRIES few)
 
 -- what an object is put home as
-pub put_gives : (kind : Kind) → is_row kind ≡ true → (found put : Contents) (value : ℕ) → kind_in found ≡ kind
+pub put_gives : (kind : Kind) → is_row kind ≡ true → (found put : Contents) (value : Entry) → kind_in found ≡ kind
     → kind_in put ≡ kind
-    → length (entries_in found) < MOST_ENTRIES → entries_in put ≡ entries_in found ++ value ∷ []
+    → length (noted_in found) < MOST_ENTRIES → noted_in put ≡ noted_in found ++ value ∷ []
     → plain_put kind value found ≡ Ok (tt, put)
 put_gives kind is found put value same kept few more =
     put_plain kind is found value same few ∙ ap (λ cells. Ok (tt, row kind cells)) (sym more)
@@ -110,17 +112,17 @@ put_gives kind is found put value same kept few more =
 
 -- ---- an entry at a place
 
-pub at_plain : (kind : Kind) → is_row kind ≡ true → (found : Contents) (index entry : ℕ) (left : List ℕ → List ℕ)
+pub at_plain : (kind : Kind) → is_row kind ≡ true → (found : Contents) (index : ℕ) (entry : Entry) (left : List Entry → List Entry)
     → kind_in found ≡ kind
-    → slice_get (entries_in found) index ≡ Some entry
-    → plain_at kind index left found ≡ Ok (entry, row kind (left (entries_in found)))
+    → slice_get (noted_in found) index ≡ Some entry
+    → plain_at kind index left found ≡ Ok (entry, row kind (left (noted_in found)))
 at_plain kind is found index entry left same there =
     on_kind kind is (λ cells. leaving (left cells) (lists.get cells index)) found same
-    ∙ ap (λ o. left_in (row kind) (leaving (left (entries_in found)) (or_fault faults.NoSuchPlace o))) there
+    ∙ ap (λ o. left_in (row kind) (leaving (left (noted_in found)) (or_fault faults.NoSuchPlace o))) there
 
-pub at_gives : (kind : Kind) → is_row kind ≡ true → (found put : Contents) (index entry : ℕ) (left : List ℕ → List ℕ)
+pub at_gives : (kind : Kind) → is_row kind ≡ true → (found put : Contents) (index : ℕ) (entry : Entry) (left : List Entry → List Entry)
     → kind_in found ≡ kind → kind_in put ≡ kind
-    → slice_get (entries_in found) index ≡ Some entry → entries_in put ≡ left (entries_in found)
+    → slice_get (noted_in found) index ≡ Some entry → noted_in put ≡ left (noted_in found)
     → plain_at kind index left found ≡ Ok (entry, put)
 at_gives kind is found put index entry left same kept there rest =
     at_plain kind is found index entry left same there ∙ ap (λ cells. Ok (entry, row kind cells)) (sym rest)
@@ -128,12 +130,12 @@ at_gives kind is found put index entry left same kept there rest =
 
 -- ---- the last entry of a list, and the first of a mailbox
 
-without_last : (cells : List ℕ) → remove cells (length cells - 1) ≡ take (length cells - 1) cells
+without_last : (cells : List Entry) → remove cells (length cells - 1) ≡ take (length cells - 1) cells
 without_last cells =
     ap (λ rest. take (length cells - 1) cells ++ rest)
     (drop_of_length-le cells {i = suc (length cells - 1)} (omega arith)) ∙ append-nil (take (length cells - 1) cells)
 
-pub pop_is_take : (found : Contents) → plain_pop found ≡ plain_take kinds.«List» (length (entries_in found) - 1) found
+pub pop_is_take : (found : Contents) → plain_pop found ≡ plain_take kinds.«List» (length (noted_in found) - 1) found
 pop_is_take (contents.«List» cells) =
     ap (λ rest. left_in contents.«List» (leaving rest (lists.get cells (length cells - 1)))) (sym (without_last cells))
 pop_is_take _ = refl
@@ -143,6 +145,6 @@ pub pop_at : {A : Type 0} (found : Contents) (payload : Payload A) (last : ℕ) 
     → last ≡ length (entries_of payload) - 1
     → plain_pop found ≡ plain_take kinds.«List» last found
 pop_at found payload last is at_end =
-    pop_is_take found ∙ ap (λ es. plain_take kinds.«List» (length es - 1) found) (ap entries_in is
-    ∙ entries_shown payload)
-    ∙ ap (λ i. plain_take kinds.«List» i found) (sym at_end)
+    pop_is_take found ∙ ap (λ es. plain_take kinds.«List» (length es - 1) found) (ap noted_in is
+    ∙ noted_shown payload)
+    ∙ ap (λ i. plain_take kinds.«List» i found) (ap (λ n. n - 1) (sym (cells_long (noted_of payload))) ∙ sym at_end)

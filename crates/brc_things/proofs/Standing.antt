@@ -1,9 +1,10 @@
 -- Where a key stands among pairs, and what the plain calls make of them, by their keys and their cells.
 use Rattle.std.proofs.Common.{◌≡◌, ◌≢◌, ℕ, zero, suc, Bool, true, false, List, [], ◌∷◌, All, Some, None, refl, sym, ◌∙◌}
 use Rattle.std.proofs.Common.{ap, subst, arith, take, slice_get, slice_set, remove, true≢false}
+use Rattle.brc_words.specs.declared.entry.Entry.{Entry}
 use Rattle.brc_words.specs.declared.key.Key.{Key}
 use Rattle.brc_words.specs.Keys.{same_key, same_key-exact, same_key-itself}
-use Rattle.brc_count.specs.block.Pairs.{keys_in, cells_in}
+use Rattle.brc_count.specs.block.Pairs.{keys_in, noted_in}
 use Rattle.brc_count.proofs.block.Columns.{map-remove}
 use Rattle.brc_plain.specs.Dicts.{value_at, IsFirstAt, replaced, without}
 use Rattle.brc_plain.proofs.Pairs.{none_apart, without_there}
@@ -17,7 +18,7 @@ module _ {A : Type 0} where
       by false told = told
 
   -- the first index with the key is where it stands, and a key that is at no index stands beside nothing
-  pub first_stands : (key : Key A) (pairs : List (Key A × ℕ)) (index : ℕ) → slice_get (keys_in pairs) index ≡ Some key
+  pub first_stands : (key : Key A) (pairs : List (Key A × Entry)) (index : ℕ) → slice_get (keys_in pairs) index ≡ Some key
       → All (λ other. other ≢ key) (take index (keys_in pairs)) → IsFirstAt key pairs index
   first_stands key [] index at before = cc
   first_stands key (pair ∷ pairs) zero at before =
@@ -28,7 +29,7 @@ module _ {A : Type 0} where
     first_stands key pairs index at (λ k d below. before (suc k) d (omega arith)),
   )
 
-  pub none_stands : (key : Key A) (pairs : List (Key A × ℕ)) → All (λ other. other ≢ key) (keys_in pairs)
+  pub none_stands : (key : Key A) (pairs : List (Key A × Entry)) → All (λ other. other ≢ key) (keys_in pairs)
       → value_at key pairs ≡ None
   none_stands key [] none = refl
   none_stands key (pair ∷ pairs) none =
@@ -36,7 +37,7 @@ module _ {A : Type 0} where
       (none_stands key pairs (λ k d below. none (suc k) d (omega arith)))
 
   -- where nothing stands beside the key, each key is another
-  pub others_than : (key : Key A) (pairs : List (Key A × ℕ)) → value_at key pairs ≡ None
+  pub others_than : (key : Key A) (pairs : List (Key A × Entry)) → value_at key pairs ≡ None
       → All (λ other. other ≢ key) (keys_in pairs)
   others_than key [] none k d below = absurd (omega arith)
   others_than key (pair ∷ pairs) none zero d below = λ same.
@@ -46,51 +47,51 @@ module _ {A : Type 0} where
       (omega arith)
 
   -- beside each key there is a cell
-  pub cell_beside : (key : Key A) (pairs : List (Key A × ℕ)) (index : ℕ) → slice_get (keys_in pairs) index ≡ Some key
-      → slice_get (cells_in pairs) index ≡ None → ⊥
+  pub cell_beside : (key : Key A) (pairs : List (Key A × Entry)) (index : ℕ) → slice_get (keys_in pairs) index ≡ Some key
+      → slice_get (noted_in pairs) index ≡ None → ⊥
   cell_beside key [] index at none = cc
   cell_beside key (pair ∷ pairs) zero at none = cc
   cell_beside key (pair ∷ pairs) (suc index) at none = cell_beside key pairs index at none
 
   -- ---- what stands there, and what is left
 
-  pub beside_is : (key : Key A) (pairs : List (Key A × ℕ)) (index cell : ℕ) → IsFirstAt key pairs index
-      → slice_get (cells_in pairs) index ≡ Some cell → value_at key pairs ≡ Some cell
+  pub beside_is : (key : Key A) (pairs : List (Key A × Entry)) (index : ℕ) (cell : Entry) → IsFirstAt key pairs index
+      → slice_get (noted_in pairs) index ≡ Some cell → value_at key pairs ≡ Some cell
   beside_is key [] index cell there beside = absurd there
   beside_is key (pair ∷ pairs) zero cell there beside = rw there beside
   beside_is key (pair ∷ pairs) (suc index) cell there beside =
       rw there.0 (beside_is key pairs index cell there.1 beside)
 
-  pub replaced_keys : (key : Key A) (value : ℕ) (pairs : List (Key A × ℕ)) (index : ℕ) → IsFirstAt key pairs index
+  pub replaced_keys : (key : Key A) (value : Entry) (pairs : List (Key A × Entry)) (index : ℕ) → IsFirstAt key pairs index
       → keys_in (replaced key value pairs) ≡ keys_in pairs
   replaced_keys key value [] index there = absurd there
   replaced_keys key value (pair ∷ pairs) zero there = rw there refl
   replaced_keys key value (pair ∷ pairs) (suc index) there =
       rw there.0 (ap (λ ks. pair.0 ∷ ks) (replaced_keys key value pairs index there.1))
 
-  pub replaced_cells : (key : Key A) (value : ℕ) (pairs : List (Key A × ℕ)) (index : ℕ) → IsFirstAt key pairs index
-      → cells_in (replaced key value pairs) ≡ slice_set (cells_in pairs) index value
+  pub replaced_cells : (key : Key A) (value : Entry) (pairs : List (Key A × Entry)) (index : ℕ) → IsFirstAt key pairs index
+      → noted_in (replaced key value pairs) ≡ slice_set (noted_in pairs) index value
   replaced_cells key value [] index there = absurd there
   replaced_cells key value (pair ∷ pairs) zero there = rw there refl
   replaced_cells key value (pair ∷ pairs) (suc index) there =
       rw there.0 (ap (λ cs. pair.1 ∷ cs) (replaced_cells key value pairs index there.1))
 
-  pub without_keys : (key : Key A) (pairs : List (Key A × ℕ)) (index : ℕ) → IsFirstAt key pairs index
+  pub without_keys : (key : Key A) (pairs : List (Key A × Entry)) (index : ℕ) → IsFirstAt key pairs index
       → keys_in (without key pairs) ≡ remove (keys_in pairs) index
   without_keys key pairs index there = ap keys_in (without_there key pairs index there)
       ∙ map-remove (λ pair. pair.0) pairs index
 
-  pub without_cells : (key : Key A) (pairs : List (Key A × ℕ)) (index : ℕ) → IsFirstAt key pairs index
-      → cells_in (without key pairs) ≡ remove (cells_in pairs) index
-  without_cells key pairs index there = ap cells_in (without_there key pairs index there)
+  pub without_cells : (key : Key A) (pairs : List (Key A × Entry)) (index : ℕ) → IsFirstAt key pairs index
+      → noted_in (without key pairs) ≡ remove (noted_in pairs) index
+  without_cells key pairs index there = ap noted_in (without_there key pairs index there)
       ∙ map-remove (λ pair. pair.1) pairs index
 
 -- ---- pairs are told by their keys and their cells
 
-same_pair : {K : Type 0} (x y : K × ℕ) → x.0 ≡ y.0 → x.1 ≡ y.1 → x ≡ y
+same_pair : {K : Type 0} (x y : K × Entry) → x.0 ≡ y.0 → x.1 ≡ y.1 → x ≡ y
 same_pair x y keys cells = ap (λ k. (k, x.1)) keys ∙ ap (λ c. (y.0, c)) cells
 
-pub same_columns : {K : Type 0} (xs ys : List (K × ℕ)) → keys_in xs ≡ keys_in ys → cells_in xs ≡ cells_in ys → xs ≡ ys
+pub same_columns : {K : Type 0} (xs ys : List (K × Entry)) → keys_in xs ≡ keys_in ys → noted_in xs ≡ noted_in ys → xs ≡ ys
 same_columns [] [] keys cells = refl
 same_columns [] (y ∷ ys) keys cells = cc
 same_columns (x ∷ xs) [] keys cells = cc

@@ -2,6 +2,7 @@
 -- step on an entry, and an unlocking. What it found, and what it put home, are told, and the answer is that of a call
 -- on plain data.
 use Rattle.std.specs.Prelude.{◌≡◌, ℕ, ◌+◌, ◌∷◌, Some, None, Result, Ok, Err, is_ok, true, slice_get}
+use Rattle.brc_words.specs.declared.entry.Entry.{Entry}
 use Rattle.brc_words.specs.declared.fault.Fault.{Fault}
 use Rattle.brc_words.specs.declared.fault.Fault.TheVariants as faults
 use Rattle.brc_count.specs.law.declared.world.event.Change.{Change}
@@ -11,7 +12,7 @@ use Rattle.brc_count.specs.law.declared.world.event.Step.TheVariants.{Lock, Unlo
 use Rattle.brc_count.specs.law.declared.rule.contents.Contents.{Contents}
 use Rattle.brc_count.specs.law.declared.rule.told.Moved.TheVariants as moves
 use Rattle.brc_count.specs.law.declared.rule.told.LogItem.TheVariants.{Stepped}
-use Rattle.brc_count.specs.law.rule.Logs.{entries_in}
+use Rattle.brc_count.specs.law.rule.Logs.{noted_in}
 use Rattle.brc_count.specs.Frames.{FrameSeen, HandleSeen, IsUnlocked, GivenHandle, Refused}
 use Rattle.brc_count.specs.Locking.{Busy, Changes, KeepsThread, KeepsFrame, ChangesPlace, cell_in}
 
@@ -42,43 +43,43 @@ module _ {A R : Type 0} where
 
   -- The reference of the handle in place v and that of an entry were exchanged, by the plain call, which answers the
   -- entry.
-  pub record Swaps (old new : FrameSeen A) (k v : ℕ) (call : ℕ → PlainCall R) (answer : ℕ → R) : Type 0 where
+  pub record Swaps (old new : FrameSeen A) (k v : ℕ) (call : ℕ → PlainCall R) (answer : Entry → R) : Type 0 where
     pub value : ℕ
     pub of_value : cell_in old v ≡ Some value
     pub found : Contents
     pub put : Contents
     pub index : ℕ
-    pub entry : ℕ
-    pub at_index : slice_get (entries_in found) index ≡ Some entry
+    pub entry : Entry
+    pub at_index : slice_get (noted_in found) index ≡ Some entry
     pub plain : call value found ≡ Ok (answer entry, put)
     pub changes : Changes old new k found (Swap index v) put
-    pub places : ChangesPlace old new v (Some entry)
+    pub places : ChangesPlace old new v (Some entry.cell)
     pub len : new.len ≡ old.len
 
 module _ {A : Type 0} where
   -- The reference of an entry is the new handle's now, by the plain call, which answers the entry.
-  pub record CallTakes (old new : FrameSeen A) (k : ℕ) (call : PlainCall ℕ) (given : HandleSeen) : Type 0 where
+  pub record CallTakes (old new : FrameSeen A) (k : ℕ) (call : PlainCall Entry) (given : HandleSeen) : Type 0 where
     pub found : Contents
     pub put : Contents
     pub index : ℕ
-    pub entry : ℕ
-    pub at_index : slice_get (entries_in found) index ≡ Some entry
+    pub entry : Entry
+    pub at_index : slice_get (noted_in found) index ≡ Some entry
     pub plain : call found ≡ Ok (entry, put)
     pub changes : Changes old new k found (Take index given.place) put
     pub heap : given.heap ≡ old.heap
     pub thread : given.thread ≡ old.seat.thread
     pub next : given.place ≡ old.next
     pub vacant : cell_in old given.place ≡ None
-    pub places : ChangesPlace old new given.place (Some entry)
+    pub places : ChangesPlace old new given.place (Some entry.cell)
     pub len : new.len ≡ old.len + 1
 
   -- The new handle has a reference to an entry, counted up in one event while the object was locked; it was unlocked as
   -- it was found. The plain call answers the entry.
-  pub record Shares (old new : FrameSeen A) (k : ℕ) (call : PlainCall ℕ) (given : HandleSeen) : Type 0 where
+  pub record Shares (old new : FrameSeen A) (k : ℕ) (call : PlainCall Entry) (given : HandleSeen) : Type 0 where
     pub found : Contents
     pub index : ℕ
-    pub entry : ℕ
-    pub at_index : slice_get (entries_in found) index ≡ Some entry
+    pub entry : Entry
+    pub at_index : slice_get (noted_in found) index ≡ Some entry
     pub plain : call found ≡ Ok (entry, found)
     pub cell : ℕ
     pub of_place : cell_in old k ≡ Some cell
@@ -87,7 +88,7 @@ module _ {A : Type 0} where
     pub same_heap : locked.heap ≡ old.heap
     pub shared_heap : shared.heap ≡ old.heap
     pub locks : locked.seat.log ≡ Stepped (Lock k) 0 (moves.Found cell found) ∷ old.seat.log
-    pub gives : GivenHandle locked shared (sources.Entry index) entry given
+    pub gives : GivenHandle locked shared (sources.Entry index) entry.cell given
     pub unlocks : new.seat.log ≡ Stepped (Unlock Keep) 0 (moves.Put cell found) ∷ shared.seat.log
     pub before : KeepsAllPlaces old locked
     pub after : KeepsFrame shared new

@@ -1,5 +1,6 @@
 -- The pair at a place of a dictionary: what a look for it finds, and what the calls on it answer.
 use Rattle.std.specs.Prelude.{◌≡◌, ◌≢◌, ℕ, true, is_ok, Some, None, Ok, Err, slice_get}
+use Rattle.brc_words.specs.declared.entry.Entry.{Entry}
 use Rattle.brc_words.specs.declared.fault.Fault.{Fault}
 use Rattle.brc_words.specs.declared.fault.Fault.TheVariants as faults
 use Rattle.brc_words.specs.declared.key.Key.{Key}
@@ -23,14 +24,14 @@ pub record ReadsUnlocked {A R : Type 0} (old new : FrameSeen A) (k : ℕ) (call 
 
 module _ {A : Type 0} where
   -- it is a dictionary, in which this pair stands at the place
-  pub record IsAt (payload : Payload A) (index : ℕ) (key : Key A) (cell : ℕ) : Type 0 where
-    pub pairs : RowSeen (Key A × ℕ)
+  pub record IsAt (payload : Payload A) (index : ℕ) (key : Key A) (entry : Entry) : Type 0 where
+    pub pairs : RowSeen (Key A × Entry)
     pub is : payload ≡ payloads.Dict pairs
-    pub stands : slice_get pairs.items index ≡ Some (key, cell)
+    pub stands : slice_get pairs.items index ≡ Some (key, entry)
 
   -- it is a dictionary with no more pairs than that
   pub record IsPast (payload : Payload A) (index : ℕ) : Type 0 where
-    pub pairs : RowSeen (Key A × ℕ)
+    pub pairs : RowSeen (Key A × Entry)
     pub is : payload ≡ payloads.Dict pairs
     pub past : slice_get pairs.items index ≡ None
 

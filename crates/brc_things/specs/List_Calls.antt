@@ -1,6 +1,8 @@
 -- What each call on a list or a mailbox does, told once for both its forms: from the frame `old` that its locking began
 -- from (`specs/Called.antt`), on the object in place k. The faults come in the order that `specs/Changing.antt` says.
 use Rattle.std.specs.Prelude.{◌≡◌, ℕ, Some, Result}
+use Rattle.brc_words.specs.declared.entry.Entry.{Entry}
+use Rattle.brc_words.specs.Notes.{bare}
 use Rattle.brc_words.specs.declared.fault.Fault.{Fault}
 use Rattle.brc_count.specs.declared.handed.HandedBack.{HandedBack}
 use Rattle.brc_count.specs.Frames.{FrameSeen, HandleSeen}
@@ -19,25 +21,25 @@ module _ {A : Type 0} where
       (λ fault. (c : ℕ) → cell_in old v ≡ Some c → RefusedEntry old new k (call c) fault) result
 
   -- the references of the handle in place v and of an entry are exchanged, by the plain call; nothing is wanting
-  abbrev pub SwapsValue : FrameSeen A → FrameSeen A → ℕ → ℕ → (ℕ → PlainCall ℕ)
+  abbrev pub SwapsValue : FrameSeen A → FrameSeen A → ℕ → ℕ → (ℕ → PlainCall Entry)
       → Result HandleSeen (HandedBack HandleSeen) → Type 0
   SwapsValue old new k v call result =
       TakesIn old new (λ answer. Swaps old new k v call (λ entry. entry))
       (λ fault. (c : ℕ) → cell_in old v ≡ Some c → RefusedCall old new k (call c) fault) result
 
   -- an entry's reference is the answer's now, by the plain call; only a place for it may be wanting
-  abbrev pub TakesEntry : FrameSeen A → FrameSeen A → ℕ → PlainCall ℕ → Result HandleSeen Fault → Type 0
+  abbrev pub TakesEntry : FrameSeen A → FrameSeen A → ℕ → PlainCall Entry → Result HandleSeen Fault → Type 0
   TakesEntry old new k call result = HandsOut old new (CallTakes old new k call) (RefusedPlace old new k call) result
 
   -- the answer has a reference more to an entry, by the plain call; only a place for it may be wanting
-  abbrev pub SharesEntry : FrameSeen A → FrameSeen A → ℕ → PlainCall ℕ → Result HandleSeen Fault → Type 0
+  abbrev pub SharesEntry : FrameSeen A → FrameSeen A → ℕ → PlainCall Entry → Result HandleSeen Fault → Type 0
   SharesEntry old new k call result = HandsOut old new (Shares old new k call) (RefusedPlace old new k call) result
 
   -- ---- lists
 
   -- the reference of the handle in place v becomes the last entry
   abbrev pub ListPush : FrameSeen A → FrameSeen A → ℕ → ℕ → Result (Unit {0}) (HandedBack HandleSeen) → Type 0
-  ListPush old new k v result = PutsValue old new k v plain_push result
+  ListPush old new k v result = PutsValue old new k v (λ c. plain_push (bare c)) result
 
   -- the last entry's reference is the answer's now
   abbrev pub ListPop : FrameSeen A → FrameSeen A → ℕ → Result HandleSeen Fault → Type 0
@@ -53,13 +55,13 @@ module _ {A : Type 0} where
 
   -- the references of the entry at the index and of the handle in place v are exchanged
   abbrev pub ListSet : FrameSeen A → FrameSeen A → ℕ → ℕ → ℕ → Result HandleSeen (HandedBack HandleSeen) → Type 0
-  ListSet old new k index v result = SwapsValue old new k v (plain_set index) result
+  ListSet old new k index v result = SwapsValue old new k v (λ c. plain_set index (bare c)) result
 
   -- ---- mailboxes
 
   -- the reference of the handle in place v becomes the last entry
   abbrev pub MailboxSend : FrameSeen A → FrameSeen A → ℕ → ℕ → Result (Unit {0}) (HandedBack HandleSeen) → Type 0
-  MailboxSend old new k v result = PutsValue old new k v plain_send result
+  MailboxSend old new k v result = PutsValue old new k v (λ c. plain_send (bare c)) result
 
   -- the first entry's reference is the answer's now
   abbrev pub MailboxReceive : FrameSeen A → FrameSeen A → ℕ → Result HandleSeen Fault → Type 0

@@ -1,5 +1,7 @@
 -- What a put does to a frame and to its handles.
 use Rattle.std.specs.Prelude.{◌≡◌, ◌≤◌, ◌<◌, ℕ, Option, Some, None, Ok}
+use Rattle.brc_words.specs.declared.entry.Entry.{Entry}
+use Rattle.brc_words.specs.Notes.{bare}
 use Rattle.brc_words.specs.declared.fault.Fault.{Fault}
 use Rattle.brc_words.specs.declared.fault.Fault.TheVariants as faults
 use Rattle.brc_words.specs.declared.key.Key.{Key}
@@ -23,8 +25,9 @@ module _ {A : Type 0} where
   -- With a new key the reference of the value's handle went in. Beside a key that was there it was exchanged: the same
   -- handle has the old value's reference now.
   abbrev pub HasPut : FrameSeen A → FrameSeen A → ℕ → Key A → HandleSeen → Option HandleSeen → Type 0
-  HasPut old new k key value None = CallPuts old new k value.place (plain_put key) None
-  HasPut old new k key value (Some given) = (given ≡ value) × Swaps old new k value.place (plain_put key) Some
+  HasPut old new k key value None = CallPuts old new k value.place (λ c. plain_put key (bare c)) None
+  HasPut old new k key value (Some given) =
+      (given ≡ value) × Swaps old new k value.place (λ c. plain_put key (bare c)) Some
 
   -- with a new key the frame has the value's handle no more; else it owns what it owned
   abbrev pub OwnsPut : FrameSeen A → FrameSeen A → HandleSeen → Option HandleSeen → Type 0
@@ -33,14 +36,14 @@ module _ {A : Type 0} where
 
   -- The dictionary was looked at, and unlocked as it was found. The plain call puts a new key into it, but memory was
   -- missing.
-  pub record RefusedNew (old new : FrameSeen A) (k : ℕ) (call : PlainCall (Option ℕ)) : Type 0 where
+  pub record RefusedNew (old new : FrameSeen A) (k : ℕ) (call : PlainCall (Option Entry)) : Type 0 where
     pub found : Contents
     pub put : Contents
     pub looks : Changes old new k found Keep found
     pub plain : call found ≡ Ok (None, put)
 
   -- Busy comes first, what the plain call says next, and want of memory last, which only a new key has
-  abbrev pub RefusedPair : FrameSeen A → FrameSeen A → ℕ → PlainCall (Option ℕ) → Fault → Type 0
+  abbrev pub RefusedPair : FrameSeen A → FrameSeen A → ℕ → PlainCall (Option Entry) → Fault → Type 0
   RefusedPair old new k call faults.Busy = Busy old new k
   RefusedPair old new k call faults.OutOfMemory = RefusedNew old new k call
   RefusedPair old new k call fault = RefusedPlainly old new k call fault
@@ -48,4 +51,4 @@ module _ {A : Type 0} where
   -- why it was refused, by the cell of the value
   abbrev pub RefusedPut : FrameSeen A → FrameSeen A → ℕ → Key A → HandleSeen → Fault → Type 0
   RefusedPut old new k key value fault =
-      (c : ℕ) → cell_in old value.place ≡ Some c → RefusedPair old new k (plain_put key c) fault
+      (c : ℕ) → cell_in old value.place ≡ Some c → RefusedPair old new k (plain_put key (bare c)) fault

@@ -1,5 +1,6 @@
 -- What the calls of lists and of mailboxes have in common: those on a row of entries, of either kind.
 use Rattle.std.specs.Prelude.{◌≡◌, ◌≢◌, ◌<◌, ◌≤◌, ℕ, Bool, true, false, List, length, None, Result, slice_get, remove}
+use Rattle.brc_words.specs.declared.entry.Entry.{Entry}
 use Rattle.brc_words.specs.declared.fault.Fault.{Fault}
 use Rattle.brc_words.specs.declared.fault.Fault.TheVariants as faults
 use Rattle.brc_words.specs.declared.kind.Kind.{Kind}
@@ -17,20 +18,20 @@ is_row kinds.Mailbox = true
 is_row _ = false
 
 -- a call on the entries of an object of this kind
-abbrev pub on_row : {R : Type 0} → Kind → (List ℕ → Result (R × List ℕ) Fault) → PlainCall R
+abbrev pub on_row : {R : Type 0} → Kind → (List Entry → Result (R × List Entry) Fault) → PlainCall R
 on_row kinds.Mailbox call found = on_mailbox call found
 on_row _ call found = on_list call found
 
 -- one entry more, at the end
-abbrev pub plain_put : Kind → ℕ → PlainCall (Unit {0})
+abbrev pub plain_put : Kind → Entry → PlainCall (Unit {0})
 plain_put kind value = on_row kind (λ cells. lists.push cells value)
 
 -- the entry at a place, and what is left of the entries
-abbrev pub plain_at : Kind → ℕ → (List ℕ → List ℕ) → PlainCall ℕ
+abbrev pub plain_at : Kind → ℕ → (List Entry → List Entry) → PlainCall Entry
 plain_at kind index left = on_row kind (λ cells. leaving (left cells) (lists.get cells index))
 
 -- the entry at a place, which goes
-abbrev pub plain_take : Kind → ℕ → PlainCall ℕ
+abbrev pub plain_take : Kind → ℕ → PlainCall Entry
 plain_take kind index = plain_at kind index (λ cells. remove cells index)
 
 -- why an object of the kind `has`, with these entries, has no room for one more
@@ -41,7 +42,7 @@ NoRoom kind has entries faults.OutOfMemory = (has ≡ kind) × (length entries <
 NoRoom kind has entries _ = ⊥
 
 -- why it has no entry at a place
-abbrev pub NoEntry : Kind → ℕ → Kind → List ℕ → Fault → Type 0
+abbrev pub NoEntry : Kind → ℕ → Kind → List Entry → Fault → Type 0
 NoEntry kind index has entries faults.WrongKind = has ≢ kind
 NoEntry kind index has entries faults.NoSuchPlace = (has ≡ kind) × (slice_get entries index ≡ None)
 NoEntry kind index has entries _ = ⊥

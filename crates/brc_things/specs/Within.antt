@@ -1,5 +1,6 @@
 -- The part of a call that comes after its locking: what it does to a frame that has the object locked.
 use Rattle.std.specs.Prelude.{◌≡◌, ◌+◌, ℕ, Some, None, Result, Ok, Err, is_ok, true, slice_get}
+use Rattle.brc_words.specs.declared.entry.Entry.{Entry}
 use Rattle.brc_words.specs.declared.fault.Fault.{Fault}
 use Rattle.brc_words.specs.declared.fault.Fault.TheVariants as faults
 use Rattle.brc_count.specs.block.declared.payload.Payload.{Payload}
@@ -11,7 +12,7 @@ use Rattle.brc_count.specs.table.Shown.{contents_of}
 use Rattle.brc_count.specs.Frames.{FrameSeen, HandleSeen, GivenHandle, Refused}
 use Rattle.brc_count.specs.Locking.{IsLocked, KeepsFrame, ChangesPlace, UnlockedBy, cell_in, cell_locked}
 use Rattle.brc_count.specs.Locking.{contents_found}
-use Rattle.brc_count.specs.Locking.{entries_found}
+use Rattle.brc_count.specs.law.rule.Logs.{noted_in}
 use Rattle.brc_things.specs.Changing.{PlainCall, KeepsAllPlaces}
 
 module _ {A : Type 0} where
@@ -43,40 +44,40 @@ module _ {A R : Type 0} where
 
   -- the reference of the handle in place v and that of an entry were exchanged, by the plain call, which answers the
   -- entry
-  pub record SwapsIn (old new : FrameSeen A) (v : ℕ) (call : ℕ → PlainCall R) (answer : ℕ → R) : Type 0 where
+  pub record SwapsIn (old new : FrameSeen A) (v : ℕ) (call : ℕ → PlainCall R) (answer : Entry → R) : Type 0 where
     pub value : ℕ
     pub of_value : cell_in old v ≡ Some value
     pub put : Contents
     pub index : ℕ
-    pub entry : ℕ
-    pub at_index : slice_get (entries_found old) index ≡ Some entry
+    pub entry : Entry
+    pub at_index : slice_get (noted_in (contents_found old)) index ≡ Some entry
     pub plain : call value (contents_found old) ≡ Ok (answer entry, put)
     pub ends : EndsWith old new (Swap index v) put
-    pub places : ChangesPlace old new v (Some entry)
+    pub places : ChangesPlace old new v (Some entry.cell)
     pub len : new.len ≡ old.len
 
 module _ {A : Type 0} where
   -- the reference of an entry is the new handle's now, by the plain call, which answers the entry
-  pub record TakesOut (old new : FrameSeen A) (call : PlainCall ℕ) (given : HandleSeen) : Type 0 where
+  pub record TakesOut (old new : FrameSeen A) (call : PlainCall Entry) (given : HandleSeen) : Type 0 where
     pub put : Contents
     pub index : ℕ
-    pub entry : ℕ
-    pub at_index : slice_get (entries_found old) index ≡ Some entry
+    pub entry : Entry
+    pub at_index : slice_get (noted_in (contents_found old)) index ≡ Some entry
     pub plain : call (contents_found old) ≡ Ok (entry, put)
     pub ends : EndsWith old new (Take index given.place) put
     pub heap : given.heap ≡ old.heap
     pub thread : given.thread ≡ old.seat.thread
     pub next : given.place ≡ old.next
     pub vacant : cell_in old given.place ≡ None
-    pub places : ChangesPlace old new given.place (Some entry)
+    pub places : ChangesPlace old new given.place (Some entry.cell)
     pub len : new.len ≡ old.len + 1
 
   -- The new handle has a reference to an entry, counted up in one event before the unlocking. The plain call answers
   -- the entry.
-  pub record SharesOut (old new : FrameSeen A) (call : PlainCall ℕ) (given : HandleSeen) : Type 0 where
+  pub record SharesOut (old new : FrameSeen A) (call : PlainCall Entry) (given : HandleSeen) : Type 0 where
     pub index : ℕ
-    pub entry : ℕ
-    pub at_index : slice_get (entries_found old) index ≡ Some entry
+    pub entry : Entry
+    pub at_index : slice_get (noted_in (contents_found old)) index ≡ Some entry
     pub plain : call (contents_found old) ≡ Ok (entry, contents_found old)
     pub ready : FrameSeen A
     pub same_seat : ready.seat ≡ old.seat
@@ -84,7 +85,7 @@ module _ {A : Type 0} where
     pub before : KeepsAllPlaces old ready
     pub shared : FrameSeen A
     pub shared_heap : shared.heap ≡ old.heap
-    pub gives : GivenHandle ready shared (sources.Entry index) entry given
+    pub gives : GivenHandle ready shared (sources.Entry index) entry.cell given
     pub same_cell : cell_locked shared ≡ cell_locked old
     pub ends : EndsWith shared new Keep (contents_found old)
     pub after : KeepsFrame shared new

@@ -18,13 +18,13 @@ use crate::late::begin_late;
 use brc_count::biased::HasTable;
 use brc_count::block::{Block, Payload};
 use brc_count::{Frame, Handle};
-use brc_words::{Fault, Key, MOST_PLACES};
+use brc_words::{Entry, Fault, Key, MOST_PLACES};
 use std::alloc::Allocator;
 use std::sync::Wait;
 
 /// The pair at the place: WrongKind where the object is no dictionary, NoSuchPlace past its end.
 #[inline]
-fn pair_in<A: Allocator>(payload: &Payload<A>, index: usize) -> Result<(&Key<A>, u32), Fault>
+fn pair_in<A: Allocator>(payload: &Payload<A>, index: usize) -> Result<(&Key<A>, Entry), Fault>
     ensures there { IfOk result (λ pair. IsAt payload.now index pair.0.now pair.1) }
     ensures refused { IfErr result (NoPair payload.now index) }
 {
@@ -43,7 +43,7 @@ fn key_in<A: Allocator>(alloc: A, payload: &Payload<A>, index: usize) -> Result<
         (key, contents_of payload.now)) }
     ensures refused { IfErr result (MissesKey A (contents_of payload.now) index) }
 {
-    let (key, _cell) = pair_in(payload, index)?;
+    let (key, _entry) = pair_in(payload, index)?;
     match key.copy(alloc) {
         Ok(key) => Ok(key),
         Err(_refused) => Err(Fault::OutOfMemory),
@@ -114,24 +114,24 @@ pub fn dict_key<H: HasTable<A>, A: Allocator>(
     key_locked(alloc, frame, block, index)
 }
 
-/// A copy of the key at the place, the cell beside it, and the next place of the frame made sure of.
+/// A copy of the key at the place, the entry beside it, and the next place of the frame made sure of.
 fn pair_and_place<H: HasTable<A>, A: Allocator>(
     alloc: A,
     frame: &mut Frame<H, A>,
     block: &Block<A>,
     index: usize,
-) -> Result<(Key<A>, u32), Fault>
+) -> Result<(Key<A>, Entry), Fault>
     ensures same { IsAsBefore frame.old frame.new }
     ensures room { OnOk result (0 < frame.new.spare) }
     ensures low { OnOk result (frame.new.next < MOST_PLACES) }
     ensures there { IfOk result (λ pair. IsAt block.now.1 index pair.0 pair.1) }
     ensures refused { IfErr result (MissesPair frame.old (contents_of block.now.1) index) }
 {
-    let (key, cell) = pair_in(block.payload(), index)?;
+    let (key, entry) = pair_in(block.payload(), index)?;
     let full = frame.len() >= MOST_PLACES as usize;
     frame.place()?;
     match key.copy(alloc) {
-        Ok(key) => Ok((key, cell)),
+        Ok(key) => Ok((key, entry)),
         // There is a place, so the frame isn't full; but no contract says so.
         Err(_refused) if full => Err(Fault::FrameFull),
         Err(_refused) => Err(Fault::OutOfMemory),
@@ -163,8 +163,8 @@ fn pair_locked<H: HasTable<A>, A: Allocator>(
             frame.end_keep(block);
             Err(fault)
         }
-        Ok((key, cell)) => {
-            let given = frame.up_entry(index, cell);
+        Ok((key, entry)) => {
+            let given = frame.up_entry(index, entry.cell);
             frame.end_keep(block);
             Ok((key, given))
         }

@@ -10,6 +10,7 @@
 //! its forms cite.
 #![tactic(auto)]
 
+mod dict_values;
 mod indexing;
 mod late;
 mod laws;
@@ -22,11 +23,14 @@ mod putting;
 mod readers;
 mod rows;
 mod seeking;
-mod values;
 mod waiting_calls;
 mod waiting_readers;
 mod within;
 
+pub use dict_values::{
+    dict_del, dict_del_by, dict_find, dict_find_by, try_dict_del, try_dict_del_by, try_dict_find,
+    try_dict_find_by,
+};
 pub use indexing::{dict_key, dict_pair, try_dict_key, try_dict_pair};
 pub use late::begin_late;
 pub use laws::{calls_on_an_object_are_one_history, lost_tries_change_nothing};
@@ -36,9 +40,5 @@ pub use makers::{new_dict, new_int, new_list, new_mailbox, new_text, none, truth
 pub use placing::{dict_key_by, try_dict_key_by};
 pub use putting::{dict_put, dict_set, try_dict_put, try_dict_set};
 pub use readers::{try_int_of, try_kind_of, try_len_of, try_text_into, try_text_of};
-pub use values::{
-    dict_del, dict_del_by, dict_find, dict_find_by, try_dict_del, try_dict_del_by, try_dict_find,
-    try_dict_find_by,
-};
 pub use waiting_calls::{list_get, list_pop, list_push, list_set, list_take, recv, send};
 pub use waiting_readers::{int_of, kind_of, len_of, text_into, text_of};

@@ -5,7 +5,7 @@ ghost use Rattle.brc_words.specs.declared.fault.Fault.TheVariants as faults;
 ghost use Rattle.brc_words.specs.declared.kind.Kind.TheVariants as kinds;
 ghost use Rattle.brc_words.specs.declared.limits.TheConstants.{MOST_ENTRIES};
 ghost use Rattle.brc_count.specs.block.Lent_Keys.{key_lent};
-ghost use Rattle.brc_count.specs.block.Payload.{kind_of, entries_of, keys_of, spare_of};
+ghost use Rattle.brc_count.specs.block.Payload.{kind_of, noted_of, entries_of, keys_of, spare_of};
 ghost use Rattle.brc_count.specs.table.Shown.{contents_of};
 ghost use Rattle.brc_count.specs.Frames.{IsUnlocked, Owns};
 ghost use Rattle.brc_count.specs.Locking.{IsLocked, cell_locked, place_locked, contents_found, KeepsThread, KeepsFrame};
@@ -21,7 +21,7 @@ use crate::seeking::{Sought, seek};
 use brc_count::biased::HasTable;
 use brc_count::block::{Block, KeyRef, Payload};
 use brc_count::{Frame, HandedBack, Handle};
-use brc_words::{Fault, Key, MOST_ENTRIES};
+use brc_words::{Entry, Fault, Key, MOST_ENTRIES};
 use std::alloc::Allocator;
 use std::sync::Wait;
 
@@ -32,6 +32,7 @@ fn make_room<A: Allocator + Copy>(payload: &mut Payload<A>) -> Result<(), Fault>
     requires dict { kind_of payload.old ≡ kinds.Dict }
     ensures kind { kind_of payload.new ≡ kind_of payload.old }
     ensures entries { entries_of payload.new ≡ entries_of payload.old }
+    ensures noted { noted_of payload.new ≡ noted_of payload.old }
     ensures keys { keys_of payload.new ≡ keys_of payload.old }
     ensures room { OnOk result (0 < spare_of payload.new) }
     ensures few { OnOk result (length (entries_of payload.old) < MOST_ENTRIES) }
@@ -80,22 +81,24 @@ fn append_locked<H: HasTable<A>, A: Allocator + Copy>(
             value: (key, value),
         });
     }
-    block.payload_mut().put_pair_reserved(key, cell);
+    let entry = Entry::bare(cell);
+    block.payload_mut().put_pair_reserved(key, entry);
     frame.end_put(block, value);
     Ok(None)
 }
 
-/// Another cell for a pair. That the object is a dictionary is known, and not looked at once more.
+/// Another entry for a pair. That the object is a dictionary is known, and not looked at once more.
 #[inline(always)]
-fn set_pair<A: Allocator>(payload: &mut Payload<A>, index: usize, cell: u32)
+fn set_pair<A: Allocator>(payload: &mut Payload<A>, index: usize, entry: Entry)
     requires dict { kind_of payload.old ≡ kinds.Dict }
     requires within { index < length (entries_of payload.old) }
-    ensures set { entries_of payload.new ≡ slice_set (entries_of payload.old) index cell }
+    ensures set { entries_of payload.new ≡ slice_set (entries_of payload.old) index entry.cell }
+    ensures noted { noted_of payload.new ≡ slice_set (noted_of payload.old) index entry }
     ensures kind { kind_of payload.new ≡ kind_of payload.old }
     ensures keys { keys_of payload.new ≡ keys_of payload.old }
 {
     match payload {
-        Payload::Dict(pairs) => pairs.set(index, cell),
+        Payload::Dict(pairs) => pairs.set(index, entry),
         _ => unreachable!(),
     }
 }
@@ -109,7 +112,7 @@ fn replace_locked<H: HasTable<A>, A: Allocator>(
     key: KeyRef<'_>,
     value: Handle<A>,
     index: usize,
-    entry: u32,
+    entry: Entry,
 ) -> Handle<A>
     requires locked { IsLocked frame.old }
     requires of_cell { cell_locked frame.old ≡ Some block.0 }
@@ -125,8 +128,9 @@ fn replace_locked<H: HasTable<A>, A: Allocator>(
 {
     let place = index as u32;
     let cell = frame.cell(&value);
-    set_pair(block.payload_mut(), index, cell);
-    frame.end_swap(block, place, entry, value)
+    let put = Entry::bare(cell);
+    set_pair(block.payload_mut(), index, put);
+    frame.end_swap(block, place, entry.cell, value)
 }
 
 /// A put into the dictionary that is locked, and its unlocking.
@@ -154,8 +158,8 @@ fn put_locked<H: HasTable<A>, A: Allocator + Copy>(
     ensures waits { IfErr result (λ handed. handed.fault ≢ faults.Busy) }
 {
     match seek(block.payload(), KeyRef::of(&key)) {
-        Sought::There { index, cell } => {
-            let old = replace_locked(frame, block, KeyRef::of(&key), value, index, cell);
+        Sought::There { index, entry } => {
+            let old = replace_locked(frame, block, KeyRef::of(&key), value, index, entry);
             // The key's memory goes once the lock is free.
             drop(key);
             Ok(Some(old))
@@ -254,8 +258,8 @@ fn set_locked<H: HasTable<A>, A: Allocator + Copy>(
     ensures waits { IfErr result (λ handed. handed.fault ≢ faults.Busy) }
 {
     match seek(block.payload(), key) {
-        Sought::There { index, cell } => {
-            let old = replace_locked(frame, block, key, value, index, cell);
+        Sought::There { index, entry } => {
+            let old = replace_locked(frame, block, key, value, index, entry);
             Ok(Some(old))
         }
         Sought::Absent => append_copy(alloc, frame, block, key, value),

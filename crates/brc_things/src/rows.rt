@@ -2,11 +2,11 @@
 
 ghost use Rattle.std.specs.Prelude.{◌≡◌, ◌<◌, length, true, Some, IfOk, IfErr, OnOk, OnErr, slice_get};
 ghost use Rattle.brc_words.specs.declared.limits.TheConstants.{MOST_ENTRIES};
-ghost use Rattle.brc_count.specs.block.Payload.{kind_of, entries_of, spare_of};
+ghost use Rattle.brc_count.specs.block.Payload.{kind_of, noted_of, entries_of, spare_of};
 ghost use Rattle.brc_things.specs.Rows.{is_row, NoRoom, NoEntry};
 
 use brc_count::block::{Entries, Payload};
-use brc_words::{Fault, Kind, MOST_ENTRIES};
+use brc_words::{Entry, Fault, Kind, MOST_ENTRIES};
 use std::alloc::Allocator;
 
 /// Makes room for one more entry in an object of this kind: WrongKind for any other, Full where it has 1,048,576
@@ -16,6 +16,7 @@ pub(crate) fn make_room<A: Allocator>(payload: &mut Payload<A>, kind: Kind) -> R
     requires row { is_row kind ≡ true }
     ensures kind { kind_of payload.new ≡ kind_of payload.old }
     ensures entries { entries_of payload.new ≡ entries_of payload.old }
+    ensures noted { noted_of payload.new ≡ noted_of payload.old }
     ensures is { OnOk result (kind_of payload.old ≡ kind) }
     ensures few { OnOk result (length (entries_of payload.old) < MOST_ENTRIES) }
     ensures room { OnOk result (0 < spare_of payload.new) }
@@ -39,22 +40,24 @@ pub(crate) fn make_room<A: Allocator>(payload: &mut Payload<A>, kind: Kind) -> R
     }
 }
 
-/// The cell of an entry of an object of this kind: WrongKind for any other, NoSuchPlace past the end.
+#[tactic(auto, using(brc_words::proofs::Cells::cells_there))]
+/// An entry of an object of this kind: WrongKind for any other, NoSuchPlace past the end.
 #[inline(always)]
 pub(crate) fn entry_in<A: Allocator>(
     payload: &Payload<A>,
     kind: Kind,
     index: usize,
-) -> Result<u32, Fault>
+) -> Result<Entry, Fault>
     ensures is { OnOk result (kind_of payload.now ≡ kind) }
-    ensures entry { IfOk result (λ cell. slice_get (entries_of payload.now) index ≡ Some cell) }
-    ensures refused { IfErr result (NoEntry kind index (kind_of payload.now) (entries_of payload.now)) }
+    ensures entry { IfOk result (λ entry. slice_get (noted_of payload.now) index ≡ Some entry) }
+    ensures cell { IfOk result (λ entry. slice_get (entries_of payload.now) index ≡ Some entry.cell) }
+    ensures refused { IfErr result (NoEntry kind index (kind_of payload.now) (noted_of payload.now)) }
 {
     if payload.kind() != kind {
         return Err(Fault::WrongKind);
     }
-    match payload.entry(index) {
-        Some(cell) => Ok(cell),
+    match payload.noted(index) {
+        Some(entry) => Ok(entry),
         None => Err(Fault::NoSuchPlace),
     }
 }

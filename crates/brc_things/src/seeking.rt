@@ -4,6 +4,7 @@ ghost use Rattle.brc_count.specs.block.Lent_Keys.{key_lent};
 ghost use Rattle.brc_things.specs.Seeking.{Seeks};
 
 use brc_count::block::{KeyRef, Payload};
+use brc_words::Entry;
 use std::alloc::Allocator;
 
 /// What a look for a key in an object finds.
@@ -11,8 +12,8 @@ use std::alloc::Allocator;
 pub(crate) enum Sought {
     /// The object is no dictionary.
     WrongKind,
-    /// The key stands there, beside this cell.
-    There { index: usize, cell: u32 },
+    /// The key stands there, beside this entry.
+    There { index: usize, entry: Entry },
     /// It stands beside none.
     Absent,
 }
@@ -28,8 +29,8 @@ pub(crate) fn seek<A: Allocator>(payload: &Payload<A>, key: KeyRef<'_>) -> Sough
     let Some(index) = pairs.find(key) else {
         return Sought::Absent;
     };
-    match pairs.entry(index) {
-        Some(cell) => Sought::There { index, cell },
+    match pairs.noted(index) {
+        Some(entry) => Sought::There { index, entry },
         None => unreachable!(),
     }
 }

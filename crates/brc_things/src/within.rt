@@ -6,11 +6,13 @@ ghost use Rattle.std.specs.Prelude.{◌≡◌, ◌≢◌, ◌<◌, ℕ, List, tr
 ghost use Rattle.brc_words.specs.declared.fault.Fault.TheVariants as faults;
 ghost use Rattle.brc_words.specs.declared.kind.Kind.TheVariants as kinds;
 ghost use Rattle.brc_words.specs.declared.limits.TheConstants.{MOST_PLACES};
-ghost use Rattle.brc_count.specs.block.Payload.{kind_of, entries_of};
+ghost use Rattle.brc_words.specs.Notes.{bare};
+ghost use Rattle.brc_words.specs.declared.entry.Entry.{Entry};
+ghost use Rattle.brc_count.specs.block.Payload.{kind_of, noted_of, entries_of};
 ghost use Rattle.brc_count.specs.law.declared.world.event.Change.TheVariants as changes;
 ghost use Rattle.brc_count.specs.table.Shown.{contents_of};
 ghost use Rattle.brc_count.specs.Frames.{IsUnlocked, IsAsBefore, Owns};
-ghost use Rattle.brc_count.specs.Locking.{KeepsThread, KeepsFrame, contents_found, place_locked};
+ghost use Rattle.brc_count.specs.Locking.{KeepsThread, KeepsFrame, cell_in, contents_found, place_locked};
 ghost use Rattle.brc_count.specs.Owned.{Keeps, Gains, Loses};
 ghost use Rattle.brc_things.specs.Changing.{KeepsAllPlaces};
 ghost use Rattle.brc_things.specs.Plain_Lists.{plain_get, plain_set};
@@ -22,7 +24,7 @@ use crate::rows::{entry_in, make_room};
 use brc_count::biased::HasTable;
 use brc_count::block::Block;
 use brc_count::{Frame, HandedBack, Handle};
-use brc_words::{Fault, Kind};
+use brc_words::{Entry, Fault, Kind};
 use std::alloc::Allocator;
 
 /// The value's reference becomes the last entry of a list or a mailbox.
@@ -39,13 +41,13 @@ pub(crate) fn put_locked<H: HasTable<A>, A: Allocator>(
     requires apart { place_locked frame.old ≢ Some value.place }
     ensures thread { KeepsThread frame.old frame.new }
     ensures unlocked { IsUnlocked frame.new }
-    ensures put { OnOk result (PutsIn frame.old frame.new value.place (plain_put kind) tt) }
+    ensures put { OnOk result (PutsIn frame.old frame.new value.place (λ c. plain_put kind (bare c)) tt) }
     ensures loses { OnOk result (Loses frame.old frame.new value) }
     ensures back { IfErr result (λ handed. handed.value ≡ value) }
     ensures frame { OnErr result (KeepsFrame frame.old frame.new) }
     ensures kept { OnErr result (EndsWith frame.old frame.new changes.Keep (contents_found frame.old)) }
     ensures refused { IfErr result (λ handed. (c : ℕ)
-        → RefusesEntry (plain_put kind c (contents_found frame.old)) handed.fault) }
+        → RefusesEntry (plain_put kind (bare c) (contents_found frame.old)) handed.fault) }
     ensures waited { IfErr result (λ handed. handed.fault ≢ faults.Busy) }
 {
     if let Err(fault) = make_room(block.payload_mut(), kind) {
@@ -53,12 +55,13 @@ pub(crate) fn put_locked<H: HasTable<A>, A: Allocator>(
         return Err(HandedBack { fault, value });
     }
     let cell = frame.cell(&value);
-    block.payload_mut().put_reserved(cell);
+    let entry = Entry::bare(cell);
+    block.payload_mut().put_reserved(entry);
     frame.end_put(block, value);
     Ok(())
 }
 
-/// The references of an entry of a list and of the value are exchanged.
+/// The references of an entry of a list and of the value are exchanged; what was noted beside the entry goes.
 #[inline(always)]
 pub(crate) fn swap_locked<H: HasTable<A>, A: Allocator>(
     frame: &mut Frame<H, A>,
@@ -71,14 +74,14 @@ pub(crate) fn swap_locked<H: HasTable<A>, A: Allocator>(
     requires apart { place_locked frame.old ≢ Some value.place }
     ensures thread { KeepsThread frame.old frame.new }
     ensures unlocked { IsUnlocked frame.new }
-    ensures swapped { OnOk result (SwapsIn frame.old frame.new value.place (plain_set index) (λ entry. entry)) }
+    ensures swapped { OnOk result (SwapsIn frame.old frame.new value.place (λ c. plain_set index (bare c)) (λ entry. entry)) }
     ensures keeps { Keeps frame.old frame.new }
     ensures same { IfOk result (λ old. old ≡ value) }
     ensures back { IfErr result (λ handed. handed.value ≡ value) }
     ensures frame { OnErr result (KeepsFrame frame.old frame.new) }
     ensures kept { OnErr result (EndsWith frame.old frame.new changes.Keep (contents_found frame.old)) }
     ensures refused { IfErr result (λ handed. (c : ℕ)
-        → RefusesPlainly (plain_set index c (contents_found frame.old)) handed.fault) }
+        → RefusesPlainly (plain_set index (bare c) (contents_found frame.old)) handed.fault) }
     ensures waited { IfErr result (λ handed. handed.fault ≢ faults.Busy) }
 {
     match entry_in(block.payload(), Kind::List, index as usize) {
@@ -88,32 +91,34 @@ pub(crate) fn swap_locked<H: HasTable<A>, A: Allocator>(
         }
         Ok(entry) => {
             let cell = frame.cell(&value);
-            block.payload_mut().set(index as usize, cell);
-            Ok(frame.end_swap(block, index, entry, value))
+            let put = Entry::bare(cell);
+            block.payload_mut().set(index as usize, put);
+            Ok(frame.end_swap(block, index, entry.cell, value))
         }
     }
 }
 
-/// The cell of an entry, and the next place made sure of, for a handle to that entry.
+/// An entry, and the next place made sure of, for a handle to it.
 #[inline(always)]
 fn entry_and_place<H: HasTable<A>, A: Allocator>(
     frame: &mut Frame<H, A>,
     kind: Kind,
     block: &Block<A>,
     index: usize,
-) -> Result<u32, Fault>
+) -> Result<Entry, Fault>
     requires row { is_row kind ≡ true }
     ensures same { IsAsBefore frame.old frame.new }
     ensures room { OnOk result (0 < frame.new.spare) }
     ensures low { OnOk result (frame.new.next < MOST_PLACES) }
     ensures is { OnOk result (kind_of block.now.1 ≡ kind) }
-    ensures entry { IfOk result (λ cell. slice_get (entries_of block.now.1) index ≡ Some cell) }
-    ensures refused { IfErr result (λ fault. (left : List ℕ → List ℕ) →
+    ensures entry { IfOk result (λ entry. slice_get (noted_of block.now.1) index ≡ Some entry) }
+    ensures cell { IfOk result (λ entry. slice_get (entries_of block.now.1) index ≡ Some entry.cell) }
+    ensures refused { IfErr result (λ fault. (left : List Entry → List Entry) →
         RefusesPlace frame.old (plain_at kind index left (contents_of block.now.1)) fault) }
 {
-    let cell = entry_in(block.payload(), kind, index)?;
+    let entry = entry_in(block.payload(), kind, index)?;
     frame.place()?;
-    Ok(cell)
+    Ok(entry)
 }
 
 /// A handle more to an entry of a list. It is counted up before the unlocking: after that the entry may go.
@@ -138,14 +143,14 @@ pub(crate) fn share_locked<H: HasTable<A>, A: Allocator>(
             Err(fault)
         }
         Ok(entry) => {
-            let given = frame.up_entry(index, entry);
+            let given = frame.up_entry(index, entry.cell);
             frame.end_keep(block);
             Ok(given)
         }
     }
 }
 
-/// The reference of an entry of a list or a mailbox is a new handle's now.
+/// The reference of an entry of a list or a mailbox is a new handle's now; what was noted beside it goes.
 #[inline(always)]
 pub(crate) fn take_locked<H: HasTable<A>, A: Allocator>(
     frame: &mut Frame<H, A>,
@@ -172,5 +177,5 @@ pub(crate) fn take_locked<H: HasTable<A>, A: Allocator>(
     };
     let place = index as u32;
     let _entry = block.payload_mut().remove(index);
-    Ok(frame.end_take(block, place, entry))
+    Ok(frame.end_take(block, place, entry.cell))
 }

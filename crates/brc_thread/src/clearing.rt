@@ -42,8 +42,8 @@ fn take_last<H: HasTable<A>, A: Allocator>(
     }
     let index = len - 1;
     let place = index as u32;
-    let cell = block.payload_mut().remove(index);
-    Ok(Some(frame.end_take(block, place, cell)))
+    let entry = block.payload_mut().remove(index);
+    Ok(Some(frame.end_take(block, place, entry.cell)))
 }
 
 /// Whether an object has an entry. Busy where another thread has it locked.

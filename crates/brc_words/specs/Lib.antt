@@ -3,3 +3,4 @@ pub mod Shared
 pub mod Owners
 pub mod Kinds
 pub mod Keys
+pub mod Notes

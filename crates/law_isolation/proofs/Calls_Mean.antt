@@ -5,6 +5,8 @@ use Rattle.std.proofs.Common.{IfOk, IfErr}
 use Rattle.std.specs.Prelude.{MatchResult}
 use Rattle.brc_words.specs.declared.fault.Fault.{Fault}
 use Rattle.brc_words.specs.declared.fault.Fault.TheVariants as faults
+use Rattle.brc_words.specs.declared.entry.Entry.{Entry}
+use Rattle.brc_words.specs.Notes.{bare}
 use Rattle.brc_words.specs.declared.key.Key.{Key}
 use Rattle.brc_words.specs.declared.kind.Kind.{Kind}
 use Rattle.brc_words.specs.declared.kind.Kind.TheVariants as kinds
@@ -28,18 +30,17 @@ use Rattle.brc_things.specs.Plain_Dicts.{plain_put, plain_find, plain_del}
 use Rattle.brc_things.specs.Putting.{RefusedPair}
 use Rattle.brc_things.proofs.Waited.{waits_frame}
 use Rattle.brc_meaning.proofs.WholeCalls.{object_kept, keyed_kept}
-use Rattle.law_isolation.specs.Means.{cell_meant, IsMeant, Means, MeansBesides}
+use Rattle.law_isolation.specs.Means.{cell_meant, entry_meant, IsMeant, Means, MeansBesides}
 use Rattle.law_isolation.specs.Goes.{is_want}
 use Rattle.law_isolation.specs.Calls.{kind_meant, Finds, GivesOne, HandsMeant, TakesMeant, SwapsMeant, PutsMeant}
-use Rattle.law_isolation.proofs.Mapped_Lists.{same}
 use Rattle.law_isolation.proofs.Matching.{push_matches, pop_matches, get_matches, set_matches, send_matches}
-use Rattle.law_isolation.proofs.Matching.{receive_matches, put_matches, find_matches, delete_matches}
+use Rattle.law_isolation.proofs.Matching.{maybe_cell, receive_matches, put_matches, find_matches, delete_matches}
 use Rattle.law_isolation.proofs.Showing.{has_kept}
 use Rattle.law_isolation.proofs.Joining.{handed_back, put_in, swapped_in, puts_means, swaps_means, takes_means}
 use Rattle.law_isolation.proofs.Joining.{shares_means}
 use Rattle.law_isolation.proofs.Reading.{kind_read, len_read, int_read, text_read}
 
-module _ {A : Type 0} (old new : FrameSeen A) (k : ℕ) (call : PlainCall (Option ℕ)) where
+module _ {A : Type 0} (old new : FrameSeen A) (k : ℕ) (call : PlainCall (Option Entry)) where
   plainly_paired : (fault : Fault) → fault ≢ faults.Busy → is_want fault ≡ false → RefusedPair old new k call fault
       → RefusedPlainly old new k call fault
   plainly_paired faults.Busy busy want why = absurd (busy refl)
@@ -61,7 +62,7 @@ module _ {A : Type 0} (base : ℕ) (old new : FrameSeen A) (registers : List (Op
         puts_means base old new registers s own container h in_register (object_call (calls.Push reference))
         (λ number. refl) value reference means apart
         (λ part here object each. object_kept (IsMeant part) (calls.Push reference) object here each)
-        plain_push (push_matches means.cells reference) result late busy
+        (λ c. plain_push (bare c)) (push_matches means.cells reference) result late busy
 
     pub send_means : (result : Result (Unit {0}) (HandedBack HandleSeen))
         → Late old h.place (λ mid. MailboxSend mid new h.place value.place result)
@@ -71,7 +72,7 @@ module _ {A : Type 0} (base : ℕ) (old new : FrameSeen A) (registers : List (Op
         puts_means base old new registers s own container h in_register (object_call (calls.Send reference))
         (λ number. refl) value reference means apart
         (λ part here object each. object_kept (IsMeant part) (calls.Send reference) object here each)
-        plain_send (send_matches means.cells reference) result late busy
+        (λ c. plain_send (bare c)) (send_matches means.cells reference) result late busy
 
     pub set_means : (index : ℕ) (result : Result HandleSeen (HandedBack HandleSeen))
         → Late old h.place (λ mid. ListSet mid new h.place index value.place result)
@@ -82,7 +83,7 @@ module _ {A : Type 0} (base : ℕ) (old new : FrameSeen A) (registers : List (Op
         swaps_means base old new registers s own container h in_register (object_call (calls.Set index reference))
         (λ number. refl) value reference means apart
         (λ part here object each. object_kept (IsMeant part) (calls.Set index reference) object here each)
-        (plain_set index) (set_matches means.cells index reference) result late same busy
+        (λ c. plain_set index (bare c)) (set_matches means.cells index reference) result late same busy
 
     pub put_means : (V : Type 0) (key : Key A) (result : Result (Option HandleSeen) (HandedBack V))
         → Late old h.place (λ mid. DictPut mid new h.place key value result)
@@ -92,20 +93,20 @@ module _ {A : Type 0} (base : ℕ) (old new : FrameSeen A) (registers : List (Op
         put_in base old new registers s own container h in_register (keyed_call key (keyed.Put reference))
         (λ number. refl) value reference means apart
         (λ part here object each. keyed_kept (IsMeant part) key (keyed.Put reference) object here each)
-        (plain_put key) same None refl (put_matches means.cells key reference) late.0 late.1 late.2.did
+        (λ c. plain_put key (bare c)) maybe_cell None refl (put_matches means.cells key reference) late.0 late.1 late.2.did
     put_means V key (Ok (Some given)) late busy =
         subst (GivesOne (keyed_call key (keyed.Put reference)) container base new registers s) (sym late.2.did.0)
         (swapped_in base old new registers s own container h in_register (keyed_call key (keyed.Put reference))
         (λ number. refl) value reference means apart
         (λ part here object each. keyed_kept (IsMeant part) key (keyed.Put reference) object here each)
-        (plain_put key) same Some (λ entry. refl) (put_matches means.cells key reference) late.0 late.1 late.2.did.1)
+        (λ c. plain_put key (bare c)) maybe_cell Some (λ entry. refl) (put_matches means.cells key reference) late.0 late.1 late.2.did.1)
     put_means V key (Err handed) late busy =
         handed_back base old new registers s own container h in_register (keyed_call key (keyed.Put reference))
         (λ number. refl) value reference means apart
         (λ part here object each. keyed_kept (IsMeant part) key (keyed.Put reference) object here each)
-        (plain_put key (cell_meant means.cells reference)) same (put_matches means.cells key reference) late.0 late.1
+        (plain_put key (entry_meant means.cells reference)) maybe_cell (put_matches means.cells key reference) late.0 late.1
         late.2.frame handed
-        (λ want. plainly_paired late.0 new h.place (plain_put key (cell_meant means.cells reference))
+        (λ want. plainly_paired late.0 new h.place (plain_put key (entry_meant means.cells reference))
         handed.fault busy want
         (late.2.refused (cell_meant means.cells reference)
         (has_kept old late.0 means.cells means.part value.place reference ((waits_frame late.1).places value.place)

@@ -2,6 +2,7 @@
 use Rattle.std.proofs.Common.{◌≡◌, ◌≢◌, ◌∙◌, refl, sym, subst, ℕ, ℤ, Bool, true, false, List, Option, Some, None}
 use Rattle.std.proofs.Common.{IfSome, Result, Ok, Err, IfOk, IfErr}
 use Rattle.std.proofs.lemmas.Option.{same_Some}
+use Rattle.brc_words.specs.declared.entry.Entry.{Entry}
 use Rattle.brc_words.specs.declared.fault.Fault.{Fault}
 use Rattle.brc_words.specs.declared.fault.Fault.TheVariants as faults
 use Rattle.brc_count.specs.law.declared.world.event.Change.TheVariants as changes
@@ -151,8 +152,8 @@ module _ {A : Type 0} (base : ℕ) (old new : FrameSeen A) (registers : List (Op
         in_register call places) none done)
 
     -- the value was exchanged for an entry
-    pub swapped_in : {R : Type 0} (plain : ℕ → PlainCall R) (answered : R → Option ℕ) (answer : ℕ → R)
-        → ((entry : ℕ) → answered (answer entry) ≡ Some entry)
+    pub swapped_in : {R : Type 0} (plain : ℕ → PlainCall R) (answered : R → Option ℕ) (answer : Entry → R)
+        → ((entry : Entry) → answered (answer entry) ≡ Some entry.cell)
         → Matches means.cells call (plain (cell_meant means.cells reference)) answered → (mid : FrameSeen A)
         → Waits old h.place mid
         → Swaps mid new h.place value.place plain answer → GivesOne call container base new registers s value
@@ -169,7 +170,7 @@ module _ {A : Type 0} (base : ℕ) (old new : FrameSeen A) (registers : List (Op
         (plain (cell_meant means.cells reference)) answered matches did.found did.put (answer did.entry)
         (subst (λ v. plain v did.found ≡ Ok (answer did.entry, did.put)) is_value did.plain) turn in
         gives_one base means.cells means.part mid new registers s (shown_mid h.place mid waits) own container h
-        in_register call places value did.entry did.places.has
+        in_register call places value did.entry.cell did.places.has
         (subst (Went base means.cells means.part mid new registers s (shown_mid h.place mid waits) own container h
         in_register call places) (one did.entry) done)
 
@@ -185,7 +186,7 @@ module _ {A : Type 0} (base : ℕ) (old new : FrameSeen A) (registers : List (Op
         (λ want. plainly_entered late.0 new h.place (plain (cell_meant means.cells reference)) handed.fault busy want
         (late.2.refused (cell_meant means.cells reference) (has_waited h.place late.0 late.1).cell))
 
-    pub swaps_means : (plain : ℕ → PlainCall ℕ)
+    pub swaps_means : (plain : ℕ → PlainCall Entry)
         → Matches means.cells call (plain (cell_meant means.cells reference)) one_cell
         → (result : Result HandleSeen (HandedBack HandleSeen))
         → Late old h.place (λ mid. SwapsValue mid new h.place value.place plain result)
@@ -204,7 +205,7 @@ module _ {A : Type 0} (base : ℕ) (old new : FrameSeen A) (registers : List (Op
   module _ (means : Means base old registers s)
       (keeps : (part : ℕ → Bool) (object : Object A) → Each (IsMeant part) object
       → IfOk (call object) (IsKept (IsMeant part) (Each (IsMeant part))))
-      (plain : PlainCall ℕ) (matches : Matches means.cells call plain one_cell) where
+      (plain : PlainCall Entry) (matches : Matches means.cells call plain one_cell) where
     shown_then : (k : ℕ) (mid : FrameSeen A) → Waits old k mid → ShowsState base means.cells means.part mid registers s
     shown_then k mid waits = shows_waited means.cells means.part k mid waits means.shows
 
@@ -219,12 +220,12 @@ module _ {A : Type 0} (base : ℕ) (old new : FrameSeen A) (registers : List (Op
         (turned.0, record { cells = means.cells; part = means.part; shows = turned.1 })
 
     took_out : (mid : FrameSeen A) → Waits old h.place mid → (given : HandleSeen) → KeepsPlacesOf mid new registers
-        → (found put : Contents) (entry : ℕ) → plain found ≡ Ok (entry, put)
-        → Turns mid new h.place found put → cell_in new given.place ≡ Some entry
+        → (found put : Contents) (entry : Entry) → plain found ≡ Ok (entry, put)
+        → Turns mid new h.place found put → cell_in new given.place ≡ Some entry.cell
         → GivesOne call container base new registers s given
     took_out mid waits given places found put entry is turn has =
         gives_one base means.cells means.part mid new registers s (shown_then h.place mid waits) own container h
-        in_register call places given entry has
+        in_register call places given entry.cell has
         (went base means.cells means.part mid new registers s (shown_then h.place mid waits) own container h in_register
         call places no_int (keeps means.part) plain one_cell matches found put entry is turn)
 

@@ -2,6 +2,7 @@
 use Rattle.std.proofs.Common.{arith, ◌≡◌, ◌≤◌, ◌<◌, ℕ, List, [], ◌∷◌, ◌++◌, Option, Some, None, Result, Ok, Err, ◌⊎◌}
 use Rattle.std.proofs.Common.{inl, inr, refl, sym, subst}
 use Rattle.std.proofs.lemmas.Bool.Decides.{leb_tells}
+use Rattle.brc_words.specs.declared.entry.Entry.{Entry}
 use Rattle.brc_words.specs.declared.fault.Fault.{Fault}
 use Rattle.brc_words.specs.declared.fault.Fault.TheVariants as faults
 use Rattle.brc_words.specs.declared.limits.TheConstants.{FIRST_MORTAL}
@@ -82,7 +83,7 @@ module _ {A : Type 0} where
       in later_is old.seat.log new.seat.log _ made.told
       (later_one _ old.seat.log _ (later_one _ old.seat.log _ (later_one _ old.seat.log made.mid claimed)))
 
-  pub later_shares : {old new : FrameSeen A} {k : ℕ} {call : PlainCall ℕ} {given : HandleSeen}
+  pub later_shares : {old new : FrameSeen A} {k : ℕ} {call : PlainCall Entry} {given : HandleSeen}
       → Shares old new k call given
       → IsLater old.seat.log new.seat.log
   later_shares {old = old} {new = new} is =

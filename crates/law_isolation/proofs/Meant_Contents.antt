@@ -4,6 +4,9 @@ use Rattle.std.specs.List.{All}
 use Rattle.std.specs.Option.{option_map}
 use Rattle.std.proofs.lemmas.List.Elements.{All-head, All-tail}
 use Rattle.std.proofs.lemmas.Option.{slice_get-map, slice_get-get_or}
+use Rattle.brc_words.specs.declared.entry.Entry.{Entry}
+use Rattle.brc_words.specs.Notes.{bare}
+use Rattle.brc_words.proofs.Cells.{cells_there}
 use Rattle.brc_words.specs.declared.key.Key.{Key}
 use Rattle.brc_count.specs.law.declared.rule.contents.PlainKey.{PlainKey}
 use Rattle.brc_count.specs.law.declared.rule.contents.Contents.TheVariants as contents
@@ -14,7 +17,7 @@ use Rattle.brc_meaning.specs.declared.reference.Reference.TheVariants as referen
 use Rattle.brc_meaning.specs.declared.object.Object.{Object}
 use Rattle.brc_meaning.specs.declared.object.Object.TheVariants as objects
 use Rattle.brc_meaning.specs.Wholes.{Each}
-use Rattle.law_isolation.specs.Means.{cell_meant, contents_meant, IsMeant}
+use Rattle.law_isolation.specs.Means.{cell_meant, entry_meant, contents_meant, IsMeant}
 
 -- two functions that agree on each element make one list
 map_agree : {X Y : Type 0} (f g : X → Y) (P : X → Type 0) (xs : List X) → ((x : X) → P x → f x ≡ g x) → All P xs
@@ -39,18 +42,25 @@ module _ {A : Type 0} where
   each_entry cells P Q (objects.Int number) more each = tt
   each_entry cells P Q (objects.Text bytes) more each = tt
   each_entry cells P Q (objects.List entries) more each = λ k d below.
-      more k (get_or entries k d) (slice_get-map (cell_meant cells) entries k
-      ∙ ap (option_map (cell_meant cells)) (slice_get-get_or entries k d below)) (each k d below)
+      more k (get_or entries k d)
+      (cells_there (map (entry_meant cells) entries) k (entry_meant cells (get_or entries k d))
+      (slice_get-map (entry_meant cells) entries k
+      ∙ ap (option_map (entry_meant cells)) (slice_get-get_or entries k d below)))
+      (each k d below)
   each_entry cells P Q (objects.Dict pairs) more each = λ k d below.
-      let plain : Key A × Reference → PlainKey × ℕ = λ pair. (plain_key pair.0, cell_meant cells pair.1) in
-      let cell : PlainKey × ℕ → ℕ = λ pair. pair.1 in
+      let plain : Key A × Reference → PlainKey × Entry = λ pair. (plain_key pair.0, entry_meant cells pair.1) in
+      let entry : PlainKey × Entry → Entry = λ pair. pair.1 in
       more k (get_or pairs k d).1
-      (slice_get-map cell (map plain pairs) k
-      ∙ ap (option_map cell) (slice_get-map plain pairs k ∙ ap (option_map plain) (slice_get-get_or pairs k d below)))
+      (cells_there (map entry (map plain pairs)) k (entry_meant cells (get_or pairs k d).1)
+      (slice_get-map entry (map plain pairs) k
+      ∙ ap (option_map entry) (slice_get-map plain pairs k ∙ ap (option_map plain) (slice_get-get_or pairs k d below))))
       (each k d below)
   each_entry cells P Q (objects.Mailbox entries) more each = λ k d below.
-      more k (get_or entries k d) (slice_get-map (cell_meant cells) entries k
-      ∙ ap (option_map (cell_meant cells)) (slice_get-get_or entries k d below)) (each k d below)
+      more k (get_or entries k d)
+      (cells_there (map (entry_meant cells) entries) k (entry_meant cells (get_or entries k d))
+      (slice_get-map (entry_meant cells) entries k
+      ∙ ap (option_map (entry_meant cells)) (slice_get-get_or entries k d below)))
+      (each k d below)
 
   -- an object lies there as it did, where its references mean what they meant
   pub contents_agree : (cells now : ℕ → ℕ) (P : Reference → Type 0) (object : Object A)
@@ -59,10 +69,11 @@ module _ {A : Type 0} where
   contents_agree cells now P (objects.Int number) same each = refl
   contents_agree cells now P (objects.Text bytes) same each = refl
   contents_agree cells now P (objects.List entries) same each =
-      ap contents.«List» (map_agree (cell_meant now) (cell_meant cells) P entries same each)
+      ap contents.«List» (map_agree (entry_meant now) (entry_meant cells) P entries (λ reference is. ap bare (same reference is)) each)
   contents_agree cells now P (objects.Dict pairs) same each =
-      ap contents.Dict (map_agree (λ (pair : Key A × Reference). (plain_key pair.0, cell_meant now pair.1))
-      (λ (pair : Key A × Reference). (plain_key pair.0, cell_meant cells pair.1))
-      (λ (pair : Key A × Reference). P pair.1) pairs (λ pair is. ap (λ c. (plain_key pair.0, c)) (same pair.1 is)) each)
+      ap contents.Dict (map_agree (λ (pair : Key A × Reference). (plain_key pair.0, entry_meant now pair.1))
+      (λ (pair : Key A × Reference). (plain_key pair.0, entry_meant cells pair.1))
+      (λ (pair : Key A × Reference). P pair.1) pairs (λ pair is. ap (λ c. (plain_key pair.0, bare c))
+      (same pair.1 is)) each)
   contents_agree cells now P (objects.Mailbox entries) same each =
-      ap contents.Mailbox (map_agree (cell_meant now) (cell_meant cells) P entries same each)
+      ap contents.Mailbox (map_agree (entry_meant now) (entry_meant cells) P entries (λ reference is. ap bare (same reference is)) each)

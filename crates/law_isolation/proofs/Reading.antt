@@ -5,6 +5,8 @@ use Rattle.std.specs.Prelude.{MatchResult}
 use Rattle.std.proofs.lemmas.List.{length-map}
 use Rattle.brc_words.specs.declared.fault.Fault.{Fault}
 use Rattle.brc_words.specs.declared.fault.Fault.TheVariants as faults
+use Rattle.brc_words.specs.declared.entry.Entry.{Entry}
+use Rattle.brc_words.proofs.Cells.{cells_long}
 use Rattle.brc_words.specs.declared.key.Key.{Key}
 use Rattle.brc_words.specs.declared.kind.Kind.{Kind}
 use Rattle.brc_words.specs.declared.kind.Kind.TheVariants as kinds
@@ -28,7 +30,7 @@ use Rattle.brc_meaning.specs.declared.object.Object.TheVariants as objects
 use Rattle.brc_meaning.specs.declared.state.State.{State}
 use Rattle.brc_meaning.specs.Objects.{entries_in, number_in}
 use Rattle.brc_count.specs.law.living.Living.{OwnLog}
-use Rattle.law_isolation.specs.Means.{cell_meant, contents_meant, ShowsState, Means}
+use Rattle.law_isolation.specs.Means.{entry_meant, contents_meant, ShowsState, Means}
 use Rattle.law_isolation.specs.Calls.{kind_meant, Finds}
 use Rattle.law_isolation.proofs.Left_Alone.{waits_leave}
 use Rattle.law_isolation.proofs.Found_There.{FoundAs, found_as}
@@ -50,13 +52,16 @@ module _ {A : Type 0} (cells : ℕ → ℕ) where
       → entries_in object ≡ Ok (length (logs.entries_in (contents_meant cells object)))
   len_shown (objects.Int number) fits = absurd (let bad : false ≡ true = fits in cc)
   len_shown (objects.Text bytes) fits = absurd (let bad : false ≡ true = fits in cc)
-  len_shown (objects.List entries) fits = ap Ok (sym (length-map entries (cell_meant cells)))
+  len_shown (objects.List entries) fits = ap Ok (sym (cells_long (map (entry_meant cells) entries)
+      ∙ length-map entries (entry_meant cells)))
   len_shown (objects.Dict pairs) fits =
-      let shown : List (PlainKey × ℕ) =
-      map (λ (pair : Key A × Reference). (plain_key pair.0, cell_meant cells pair.1)) pairs in
-      ap Ok (sym (length-map shown (λ (pair : PlainKey × ℕ). pair.1)
-      ∙ length-map pairs (λ (pair : Key A × Reference). (plain_key pair.0, cell_meant cells pair.1))))
-  len_shown (objects.Mailbox entries) fits = ap Ok (sym (length-map entries (cell_meant cells)))
+      let shown : List (PlainKey × Entry) =
+      map (λ (pair : Key A × Reference). (plain_key pair.0, entry_meant cells pair.1)) pairs in
+      ap Ok (sym (cells_long (map (λ (pair : PlainKey × Entry). pair.1) shown)
+      ∙ length-map shown (λ (pair : PlainKey × Entry). pair.1)
+      ∙ length-map pairs (λ (pair : Key A × Reference). (plain_key pair.0, entry_meant cells pair.1))))
+  len_shown (objects.Mailbox entries) fits = ap Ok (sym (cells_long (map (entry_meant cells) entries)
+      ∙ length-map entries (entry_meant cells)))
 
   len_none : (object : Object A) → (HoldsContainer (contents_meant cells object) → ⊥)
       → entries_in object ≡ Err faults.WrongKind
@@ -72,12 +77,12 @@ module _ {A : Type 0} (cells : ℕ → ℕ) where
       sym is in cc)
   number_shown (objects.Text bytes) number is = absurd (let bad : contents.Int number ≡ contents.Text bytes = is in cc)
   number_shown (objects.List entries) number is =
-      absurd (let bad : contents.Int number ≡ contents.«List» (map (cell_meant cells) entries) = is in cc)
+      absurd (let bad : contents.Int number ≡ contents.«List» (map (entry_meant cells) entries) = is in cc)
   number_shown (objects.Dict pairs) number is =
       absurd (let bad : contents.Int number ≡ contents.Dict
-      (map (λ (pair : Key A × Reference). (plain_key pair.0, cell_meant cells pair.1)) pairs) = is in cc)
+      (map (λ (pair : Key A × Reference). (plain_key pair.0, entry_meant cells pair.1)) pairs) = is in cc)
   number_shown (objects.Mailbox entries) number is =
-      absurd (let bad : contents.Int number ≡ contents.Mailbox (map (cell_meant cells) entries) = is in cc)
+      absurd (let bad : contents.Int number ≡ contents.Mailbox (map (entry_meant cells) entries) = is in cc)
 
   number_none : (object : Object A) → (IsInt (contents_meant cells object) → ⊥)
       → number_in object ≡ Err faults.WrongKind
@@ -93,12 +98,12 @@ module _ {A : Type 0} (cells : ℕ → ℕ) where
   text_shown (objects.Text bytes) text is = ap objects.Text (let back : contents.Text bytes ≡ contents.Text text =
       sym is in cc)
   text_shown (objects.List entries) text is =
-      absurd (let bad : contents.Text text ≡ contents.«List» (map (cell_meant cells) entries) = is in cc)
+      absurd (let bad : contents.Text text ≡ contents.«List» (map (entry_meant cells) entries) = is in cc)
   text_shown (objects.Dict pairs) text is =
       absurd (let bad : contents.Text text ≡ contents.Dict
-      (map (λ (pair : Key A × Reference). (plain_key pair.0, cell_meant cells pair.1)) pairs) = is in cc)
+      (map (λ (pair : Key A × Reference). (plain_key pair.0, entry_meant cells pair.1)) pairs) = is in cc)
   text_shown (objects.Mailbox entries) text is =
-      absurd (let bad : contents.Text text ≡ contents.Mailbox (map (cell_meant cells) entries) = is in cc)
+      absurd (let bad : contents.Text text ≡ contents.Mailbox (map (entry_meant cells) entries) = is in cc)
 
 -- ---- refusals
 

@@ -7,6 +7,7 @@ use Rattle.brc_count.specs.law.declared.world.event.Change.TheVariants as change
 use Rattle.brc_count.specs.law.declared.world.event.Source.{Source}
 use Rattle.brc_count.specs.law.declared.world.event.Source.TheVariants as sources
 use Rattle.brc_count.specs.law.declared.world.event.Step.TheVariants.{Lock, Unlock, LocalUp, SharedUp}
+use Rattle.brc_words.specs.declared.entry.Entry.{Entry}
 use Rattle.brc_words.specs.declared.limits.TheConstants.{FIRST_MORTAL}
 use Rattle.brc_count.specs.law.declared.rule.contents.Contents.{Contents}
 use Rattle.brc_count.specs.law.declared.rule.told.Moved.TheVariants as moves
@@ -145,12 +146,12 @@ module _ {A : Type 0} where
     ]
   ]
 
-  pub shares_turn : (old new : FrameSeen A) (k : ℕ) (call : PlainCall ℕ) (given : HandleSeen)
+  pub shares_turn : (old new : FrameSeen A) (k : ℕ) (call : PlainCall Entry) (given : HandleSeen)
       → OwnLog new.heap.cells new.seat.log
       → (did : Shares old new k call given) → Turns old new k did.found did.found
   shares_turn old new k call given own did =
       let n : ℕ = old.heap.cells in
-      let up = up_item did.locked did.shared (sources.Entry did.index) given.place did.entry did.gives.counted in
+      let up = up_item did.locked did.shared (sources.Entry did.index) given.place did.entry.cell did.gives.counted in
       let lock : LogItem = Stepped (Lock k) 0 (moves.Found did.cell did.found) in
       let last : LogItem = Stepped (Unlock changes.Keep) 0 (moves.Put did.cell did.found) in
       let shared_log : did.shared.seat.log ≡ up.0 ∷ lock ∷ old.seat.log = up.1
@@ -164,7 +165,7 @@ module _ {A : Type 0} where
       on_frame old did.locked (lock ∷ old.seat.log) (Leaves n old.seat.log) did.same_heap did.locks
       (lock_leaves n old.seat.log k 0 did.cell did.found) in
       let shared : LeavesAll old did.shared =
-      leaves_on locked (up_leaves did.locked did.shared (sources.Entry did.index) given.place did.entry (did.shared_heap
+      leaves_on locked (up_leaves did.locked did.shared (sources.Entry did.index) given.place did.entry.cell (did.shared_heap
       ∙ sym did.same_heap) did.gives.counted) in
       let keeps : LeavesAll did.shared new =
       on_frame did.shared new (last ∷ did.shared.seat.log) (Leaves did.shared.heap.cells did.shared.seat.log)

@@ -2,6 +2,8 @@
 -- its own, in which it lies with cells for objects.
 use Rattle.std.specs.Prelude.{◌≡◌, ℕ, ◌+◌, ◌-◌, ℤ, pos, negsuc, Bool, true, false, ◌&&◌, not, List, map, length, Option}
 use Rattle.std.specs.Prelude.{Some, None, is_some, slice_get, slice_index_or}
+use Rattle.brc_words.specs.declared.entry.Entry.{Entry}
+use Rattle.brc_words.specs.Notes.{bare}
 use Rattle.brc_words.specs.declared.key.Key.{Key}
 use Rattle.brc_count.specs.law.declared.rule.contents.Contents.{Contents}
 use Rattle.brc_count.specs.law.declared.rule.contents.Contents.TheVariants as contents
@@ -31,6 +33,10 @@ abbrev pub cell_meant : (ℕ → ℕ) → Reference → ℕ
 cell_meant cells (references.Small number) = cell_of_small number
 cell_meant cells (references.Object place) = cells place
 
+-- the entry that refers to it: nothing is noted beside what a script puts in
+abbrev pub entry_meant : (ℕ → ℕ) → Reference → Entry
+entry_meant cells reference = bare (cell_meant cells reference)
+
 -- it means an object of the part, or an integer that is there always
 abbrev pub IsMeant : (ℕ → Bool) → Reference → Type 0
 IsMeant part (references.Small number) = is_small number ≡ true
@@ -41,10 +47,10 @@ module _ {A : Type 0} where
   abbrev pub contents_meant : (ℕ → ℕ) → Object A → Contents
   contents_meant cells (objects.Int number) = contents.Int number
   contents_meant cells (objects.Text bytes) = contents.Text bytes
-  contents_meant cells (objects.List entries) = contents.«List» (map (cell_meant cells) entries)
+  contents_meant cells (objects.List entries) = contents.«List» (map (entry_meant cells) entries)
   contents_meant cells (objects.Dict pairs) =
-      contents.Dict (map (λ (pair : Key A × Reference). (plain_key pair.0, cell_meant cells pair.1)) pairs)
-  contents_meant cells (objects.Mailbox entries) = contents.Mailbox (map (cell_meant cells) entries)
+      contents.Dict (map (λ (pair : Key A × Reference). (plain_key pair.0, entry_meant cells pair.1)) pairs)
+  contents_meant cells (objects.Mailbox entries) = contents.Mailbox (map (entry_meant cells) entries)
 
   -- ---- objects
 

@@ -1,6 +1,7 @@
 -- The logs of seats after the parts that worked runs share. The list is at cell 266, and the globals have it under a
 -- key.
 use Rattle.std.specs.Prelude.{◌≡◌, ℕ, ◌+◌, ◌*◌, ◌%◌, ◌^◌, ℤ, pos, true, List, [], ◌∷◌}
+use Rattle.brc_words.specs.Notes.{bare}
 use Rattle.brc_words.specs.declared.kind.Kind.{Kind}
 use Rattle.brc_words.specs.declared.kind.Kind.TheVariants as kinds
 use Rattle.law.specs.declared.world.event.Change.{Change}
@@ -35,10 +36,10 @@ abbrev pub bare_globals : Contents
 bare_globals = contents.Dict []
 
 abbrev pub with_entry : ℤ → ℕ → Contents
-with_entry key cell = contents.Dict ((plain.Int key, cell) ∷ [])
+with_entry key cell = contents.Dict ((plain.Int key, bare cell) ∷ [])
 
 abbrev pub with_entries : ℕ → Contents
-with_entries cell = contents.Dict ((plain.Int (pos 1), cell) ∷ (plain.Int (pos 2), cell) ∷ [])
+with_entries cell = contents.Dict ((plain.Int (pos 1), bare cell) ∷ (plain.Int (pos 2), bare cell) ∷ [])
 
 abbrev pub globals_with : Held → Contents
 globals_with held.Nothing = bare_globals

@@ -1,13 +1,14 @@
 //! What a block of the globals holds, as the worked runs look at it.
 
 ghost use Rattle.std.specs.Prelude.{◌≡◌, ◌↔◌, IsTrue, Some, slice_get};
+ghost use Rattle.brc_words.specs.Notes.{bare};
 ghost use Rattle.brc_words.specs.declared.key.Key.TheVariants as keys;
 ghost use Rattle.brc_table.specs.Shown.{contents_of};
 ghost use Rattle.test_table.specs.Parts.{bare_globals, with_entry, with_entries, globals_with};
 
 use crate::holding::Held;
 use brc_block::{Block, Pairs, Payload};
-use brc_words::Key;
+use brc_words::{Entry, Key};
 use std::alloc::Allocator;
 
 /// Whether the block is of a dictionary without entries.
@@ -20,12 +21,12 @@ pub(crate) fn is_bare<A: Allocator>(block: &Block<A>) -> bool
     }
 }
 
-/// Whether this key and this cell stand at the place.
+/// Whether this key and this cell stand at the place, with nothing noted.
 fn has_at<A: Allocator>(pairs: &Pairs<A>, index: usize, key: i64, cell: u32) -> bool
-    ensures { IsTrue result → slice_get pairs.now.items index ≡ Some (keys.Int key, cell) }
+    ensures { IsTrue result → slice_get pairs.now.items index ≡ Some (keys.Int key, bare cell) }
 {
     match pairs.pair(index) {
-        Some((Key::Int(there), entry)) => *there == key && entry == cell,
+        Some((Key::Int(there), entry)) => *there == key && entry == Entry::bare(cell),
         _ => false,
     }
 }

@@ -1,6 +1,7 @@
 //! What the worked runs share: a table that opens, the blocks of a list and of the globals, and an object's end.
 
 ghost use Rattle.std.specs.Prelude.{◌≡◌, ◌<◌, ◌++◌, [], ◌∷◌, None, IfSome, true};
+ghost use Rattle.brc_words.specs.Notes.{bare};
 ghost use Rattle.brc_words.specs.declared.key.Key.TheVariants as keys;
 ghost use Rattle.brc_block.specs.declared.payload.Payload.TheVariants as payloads;
 ghost use Rattle.law.specs.world.Lists.{is_marked};
@@ -23,7 +24,7 @@ use crate::globals::shows;
 use crate::holding::Held;
 use brc_block::{Block, CellList, Entries, KeyRef, Pairs, Payload};
 use brc_table::{HeapTable, RootSeat, ThreadSeat};
-use brc_words::{GLOBALS, Key};
+use brc_words::{Entry, GLOBALS, Key};
 use std::alloc::Allocator;
 use std::process::Abort;
 
@@ -125,12 +126,12 @@ pub(crate) fn locked<A: Allocator>(
 
 /// A pair more, whose key isn't there yet.
 fn put_last<A: Allocator + Copy>(rt: &impl Abort, pairs: &mut Pairs<A>, key: i64, cell: u32)
-    ensures { pairs.new.items ≡ pairs.old.items ++ (keys.Int key, cell) ∷ [] }
+    ensures { pairs.new.items ≡ pairs.old.items ++ (keys.Int key, bare cell) ∷ [] }
 {
     let key = Key::Int(key);
     match pairs.find(KeyRef::of(&key)) {
         Some(_) => panic!(rt; "the key is there"),
-        None => assert!(rt; pairs.put(key, cell).is_ok()),
+        None => assert!(rt; pairs.put(key, Entry::bare(cell)).is_ok()),
     }
 }
 

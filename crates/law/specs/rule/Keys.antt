@@ -1,6 +1,7 @@
 -- The keys of a dictionary, and what becomes of them as it is unlocked.
-use Rattle.std.specs.Prelude.{◌≡◌, ◌≢◌, ℕ, ◌++◌, List, [], ◌∷◌, map, remove}
+use Rattle.std.specs.Prelude.{◌≡◌, ◌≢◌, ◌++◌, List, [], ◌∷◌, map, remove}
 use Rattle.std.specs.List.{All, AllPairs}
+use Rattle.brc_words.specs.declared.entry.Entry.{Entry}
 use Rattle.law.specs.declared.world.event.Change.{Change}
 use Rattle.law.specs.declared.world.event.Change.TheVariants.{Keep, Put, Take, Swap}
 use Rattle.law.specs.declared.world.event.Step.{Step}
@@ -11,7 +12,7 @@ use Rattle.law.specs.declared.rule.contents.Contents.TheVariants.{Dict}
 
 -- the keys of a dictionary, in the order in which they came; nothing else has keys
 abbrev pub keys_in : Contents → List PlainKey
-keys_in (Dict pairs) = map (λ (pair : PlainKey × ℕ). pair.0) pairs
+keys_in (Dict pairs) = map (λ (pair : PlainKey × Entry). pair.0) pairs
 keys_in _ = []
 
 -- no key stands twice

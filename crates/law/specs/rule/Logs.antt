@@ -2,6 +2,8 @@
 use Rattle.std.specs.Prelude.{◌≡◌, ℕ, ◌==◌, Bool, true, false, if◌then◌else◌, pos, ◌-ℤ◌, List, [], ◌∷◌, ◌++◌, map}
 use Rattle.std.specs.Prelude.{Option, Some, None}
 use Rattle.brc_words.specs.declared.limits.TheConstants.{GLOBALS}
+use Rattle.brc_words.specs.declared.entry.Entry.{Entry}
+use Rattle.brc_words.specs.Notes.{cells_of}
 use Rattle.brc_words.specs.declared.kind.Kind.{Kind}
 use Rattle.brc_words.specs.declared.kind.Kind.TheVariants as kinds
 use Rattle.law.specs.declared.world.event.Step.{Step}
@@ -34,11 +36,16 @@ kind_in (Cells cells) = kinds.List
 kind_in (Dict pairs) = kinds.Dict
 kind_in (Mailbox letters) = kinds.Mailbox
 
+-- the entries, each a cell and what is noted beside it
+abbrev pub noted_in : Contents → List Entry
+noted_in (Cells entries) = entries
+noted_in (Dict pairs) = map (λ (pair : PlainKey × Entry). pair.1) pairs
+noted_in (Mailbox letters) = letters
+noted_in _ = []
+
+-- the cells alone, which are the world's entries
 abbrev pub entries_in : Contents → List ℕ
-entries_in (Cells cells) = cells
-entries_in (Dict pairs) = map (λ (pair : PlainKey × ℕ). pair.1) pairs
-entries_in (Mailbox letters) = letters
-entries_in _ = []
+entries_in contents = cells_of (noted_in contents)
 
 -- ---- items without their contents
 

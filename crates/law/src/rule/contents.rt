@@ -1,5 +1,6 @@
 //! What a block holds, as plain data. Views speak of it; no value of these types is made.
 
+use brc_words::Entry;
 use std::collections::LinkedList;
 
 /// The key of a dictionary's pair.
@@ -8,13 +9,14 @@ pub enum PlainKey {
     Text(LinkedList<u8>),
 }
 
-/// What an object is and holds: of a container the cells, of a dictionary with their keys.
+/// What an object is and holds: of a container the cells, each with what a client noted beside it, of a dictionary with
+/// their keys.
 pub enum Contents {
     Nothing,
     Truth(bool),
     Int(i64),
     Text(LinkedList<u8>),
-    List(LinkedList<u32>),
-    Dict(LinkedList<(PlainKey, u32)>),
-    Mailbox(LinkedList<u32>),
+    List(LinkedList<Entry>),
+    Dict(LinkedList<(PlainKey, Entry)>),
+    Mailbox(LinkedList<Entry>),
 }

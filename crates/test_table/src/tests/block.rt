@@ -5,7 +5,7 @@
 
 use crate::comparing::{holds, same};
 use brc_block::{Block, CellList, Entries, KeyRef, Letters, Pairs, Payload, Worklist};
-use brc_words::{Fault, Key};
+use brc_words::{Entry, Fault, Key, Note};
 use linked_list_allocator::LocalHeap;
 use std::alloc::{Allocator, Global};
 use std::process::Abort;
@@ -15,6 +15,15 @@ fn push_block<A: Allocator>(list: &mut Worklist<A>, alloc: A, cell: u32) {
     if let Ok(block) = Block::new(alloc, cell, Payload::Int(i64::from(cell))) {
         list.push(block);
     }
+}
+
+/// The cell's entry, with a note that no other cell's has.
+fn noted(cell: u32) -> Entry {
+    let note = Note {
+        label: cell.saturating_add(7),
+        bits: u64::MAX.saturating_sub(u64::from(cell)),
+    };
+    Entry::new(cell, note)
 }
 
 /// Takes all the memory that the heap has left.
@@ -38,7 +47,7 @@ fn put_new<A: Allocator + Copy>(
 ) -> Result<(), Key<A>> {
     match pairs.find(KeyRef::of(&key)) {
         Some(_) => panic!(rt; "the key is there"),
-        None => pairs.put(key, cell),
+        None => pairs.put(key, noted(cell)),
     }
 }
 
@@ -51,8 +60,12 @@ fn put_pair<A: Allocator + Copy>(rt: &impl Abort, pairs: &mut Pairs<A>, cell: u3
 /// The last pair has this number as its key and as its cell, and is taken.
 fn pops_pair<A: Allocator>(rt: &impl Abort, pairs: &mut Pairs<A>, number: u32) {
     match pairs.pop() {
-        Some((Key::Int(key), cell)) => {
-            holds(rt, "its end", key == i64::from(number) && cell == number);
+        Some((Key::Int(key), entry)) => {
+            holds(
+                rt,
+                "its end",
+                key == i64::from(number) && entry == noted(number),
+            );
         }
         _ => panic!(rt; "another end"),
     }
@@ -66,7 +79,7 @@ fn small_heap(rt: &impl Abort, alloc: Global) -> LocalHeap {
 /// Two cells are put in, for which there is room.
 fn takes_two(rt: &impl Abort, entries: &mut impl Entries) {
     for cell in [266, 267] {
-        holds(rt, "put", entries.put(cell).is_ok());
+        holds(rt, "put", entries.put(noted(cell)).is_ok());
     }
 }
 
@@ -84,10 +97,10 @@ fn stays<'h>(
     }
     let filler = fill(rt, alloc, heap);
     holds(rt, "no room is made", entries.reserve().is_err());
-    holds(rt, "nothing is put", entries.put(268).is_err());
+    holds(rt, "nothing is put", entries.put(noted(268)).is_err());
     same(rt, "its length", entries.len(), times.saturating_mul(2));
-    same(rt, "its front", entries.entry(0), Some(266));
-    same(rt, "the next", entries.entry(1), Some(267));
+    same(rt, "its front", entries.noted(0), Some(noted(266)));
+    same(rt, "the next", entries.noted(1), Some(noted(267)));
     filler
 }
 
@@ -96,11 +109,16 @@ fn a_list_without_memory_stays(rt: HostRuntime) {
     let heap = small_heap(&rt, rt.alloc());
     let mut cells = CellList::new(Vec::with_capacity(&heap, 2).expect(&rt, "memory"));
     let _filler = stays(&rt, rt.alloc(), &heap, &mut cells, 1);
-    same(&rt, "as it was", cells.as_slice(), [266, 267].as_slice());
+    same(
+        &rt,
+        "as it was",
+        cells.as_slice(),
+        [noted(266), noted(267)].as_slice(),
+    );
 
     // The place of an entry that was taken serves the next one.
-    same(&rt, "its end", cells.pop(), Some(267));
-    holds(&rt, "in its place", cells.put(268).is_ok());
+    same(&rt, "its end", cells.pop(), Some(noted(267)));
+    holds(&rt, "in its place", cells.put(noted(268)).is_ok());
 }
 
 #[test]
@@ -109,8 +127,8 @@ fn a_mailbox_without_memory_stays(rt: HostRuntime) {
     let mut letters = Letters::new(&heap).expect(&rt, "memory");
     // The first growth of a queue makes room for four.
     let _filler = stays(&rt, rt.alloc(), &heap, &mut letters, 2);
-    same(&rt, "its front", letters.take(), Some(266));
-    holds(&rt, "in its place", letters.put(268).is_ok());
+    same(&rt, "its front", letters.take(), Some(noted(266)));
+    holds(&rt, "in its place", letters.put(noted(268)).is_ok());
 }
 
 /// Pairs go in until there is no memory for one, whose key comes back; the answer is its number.
@@ -137,15 +155,15 @@ fn pairs_stay<A: Allocator + Copy>(rt: &impl Abort, pairs: &mut Pairs<A>) {
     same(rt, "where it was", pairs.find(KeyRef::Int(267)), Some(1));
     pops_pair(rt, pairs, refused.saturating_sub(1));
     if pairs.len() > 1 {
-        pairs.set(1, 400);
+        pairs.set(1, noted(400));
         holds(
             rt,
             "removed",
-            matches!(pairs.remove(0), (Key::Int(266), 266)),
+            matches!(pairs.remove(0), (Key::Int(266), entry) if entry == noted(266)),
         );
     }
     same(rt, "where it is now", pairs.find(KeyRef::Int(267)), Some(0));
-    same(rt, "its cell", pairs.entry(0), Some(400));
+    same(rt, "its entry", pairs.noted(0), Some(noted(400)));
 }
 
 #[test]
@@ -164,9 +182,13 @@ fn a_first_pair_without_memory_is_refused(rt: HostRuntime) {
     let heap = small_heap(&rt, rt.alloc());
     let _filler = fill(&rt, rt.alloc(), &heap);
     let mut pairs = Pairs::new(&heap);
-    holds(&rt, "refused", pairs.put(Key::Int(266), 266).is_err());
+    holds(
+        &rt,
+        "refused",
+        pairs.put(Key::Int(266), noted(266)).is_err(),
+    );
     same(&rt, "its length", pairs.len(), 0);
-    same(&rt, "no entry", pairs.entry(0), None);
+    same(&rt, "no entry", pairs.noted(0), None);
 }
 
 #[test]

@@ -1,4 +1,5 @@
 use Rattle.std.proofs.Common.{Some, None, Ok, Err, sym, subst}
+use Rattle.brc_words.specs.Notes.{bare}
 use Rattle.brc_count.specs.block.Lent_Keys.{key_lent}
 use Rattle.brc_things.specs.Called.{Late}
 use Rattle.brc_things.specs.Dict_Calls.{DictPut}
@@ -15,7 +16,8 @@ use Rattle.brc_instructions.proofs.putting_in.put_in.Goals as goal
 
 pub returns-in-Ok-clause-later : goal.returns-in-Ok-clause-later
 returns-in-Ok-clause-later g c =
-    late_puts c.args.frame.now c.list_push.new.frame c.in-Some.object.now.place c.args.given plain_push
+    late_puts c.args.frame.now c.list_push.new.frame c.in-Some.object.now.place c.args.given
+    (λ entry. plain_push (bare entry))
     c.list_push.result c.requires.besides.owned c.list_push.ensures.pushed
 
 pub returns-in-Ok-clause-asked : goal.returns-in-Ok-clause-asked
@@ -31,7 +33,8 @@ returns-in-Ok-clause-asked g c base s reference own means =
 
 pub returns-in-Err-clause-later : goal.returns-in-Err-clause-later
 returns-in-Err-clause-later g c =
-    late_puts c.args.frame.now c.list_push.new.frame c.in-Some.object.now.place c.args.given plain_push
+    late_puts c.args.frame.now c.list_push.new.frame c.in-Some.object.now.place c.args.given
+    (λ entry. plain_push (bare entry))
     c.list_push.result c.requires.besides.owned c.list_push.ensures.pushed
 
 pub returns-in-Err-clause-asked : goal.returns-in-Err-clause-asked
@@ -47,7 +50,8 @@ returns-in-Err-clause-asked g c base s reference own means =
 
 pub returns-in-Ok-list_set-clause-later : goal.returns-in-Ok-list_set-clause-later
 returns-in-Ok-list_set-clause-later g c =
-    late_swaps c.args.frame.now c.list_set.new.frame c.in-Some.object.now.place c.args.given (plain_set c.in-Set.index)
+    late_swaps c.args.frame.now c.list_set.new.frame c.in-Some.object.now.place c.args.given
+    (λ entry. plain_set c.in-Set.index (bare entry))
     c.list_set.result c.requires.besides.owned c.list_set.ensures.set
 
 pub returns-in-Ok-list_set-clause-asked : goal.returns-in-Ok-list_set-clause-asked
@@ -65,7 +69,8 @@ returns-in-Ok-list_set-clause-asked g c base s reference own means =
 
 pub returns-in-Err-list_set-clause-later : goal.returns-in-Err-list_set-clause-later
 returns-in-Err-list_set-clause-later g c =
-    late_swaps c.args.frame.now c.list_set.new.frame c.in-Some.object.now.place c.args.given (plain_set c.in-Set.index)
+    late_swaps c.args.frame.now c.list_set.new.frame c.in-Some.object.now.place c.args.given
+    (λ entry. plain_set c.in-Set.index (bare entry))
     c.list_set.result c.requires.besides.owned c.list_set.ensures.set
 
 pub returns-in-Err-list_set-clause-asked : goal.returns-in-Err-list_set-clause-asked
@@ -83,7 +88,8 @@ returns-in-Err-list_set-clause-asked g c base s reference own means =
 
 pub returns-in-Ok-send-clause-later : goal.returns-in-Ok-send-clause-later
 returns-in-Ok-send-clause-later g c =
-    late_puts c.args.frame.now c.send.new.frame c.in-Some.object.now.place c.args.given plain_send
+    late_puts c.args.frame.now c.send.new.frame c.in-Some.object.now.place c.args.given
+    (λ entry. plain_send (bare entry))
     c.send.result c.requires.besides.owned c.send.ensures.sent
 
 pub returns-in-Ok-send-clause-asked : goal.returns-in-Ok-send-clause-asked
@@ -99,7 +105,8 @@ returns-in-Ok-send-clause-asked g c base s reference own means =
 
 pub returns-in-Err-send-clause-later : goal.returns-in-Err-send-clause-later
 returns-in-Err-send-clause-later g c =
-    late_puts c.args.frame.now c.send.new.frame c.in-Some.object.now.place c.args.given plain_send
+    late_puts c.args.frame.now c.send.new.frame c.in-Some.object.now.place c.args.given
+    (λ entry. plain_send (bare entry))
     c.send.result c.requires.besides.owned c.send.ensures.sent
 
 pub returns-in-Err-send-clause-asked : goal.returns-in-Err-send-clause-asked

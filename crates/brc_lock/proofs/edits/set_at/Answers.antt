@@ -7,6 +7,6 @@ use Rattle.brc_lock.proofs.edits.set_at.Goals as goal
 
 pub returns-in-Dict : goal.returns-in-Dict
 returns-in-Dict g c =
-    ap contents.Dict (plain_set c.in-Dict.pairs.items c.set-in-Dict.new.self.items c.args.index c.args.cell
+    ap contents.Dict (plain_set c.in-Dict.pairs.items c.set-in-Dict.new.self.items c.args.index c.args.entry
     c.set-in-Dict.ensures.keys c.set-in-Dict.ensures.set)
-    ∙ sym (ap (λ p. replaced (contents_of p) c.args.index c.args.cell) c.in-Dict.is)
+    ∙ sym (ap (λ p. replaced (contents_of p) c.args.index c.args.entry) c.in-Dict.is)

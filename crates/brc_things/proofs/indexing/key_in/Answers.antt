@@ -5,9 +5,9 @@ use Rattle.brc_things.proofs.indexing.key_in.Goals as goal
 
 pub returns-in-Ok-clause-found : goal.returns-in-Ok-clause-found
 returns-in-Ok-clause-found g c =
-    key_there c.args.payload.now c.args.index c.in_ok-key.key.now c.in_ok-key._cell c.in_ok-key.ensures.there
+    key_there c.args.payload.now c.args.index c.in_ok-key.key.now c.in_ok-key._entry c.in_ok-key.ensures.there
     ∙ ap (λ key. Ok (key, contents_of c.args.payload.now)) (sym c.in-Ok.ensures)
 
 pub returns-in-Err-clause-refused : goal.returns-in-Err-clause-refused
 returns-in-Err-clause-refused g c =
-    key_may c.args.payload.now c.args.index c.in_ok-key.key.now c.in_ok-key._cell c.in_ok-key.ensures.there
+    key_may c.args.payload.now c.args.index c.in_ok-key.key.now c.in_ok-key._entry c.in_ok-key.ensures.there

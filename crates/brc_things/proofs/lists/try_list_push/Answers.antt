@@ -1,10 +1,11 @@
+use Rattle.brc_words.specs.Notes.{bare}
 use Rattle.brc_things.specs.Plain_Lists.{plain_push}
 use Rattle.brc_things.proofs.Joining.{puts_value}
 use Rattle.brc_things.proofs.lists.try_list_push.Goals as goal
 
 pub returns-clause-pushed : goal.returns-clause-pushed
 returns-clause-pushed g c =
-    puts_value c.args.value.place plain_push c.put_locked.result
+    puts_value c.args.value.place (λ cell. plain_push (bare cell)) c.put_locked.result
     c.begin.new.self c.put_locked.new.frame c.in-Some.ensures.began c.begin.ensures.keeps c.begin.ensures.frame
     c.put_locked.ensures.thread c.put_locked.ensures.put c.put_locked.ensures.frame c.put_locked.ensures.kept
     c.put_locked.ensures.refused

@@ -8,9 +8,9 @@ use Rattle.brc_things.proofs.placing.place_locked.Goals as goal
 
 pub returns-in-There-clause-reads : goal.returns-in-There-clause-reads
 returns-in-There-clause-reads g c = λ before k since.
-    place_since before c.args.frame.now c.end_keep.new.self k c.in-There.index c.in-There.cell c.args.block
+    place_since before c.args.frame.now c.end_keep.new.self k c.in-There.index c.in-There.entry c.args.block
     (key_lent c.args.key) (stood before c.args.frame.now k c.args.block since) c.end_keep.ensures.ended
-    (subst (λ p. HasKeyAt p (key_lent c.args.key) c.in-There.index c.in-There.cell) c.payload.ensures
+    (subst (λ p. HasKeyAt p (key_lent c.args.key) c.in-There.index c.in-There.entry) c.payload.ensures
     c.in-There.ensures)
 
 pub returns-in-Absent-clause-refused : goal.returns-in-Absent-clause-refused

@@ -1,4 +1,5 @@
 use Rattle.std.proofs.Common.{refl, subst, length}
+use Rattle.brc_words.specs.Notes.{bare}
 use Rattle.brc_words.specs.declared.key.Key.{Key}
 use Rattle.brc_count.specs.block.Lent_Keys.{key_lent}
 use Rattle.brc_count.specs.block.Payload.{entries_of}
@@ -8,7 +9,7 @@ use Rattle.brc_things.proofs.putting.append_copy.Goals as goal
 
 pub returns-in-Err-clause-refused : goal.returns-in-Err-clause-refused
 returns-in-Err-clause-refused g c = λ before k since value at.
-    refused_append before c.args.frame.now c.end_keep.new.self k c.args.block (key_lent c.args.key) value c.in-Err.fault
+    refused_append before c.args.frame.now c.end_keep.new.self k c.args.block (key_lent c.args.key) (bare value) c.in-Err.fault
     (stood before c.args.frame.now k c.args.block since)
     (ended_same c.args.frame.now c.end_keep.new.self _ c.args.block c.args.block.1 c.end_keep.ensures.ended refl)
     c.requires.absent

@@ -1,6 +1,8 @@
-use Rattle.std.proofs.Common.{All, ◌≢◌, ◌<◌, ◌++◌, [], ◌∷◌, None, subst, sym, ◌∙◌, ap, length}
+use Rattle.std.proofs.Common.{All, ◌≢◌, ◌<◌, ◌++◌, [], ◌∷◌, Some, None, subst, sym, ◌∙◌, ap, length}
 use Rattle.brc_words.specs.declared.limits.TheConstants.{MOST_ENTRIES}
-use Rattle.brc_count.specs.block.Payload.{entries_of, keys_of, kind_of}
+use Rattle.brc_words.specs.declared.entry.Entry.{Entry}
+use Rattle.brc_words.specs.Notes.{bare}
+use Rattle.brc_count.specs.block.Payload.{noted_of, entries_of, keys_of, kind_of}
 use Rattle.brc_count.specs.table.Shown.{contents_of}
 use Rattle.brc_count.specs.Locking.{contents_found}
 use Rattle.brc_count.proofs.Keys_Shown.{keyed_put}
@@ -14,7 +16,7 @@ use Rattle.brc_things.proofs.putting.append_locked.Goals as goal
 pub returns-in-Err-clause-refused : goal.returns-in-Err-clause-refused
 returns-in-Err-clause-refused g c = λ before k since value at.
     let lent = c.payload_mut.ensures.value in
-    refused_append before c.args.frame.now c.end_keep.new.self k c.args.block c.args.key value c.in-Err.fault
+    refused_append before c.args.frame.now c.end_keep.new.self k c.args.block c.args.key (bare value) c.in-Err.fault
     (stood before c.args.frame.now k c.args.block since)
     (ended_same c.args.frame.now c.end_keep.new.self _ c.args.block c.make_room.new.payload c.end_keep.ensures.ended
     (c.make_room.ensures.contents ∙ ap contents_of lent))
@@ -31,11 +33,11 @@ put_pair_reserved-requires-clause-absent g c =
 
 pub end_put-requires-clause-entries : goal.end_put-requires-clause-entries
 end_put-requires-clause-entries g c = λ value at.
-    entries_put c.args.frame.now c.args.block.1 c.put_pair_reserved.new.self c.cell-cell.result value c.requires.found
-    (c.put_pair_reserved.ensures.put ∙ ap (λ es. es ++ c.cell-cell.result ∷ [])
+    entries_put c.args.frame.now c.args.block.1 c.put_pair_reserved.new.self c.bare-entry.result.cell value c.requires.found
+    (c.put_pair_reserved.ensures.put ∙ ap (λ es. es ++ c.bare-entry.result.cell ∷ [])
     (ap entries_of c.payload_mut-2.ensures.value ∙ c.make_room.ensures.entries
     ∙ ap entries_of c.payload_mut.ensures.value))
-    (sym c.cell-cell.ensures.cell ∙ at)
+    (ap (λ (e : Entry). Some e.cell) c.bare-entry.ensures ∙ sym c.cell-cell.ensures.cell ∙ at)
 
 pub end_put-requires-clause-keys : goal.end_put-requires-clause-keys
 end_put-requires-clause-keys g c =
@@ -52,13 +54,14 @@ returns-clause-put g c = λ before k since.
     let lent = c.payload_mut.ensures.value in
     let again = c.payload_mut-2.ensures.value in
     puts_since before c.args.frame.now c.end_put.new.self k c.args.value.place c.args.block c.put_pair_reserved.new.self
-    (plain_put c.args.key) None c.cell-cell.result
+    (λ cell. plain_put c.args.key (bare cell)) None c.cell-cell.result
     (stood before c.args.frame.now k c.args.block since) c.end_put.ensures.ended c.cell-cell.ensures.cell
-    (put_new c.args.key c.cell-cell.result c.args.block.1 c.put_pair_reserved.new.self c.requires.absent
+    (put_new c.args.key (bare c.cell-cell.result) c.args.block.1 c.put_pair_reserved.new.self c.requires.absent
     (subst (λ p. length (entries_of p) < MOST_ENTRIES) lent c.in_default.ensures.few)
     (c.put_pair_reserved.ensures.kind ∙ ap kind_of again ∙ c.make_room.ensures.kind ∙ ap kind_of lent)
     (c.put_pair_reserved.ensures.keys ∙ ap (λ ks. ks ++ c.args.key ∷ []) (ap keys_of again ∙ c.make_room.ensures.keys
     ∙ ap keys_of lent))
-    (c.put_pair_reserved.ensures.put ∙ ap (λ es. es ++ c.cell-cell.result ∷ []) (ap entries_of again
-    ∙ c.make_room.ensures.entries ∙ ap entries_of lent)))
+    (c.put_pair_reserved.ensures.noted ∙ ap (λ es. es ++ c.bare-entry.result ∷ []) (ap noted_of again
+    ∙ c.make_room.ensures.noted ∙ ap noted_of lent)
+    ∙ ap (λ e. noted_of c.args.block.1 ++ e ∷ []) c.bare-entry.ensures))
     c.end_put.ensures.places c.end_put.ensures.len

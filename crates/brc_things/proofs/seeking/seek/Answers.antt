@@ -12,7 +12,7 @@ returns-in_default-find g c = record {
 
 pub unreachable-requires : goal.unreachable-requires
 unreachable-requires g c =
-    cell_beside (key_lent c.args.key) c.in-Dict.pairs.items c.in-Some.index c.in-Some.ensures.found (sym c.entry.ensures
+    cell_beside (key_lent c.args.key) c.in-Dict.pairs.items c.in-Some.index c.in-Some.ensures.found (sym c.noted.ensures
     ∙ c.in-None.is)
 
 pub returns : goal.returns
@@ -21,5 +21,5 @@ returns g c = record {
   is = c.in-Dict.is;
   stands = first_stands (key_lent c.args.key) c.in-Dict.pairs.items c.in-Some.index c.in-Some.ensures.found
       c.in-Some.ensures.first;
-  beside = sym c.entry.ensures ∙ c.in-Some-entry.is;
+  beside = sym c.noted.ensures ∙ c.in-Some-noted.is;
 }

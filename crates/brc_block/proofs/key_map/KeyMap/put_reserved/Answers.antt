@@ -8,7 +8,7 @@ use Rattle.brc_block.proofs.key_map.KeyMap.put_reserved.Goals as goal
 pub returns-clause-put : goal.returns-clause-put
 returns-clause-put g c =
     c.in-Ok.ensures.entries
-    ∙ insert_entry-new same_key c.self.inside.map c.args.key c.args.cell
+    ∙ insert_entry-new same_key c.self.inside.map c.args.key c.args.entry
     (none_there c.args.key c.self.inside.map.entries
     (subst (λ row. All (λ other. other ≢ c.args.key) (keys_in row.items)) (sym c.self.view_is) c.requires.absent))
-    ∙ ap (λ row. row.items ++ (c.args.key, c.args.cell) ∷ []) c.self.view_is
+    ∙ ap (λ row. row.items ++ (c.args.key, c.args.entry) ∷ []) c.self.view_is

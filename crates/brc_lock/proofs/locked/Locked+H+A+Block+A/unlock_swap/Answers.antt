@@ -1,4 +1,5 @@
 use Rattle.std.proofs.Common.{refl, sym, ◌∙◌, ap, subst, slice_set}
+use Rattle.brc_words.specs.declared.entry.Entry.{Entry}
 use Rattle.brc_count.specs.Locking.{contents_found, entries_found, ChangesPlace}
 use Rattle.brc_lock.proofs.Edited.{found_entry, replaced_found, keys_found_again, some_same}
 use Rattle.brc_lock.proofs.locked.«Locked+H+A+Block+A».unlock_swap.Goals as goal
@@ -13,15 +14,15 @@ end_swap-requires-clause-entry g c =
 pub end_swap-requires-clause-entries : goal.end_swap-requires-clause-entries
 end_swap-requires-clause-entries g c = λ k at.
     replaced_found c.args.self.block.1 c.payload_mut.result.now c.set_at.new.payload
-    (contents_found c.args.self.frame.now) c.args.index c.cell-cell.result
+    (contents_found c.args.self.frame.now) c.args.index c.bare-entry.result
     c.requires.holds.found c.payload_mut.ensures.value c.set_at.ensures
     ∙ ap (slice_set (entries_found c.args.self.frame.now) c.args.index)
-    (some_same c.cell-cell.result k (sym c.cell-cell.ensures.cell ∙ at))
+    (ap (λ (e : Entry). e.cell) c.bare-entry.ensures ∙ some_same c.cell-cell.result k (sym c.cell-cell.ensures.cell ∙ at))
 
 pub end_swap-requires-clause-keys : goal.end_swap-requires-clause-keys
 end_swap-requires-clause-keys g c =
     keys_found_again c.args.self.block.1 c.payload_mut.result.now c.set_at.new.payload
-    (contents_found c.args.self.frame.now) c.args.index c.cell-cell.result
+    (contents_found c.args.self.frame.now) c.args.index c.bare-entry.result
     c.requires.holds.found c.payload_mut.ensures.value c.set_at.ensures
 
 pub returns-clause-places : goal.returns-clause-places

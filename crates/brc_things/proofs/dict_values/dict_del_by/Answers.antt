@@ -2,7 +2,7 @@ use Rattle.brc_count.specs.block.Lent_Keys.{key_lent}
 use Rattle.brc_things.specs.Changing.{CallTakes, RefusedPlace}
 use Rattle.brc_things.specs.Plain_Dicts.{plain_del}
 use Rattle.brc_things.proofs.Since_Law.{locked_late, hands_out}
-use Rattle.brc_things.proofs.values.dict_del_by.Goals as goal
+use Rattle.brc_things.proofs.dict_values.dict_del_by.Goals as goal
 
 pub returns-clause-takes : goal.returns-clause-takes
 returns-clause-takes g c =

@@ -2,7 +2,7 @@ use Rattle.brc_count.specs.block.Lent_Keys.{key_lent}
 use Rattle.brc_things.specs.Changing.{Shares, RefusedPlace}
 use Rattle.brc_things.specs.Plain_Dicts.{plain_find}
 use Rattle.brc_things.proofs.Since_Law.{locked_late, hands_out}
-use Rattle.brc_things.proofs.values.dict_find_by.Goals as goal
+use Rattle.brc_things.proofs.dict_values.dict_find_by.Goals as goal
 
 pub returns-clause-shares : goal.returns-clause-shares
 returns-clause-shares g c =

@@ -3,7 +3,7 @@ use Rattle.brc_things.specs.Changing.{CallTakes, RefusedPlace}
 use Rattle.brc_things.specs.Plain_Dicts.{plain_del}
 use Rattle.brc_things.specs.Since.{JustLocked}
 use Rattle.brc_things.proofs.Since_Law.{hands_out}
-use Rattle.brc_things.proofs.values.try_dict_del_by.Goals as goal
+use Rattle.brc_things.proofs.dict_values.try_dict_del_by.Goals as goal
 
 pub returns-clause-takes : goal.returns-clause-takes
 returns-clause-takes g c =

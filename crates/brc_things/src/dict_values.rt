@@ -42,8 +42,8 @@ fn find_locked<H: HasTable<A>, A: Allocator>(
         (λ before k. RefusedPlace before frame.new k (plain_find {A = A} (key_lent key.entry)) fault)) }
     ensures waits { IfErr result (λ fault. fault ≢ faults.Busy) }
 {
-    let (index, cell) = match seek(block.payload(), key) {
-        Sought::There { index, cell } => (index, cell),
+    let (index, entry) = match seek(block.payload(), key) {
+        Sought::There { index, entry } => (index, entry),
         Sought::Absent => {
             frame.end_keep(block);
             return Err(Fault::NoSuchKey);
@@ -57,7 +57,7 @@ fn find_locked<H: HasTable<A>, A: Allocator>(
         frame.end_keep(block);
         return Err(fault);
     }
-    let given = frame.up_entry(index as u32, cell);
+    let given = frame.up_entry(index as u32, entry.cell);
     frame.end_keep(block);
     Ok(given)
 }
@@ -159,8 +159,8 @@ fn del_locked<H: HasTable<A>, A: Allocator>(
         (λ before k. RefusedPlace before frame.new k (plain_del {A = A} (key_lent key.entry)) fault)) }
     ensures waits { IfErr result (λ fault. fault ≢ faults.Busy) }
 {
-    let (index, cell) = match seek(block.payload(), key) {
-        Sought::There { index, cell } => (index, cell),
+    let (index, entry) = match seek(block.payload(), key) {
+        Sought::There { index, entry } => (index, entry),
         Sought::Absent => {
             frame.end_keep(block);
             return Err(Fault::NoSuchKey);
@@ -175,8 +175,8 @@ fn del_locked<H: HasTable<A>, A: Allocator>(
         return Err(fault);
     }
     let place = index as u32;
-    let _cell = block.payload_mut().remove(index);
-    Ok(frame.end_take(block, place, cell))
+    let _entry = block.payload_mut().remove(index);
+    Ok(frame.end_take(block, place, entry.cell))
 }
 
 /// As `try_dict_del`, by a key that is lent.

@@ -1,0 +1,13 @@
+//! A note.
+
+/// A client's own: what it takes the entry for, and bits that go with it.
+#[derive(Clone, Copy, Debug, PartialEq, Eq)]
+pub struct Note {
+    pub label: u32,
+    pub bits: u64,
+}
+
+impl Note {
+    /// Where nothing was noted.
+    pub const NONE: Note = Note { label: 0, bits: 0 };
+}
