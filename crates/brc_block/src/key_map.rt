@@ -100,6 +100,7 @@ impl<A: Allocator> KeyMap<A> {
     }
 
     /// Makes room for one more pair. Where the memory is refused the room may still be more than it was.
+    #[inline(always)]
     pub(crate) fn reserve(&mut self) -> Result<(), AllocError>
         ensures items { self.new.items ≡ self.old.items }
         ensures kept { self.old.spare ≤ self.new.spare }
@@ -110,6 +111,7 @@ impl<A: Allocator> KeyMap<A> {
     }
 
     /// One more pair, of a key that isn't there, at the end, in the room that was made for it.
+    #[inline(always)]
     pub(crate) fn put_reserved(&mut self, key: Key<A>, entry: Entry)
         requires room { 0 < self.old.spare }
         requires absent { All (λ other. other ≢ key) (keys_in self.old.items) }

@@ -71,6 +71,7 @@ impl<A: Allocator> Entries for Letters<A> {
         self.queue.get(index).copied()
     }
 
+    #[inline(always)]
     fn reserve(&mut self) -> Result<(), AllocError> {
         let len = self.queue.len();
         if len < self.queue.capacity() {

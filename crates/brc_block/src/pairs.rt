@@ -103,6 +103,7 @@ impl<A: Allocator> Pairs<A> {
     }
 
     /// One more entry, of a key that isn't there, at the end, in the room that was made for it.
+    #[inline(always)]
     pub fn put_reserved(&mut self, key: Key<A>, entry: Entry)
         requires room { 0 < self.old.spare }
         requires absent { All (λ other. other ≢ key) (keys_in self.old.items) }
@@ -158,6 +159,7 @@ impl<A: Allocator> Pairs<A> {
 
 impl<A: Allocator + Copy> Pairs<A> {
     /// Makes room for one more entry: the next put takes no memory then.
+    #[inline(always)]
     pub fn reserve(&mut self) -> Result<(), AllocError>
         ensures items { self.new.items ≡ self.old.items }
         ensures kept { self.old.spare ≤ self.new.spare }

@@ -103,6 +103,7 @@ impl<A: Allocator> Payload<A> {
 
     #[tactic(auto, using(brc_words::proofs::Cells::cells_put))]
     /// One more entry of a dictionary, of a key that isn't there, at the end, in the room that was made for it.
+    #[inline(always)]
     pub fn put_pair_reserved(&mut self, key: Key<A>, entry: Entry)
         requires keyed { kind_of self.old ≡ kinds.Dict }
         requires room { 0 < spare_of self.old }

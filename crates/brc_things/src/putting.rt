@@ -26,9 +26,9 @@ use std::alloc::Allocator;
 use std::sync::Wait;
 
 /// Makes room for one more pair: Full where a dictionary has as many as it may, then OutOfMemory.
-#[inline]
+#[inline(always)]
 #[tactic(auto, using(crate::proofs::Shown::shown_again))]
-fn make_room<A: Allocator + Copy>(payload: &mut Payload<A>) -> Result<(), Fault>
+pub(crate) fn make_room<A: Allocator + Copy>(payload: &mut Payload<A>) -> Result<(), Fault>
     requires dict { kind_of payload.old ≡ kinds.Dict }
     ensures kind { kind_of payload.new ≡ kind_of payload.old }
     ensures entries { entries_of payload.new ≡ entries_of payload.old }
@@ -89,7 +89,7 @@ fn append_locked<H: HasTable<A>, A: Allocator + Copy>(
 
 /// Another entry for a pair. That the object is a dictionary is known, and not looked at once more.
 #[inline(always)]
-fn set_pair<A: Allocator>(payload: &mut Payload<A>, index: usize, entry: Entry)
+pub(crate) fn set_pair<A: Allocator>(payload: &mut Payload<A>, index: usize, entry: Entry)
     requires dict { kind_of payload.old ≡ kinds.Dict }
     requires within { index < length (entries_of payload.old) }
     ensures set { entries_of payload.new ≡ slice_set (entries_of payload.old) index entry.cell }
@@ -176,7 +176,11 @@ fn put_locked<H: HasTable<A>, A: Allocator + Copy>(
 }
 
 /// A copy of a key that goes into a dictionary: Full where that has as many pairs as it may, then OutOfMemory.
-fn copy_for<A: Allocator>(alloc: A, payload: &Payload<A>, key: KeyRef<'_>) -> Result<Key<A>, Fault>
+pub(crate) fn copy_for<A: Allocator>(
+    alloc: A,
+    payload: &Payload<A>,
+    key: KeyRef<'_>,
+) -> Result<Key<A>, Fault>
     ensures copy { IfOk result (λ copy. copy ≡ key_lent key.entry) }
     ensures refused { IfErr result (RefusedRoomFor (length (entries_of payload.now))) }
 {
