@@ -1,8 +1,10 @@
 mod Place_Lists
+mod Place_Marks
 mod Buried
 pub mod Changes
 mod Framings
 mod Locks
+mod None_Locks
 mod Locked_Entries
 pub mod Keys_Shown
 mod Popping

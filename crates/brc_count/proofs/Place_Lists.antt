@@ -196,6 +196,14 @@ pub inside_few : (places : List Slot) (next len : ℕ) → AreLinked places next
 inside_few places next len are inside =
     omega (arith, inside_spare places next len are inside, vacant_count places, are.few)
 
+-- all have a reference where none is left below 65,536
+pub all_held : (places : List Slot) (next len : ℕ) → AreLinked places next len → MOST_PLACES ≤ next
+    → MOST_PLACES ≤ held_in (shown places next)
+all_held places next len are high = elim (next_cases places next len are) [
+  | inl full ↦ omega (arith, full.0, full.1, high, vacant_count places)
+  | inr some ↦ absurd (omega (arith, high, slice_get_within places next _ some.1, are.few))
+]
+
 pub full_next : (places : List Slot) (next len : ℕ) → AreLinked places next len → spare_in (shown places next) ≡ 0
     → next ≡ length places
 full_next places next len are full = elim (next_cases places next len are) [
@@ -392,6 +400,13 @@ pub fills : (places : List Slot) (next len k : ℕ) (there new : Slot) (held : P
 fills places next len k there new held at are spare read is =
     subst (λ j. Fills places next len j there new held) (sym at)
     (fills_next places next len there new held are spare (subst (λ j. there ≡ get_or places j there) at read) is)
+
+-- a place that has something is one of at most 65,536
+pub filled_low : (places : List Slot) (next len k : ℕ) → AreLinked places next len
+    → is_some (held_at (shown places next) k) ≡ true → k < MOST_PLACES
+filled_low places next len k are filled =
+    let found = filled_place places next k filled in
+    omega (arith, slice_get_within places k found.0 found.2, are.few)
 
 -- a place is vacated
 pub record Vacates (places : List Slot) (next len k : ℕ) : Type 0 where

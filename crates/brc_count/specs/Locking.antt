@@ -3,7 +3,10 @@ use Rattle.std.specs.Prelude.{◌≡◌, ◌≢◌, ◌<◌, ◌≤◌, ℕ, tru
 use Rattle.brc_words.specs.declared.limits.TheConstants.{MOST_ENTRIES}
 use Rattle.brc_table.specs.block.declared.payload.Payload.{Payload}
 use Rattle.brc_table.specs.law.declared.world.event.Change.{Change}
-use Rattle.brc_table.specs.law.declared.world.event.Step.TheVariants.{Lock, Unlock}
+use Rattle.brc_table.specs.law.declared.world.event.Change.TheVariants.{Put, Take, Swap}
+use Rattle.brc_table.specs.law.declared.world.event.Dropped.TheVariants as drops
+use Rattle.brc_table.specs.law.declared.world.event.Source.TheVariants as sources
+use Rattle.brc_table.specs.law.declared.world.event.Step.TheVariants.{Lock, Unlock, LocalDown}
 use Rattle.brc_table.specs.law.declared.known.word.Field.TheVariants.{Mutex}
 use Rattle.brc_table.specs.law.declared.known.word.Word.TheVariants.{Of}
 use Rattle.brc_table.specs.law.known.Taken.{listed_at}
@@ -19,7 +22,8 @@ use Rattle.brc_table.specs.law.payloads.Payloads.{FindsOwn}
 use Rattle.brc_table.specs.law.steps.Taking.{AreCells}
 use Rattle.brc_table.specs.Moving.{found_locked}
 use Rattle.brc_table.specs.Shown.{contents_of}
-use Rattle.brc_count.specs.Frames.{FrameSeen, place_seen, locked_place, lock_seen, popped_seen, IsUnlocked}
+use Rattle.brc_biased.specs.Up.{RaisedImmortal}
+use Rattle.brc_count.specs.Frames.{FrameSeen, HandleSeen, GivenHandle, place_seen, locked_place, lock_seen, popped_seen, IsUnlocked}
 
 -- What a thread knows of the object that it has locked: it stands in a place of the frame; what the locking found, with
 -- the entries that the thread's own part has, not too many, and all of them cells of the heap; and that its block is
@@ -113,6 +117,46 @@ pub record Busy {A : Type 0} (old new : FrameSeen A) (k : ℕ) : Type 0 where
 -- The locked object is changed and unlocked, by one event, and its block is at home.
 pub record UnlockedBy {A : Type 0} (old new : FrameSeen A) (change : Change) (block : ℕ × Payload A) : Type 0 where
   pub event : new.seat.log ≡ Stepped (Unlock change) 0 (moves.Put block.0 (contents_of block.1)) ∷ old.seat.log
+  pub unlocked : IsUnlocked new
+  pub keeps : KeepsThread old new
+
+-- The locked object got the reference to None that stood in a place, and was unlocked; the place has another to None.
+-- That is two events. None is immortal, so no count changed.
+pub record PutsNone {A : Type 0} (old new : FrameSeen A) (k : ℕ) (block : ℕ × Payload A) : Type 0 where
+  pub mid : List LogItem
+  pub ended : mid ≡ Stepped (Unlock (Put k)) 0 (moves.Put block.0 (contents_of block.1)) ∷ old.seat.log
+  pub again : RaisedImmortal (sources.Immortal 0) k mid new.seat.log
+  pub unlocked : IsUnlocked new
+  pub keeps : KeepsThread old new
+
+-- A reference to None came out of an entry of the locked object, which was unlocked, into the next place, and was let go
+-- of. That is two events, and no count changed.
+pub record TakesNone {A : Type 0} (old new : FrameSeen A) (index : ℕ) (block : ℕ × Payload A) : Type 0 where
+  pub mid : List LogItem
+  pub ended : mid ≡ Stepped (Unlock (Take index old.next)) 0 (moves.Put block.0 (contents_of block.1)) ∷ old.seat.log
+  pub found : ℕ
+  pub gone : new.seat.log ≡ Stepped (LocalDown (drops.Frame old.next)) found moves.Nothing ∷ mid
+  pub unlocked : IsUnlocked new
+  pub keeps : KeepsThread old new
+
+-- The reference to None that stood in a place and that of an entry of the locked object, to this cell, were exchanged, and
+-- the object was unlocked; then a new handle got a reference to None, which counts nothing.
+pub record SwapsFresh {A : Type 0} (old new : FrameSeen A) (index k cell : ℕ) (block : ℕ × Payload A)
+    (none : HandleSeen) : Type 0 where
+  pub mid : FrameSeen A
+  pub ended : UnlockedBy old mid (Swap index k) block
+  pub places : ChangesPlace old mid k (Some cell)
+  pub len : mid.len ≡ old.len
+  pub next : mid.next ≡ old.next
+  pub given : GivenHandle mid new (sources.Immortal 0) 0 none
+  pub keeps : KeepsThread old new
+  pub unlocked : IsUnlocked new
+
+-- The reference to None that stood in a place was let go of, in one event by which no count changed.
+pub record LetsNoneGo {A : Type 0} (old new : FrameSeen A) (k : ℕ) : Type 0 where
+  pub found : ℕ
+  pub gone : new.seat.log ≡ Stepped (LocalDown (drops.Frame k)) found moves.Nothing ∷ old.seat.log
+  pub places : ChangesPlace old new k None
   pub unlocked : IsUnlocked new
   pub keeps : KeepsThread old new
 

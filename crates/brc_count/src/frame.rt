@@ -3,7 +3,7 @@
 ghost use Rattle.std.specs.Prelude.{◌≡◌, ◌+◌, ◌-◌, ◌<◌, ◌≤◌, ℕ, Some, None, IsTrue, IsFalse, [], length, replicate};
 ghost use Rattle.std.specs.Prelude.{◌⊎◌, IfOk, IfErr, OnOk, OnErr, IfSome, IfNone, OnSome, true, false};
 ghost use Rattle.brc_words.specs.declared.limits.TheConstants.{FIRST_MORTAL, GLOBALS, MOST_THREADS};
-ghost use Rattle.brc_words.specs.declared.limits.TheConstants.{MOST_REGISTRATIONS};
+ghost use Rattle.brc_words.specs.declared.limits.TheConstants.{MOST_PLACES, MOST_REGISTRATIONS};
 ghost use Rattle.brc_words.specs.declared.fault.Fault.TheVariants.{OutOfMemory};
 ghost use Rattle.brc_table.specs.law.declared.world.event.Source.TheVariants as sources;
 ghost use Rattle.brc_table.specs.law.world.Heap.{words_for};
@@ -14,7 +14,8 @@ ghost use Rattle.brc_table.specs.Seated.{Continues};
 ghost use Rattle.brc_table.specs.law.living.Living.{OwnLog};
 ghost use Rattle.brc_count.specs.Frames.{place_seen, handle_at, Owns, GivenHandle, Refused, ReleasedOf, IsAsBefore};
 ghost use Rattle.brc_count.specs.Frames.{IsUnlocked, Turns, KeepsHandles, KeepsButStart, first_word, word_asked};
-ghost use Rattle.brc_count.specs.Frames.{CountedDown, HasSpare, ledger_seen};
+ghost use Rattle.brc_count.specs.Locking.{LetsNoneGo};
+ghost use Rattle.brc_count.specs.Frames.{CountedDown, HasSpare, IsFull, ledger_seen};
 ghost use Rattle.brc_count.specs.Polling.{Polled};
 ghost use Rattle.brc_count.specs.Closing.{BeginsBy, GoesOut};
 ghost use Rattle.brc_count.specs.Making.{Made, RefusedMaking};
@@ -166,6 +167,15 @@ impl<H: HasTable<A>, A: Allocator> Frame<H, A> {
         self.holdings.places.len()
     }
 
+    /// Whether a place is left for a handle, with memory or without: else there are 65,536.
+    #[inline(always)]
+    pub fn has_vacant(&self) -> bool
+        ensures low { IsTrue result → self.now.next < MOST_PLACES }
+        ensures full { IsFalse result → IsFull self.now }
+    {
+        self.holdings.has_vacant()
+    }
+
     /// The place of the next handle, if it is ready: it is below 65,536, and its memory is there.
     #[inline(always)]
     pub fn spare_place(&self) -> Option<u32>
@@ -312,6 +322,18 @@ impl<H: HasTable<A>, A: Allocator> Frame<H, A> {
         ensures unlocked { IsUnlocked self.new }
     {
         self.holdings.release(handle.into_place());
+    }
+
+    /// The reference of a handle to None goes, in one event that only looks.
+    #[inline(always)]
+    pub fn release_none(&mut self, none: Handle<A>)
+        requires owned { Owns self.old none }
+        requires none { place_seen self.old.heap.cells self.old.seat.log none.place ≡ Some 0 }
+        requires unlocked { IsUnlocked self.old }
+        ensures gone { LetsNoneGo self.old self.new none.place }
+        ensures loses { Loses self.old self.new none }
+    {
+        self.holdings.release_none(none.into_place());
     }
 
     /// The reference goes, as by `release`, if it is one of several that the thread counts: that is one event, and the

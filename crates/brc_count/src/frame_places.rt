@@ -1,6 +1,6 @@
 //! The places of a frame: an array, and through it a list of those that are vacant.
 
-ghost use Rattle.std.specs.Prelude.{◌≡◌, ◌+◌, ◌<◌, ◌==◌, ℕ, [], Some, None, true, IsTrue, IsFalse, is_some};
+ghost use Rattle.std.specs.Prelude.{◌≡◌, ◌≤◌, ◌+◌, ◌<◌, ◌==◌, ℕ, [], Some, None, true, IsTrue, IsFalse, is_some};
 ghost use Rattle.brc_words.specs.declared.limits.TheConstants.{MOST_PLACES};
 ghost use Rattle.brc_count.specs.PlaceList.{held_by};
 ghost use Rattle.brc_count.specs.Places.{held_at, held_in, spare_in, cell_held, Updates};
@@ -163,6 +163,15 @@ impl<A: Allocator> Places<A> {
         (self.next as usize) < self.slots.len()
     }
 
+    /// Whether a place is left, with memory or without: else all 65,536 have something.
+    #[inline(always)]
+    pub(crate) fn has_vacant(&self) -> bool
+        ensures low { IsTrue result → self.now.next < MOST_PLACES }
+        ensures full { IsFalse result → MOST_PLACES ≤ held_in self.now }
+    {
+        self.next < MOST_PLACES
+    }
+
     /// Makes more places; false where there are 65,536, or there is no memory for them.
     #[inline(never)]
     pub(crate) fn grow(&mut self) -> bool
@@ -234,6 +243,7 @@ impl<A: Allocator> Places<A> {
     #[inline(always)]
     pub(crate) fn replace(&mut self, place: u32, held: PlaceEntry)
         requires filled { is_some (held_at self.old place) ≡ true }
+        ensures low { place < MOST_PLACES }
         ensures updates { Updates self.old self.new place (Some held) }
         ensures len { held_in self.new ≡ held_in self.old }
         ensures spare { spare_in self.new ≡ spare_in self.old }

@@ -12,6 +12,7 @@ ghost use Rattle.brc_biased.specs.Standing.{may_give_up};
 ghost use Rattle.brc_table.specs.law.rule.Seen.{part_seen};
 ghost use Rattle.brc_table.specs.Seated.{Continues};
 ghost use Rattle.brc_count.specs.Closing.{IsFirst};
+ghost use Rattle.brc_count.specs.Locking.{LetsNoneGo};
 ghost use Rattle.brc_count.specs.Frames.{IsActive, MayGiveUp, SourceFits, SourceNames, place_seen, locked_place};
 ghost use Rattle.brc_count.specs.Frames.{GivenHandle};
 ghost use Rattle.brc_count.specs.Frames.{IsFull, Refused, ReleasedOf, handle_at, IsAsBefore, KeepsRest, ledger_seen};
@@ -141,6 +142,15 @@ impl<H: HasTable<A>, A: Allocator> Holdings<H, A> {
         self.places.len() >= MOST_PLACES as usize
     }
 
+    /// Whether a place is left, with memory or without: else there are 65,536 handles.
+    #[inline(always)]
+    pub(crate) fn has_vacant(&self) -> bool
+        ensures low { IsTrue result → self.now.next < MOST_PLACES }
+        ensures full { IsFalse result → IsFull self.now }
+    {
+        self.places.has_vacant()
+    }
+
     /// The next place, if it can be filled as it is: it is below 65,536, and its memory is there.
     #[inline(always)]
     pub(crate) fn spare_place(&self) -> Option<u32>
@@ -229,6 +239,21 @@ impl<H: HasTable<A>, A: Allocator> Holdings<H, A> {
 }
 
 impl<H: HasTable<A>, A: Allocator> Holdings<H, A> {
+    /// A place's reference, which is to None, goes. None is immortal, so nothing is counted, and nothing ends.
+    #[inline(always)]
+    pub(crate) fn release_none(&mut self, place: u32)
+        requires none { place_seen self.old.heap.cells self.old.seat.log place ≡ Some 0 }
+        requires stage { MayGiveUp self.old }
+        requires unlocked { IsUnlocked self.old }
+        ensures gone { LetsNoneGo self.old self.new place }
+        ensures len { self.new.len + 1 ≡ self.old.len }
+    {
+        let _held = self.places.take(place);
+        if let Some(gone) = self.counter.give_up(Dropped::Frame(place), 0, false) {
+            self.works.push(gone);
+        }
+    }
+
     /// A place's reference goes, if it is one of several that the thread counts; else nothing is done.
     #[inline(always)]
     pub(crate) fn release_counted(&mut self, place: u32) -> bool

@@ -17,7 +17,7 @@ ghost use Rattle.brc_count.specs.Frames.{Owns, handle_at, IsActive, GivenHandle,
 ghost use Rattle.brc_count.specs.Frames.{popped_seen};
 ghost use Rattle.brc_count.specs.Locking.{IsLocked, cell_in, place_locked, cell_locked, contents_found, entries_found};
 ghost use Rattle.brc_count.specs.Locking.{keys_found, KeepsThread, KeepsFrame, ChangesPlace, KeepsLock, Began, Busy};
-ghost use Rattle.brc_count.specs.Locking.{UnlockedBy};
+ghost use Rattle.brc_count.specs.Locking.{UnlockedBy, PutsNone, TakesNone, SwapsFresh};
 
 use crate::frame::Frame;
 use crate::handle::Handle;
@@ -25,9 +25,10 @@ use crate::held::PlaceEntry;
 use crate::holdings::Holdings;
 use brc_biased::HasTable;
 use brc_table::block::Block;
-use brc_table::law::world::{Change, Source};
+use brc_table::law::world::{Change, Dropped, Source};
 use brc_words::Fault;
 use std::alloc::Allocator;
+use std::mem;
 
 impl<H: HasTable<A>, A: Allocator> Holdings<H, A> {
     /// Locks the object in a place, and answers its block; None where it is found locked.
@@ -143,10 +144,91 @@ impl<H: HasTable<A>, A: Allocator> Holdings<H, A> {
         ensures ended { UnlockedBy self.old self.new (changes.Swap index place) block }
         ensures places { ChangesPlace self.old self.new place (Some cell) }
         ensures len { self.new.len ≡ self.old.len }
+        ensures spare { self.new.spare ≡ self.old.spare }
+        ensures next { self.new.next ≡ self.old.next }
+        ensures active { IsActive self.new }
     {
         self.counter.unlock(block, Change::Swap { index, place });
         self.places
             .replace(place, PlaceEntry { cell, risen: false });
+    }
+
+    /// Unlocks, and a place's reference, which is to None, becomes the last entry. The place has another to None at once:
+    /// None is immortal, so nothing is counted.
+    #[inline(always)]
+    pub(crate) fn end_put_none(&mut self, block: Block<A>, place: u32)
+        requires active { IsActive self.old }
+        requires locked { IsLocked self.old }
+        requires of_cell { cell_locked self.old ≡ Some block.0 }
+        requires none { cell_in self.old place ≡ Some 0 }
+        requires apart { place_locked self.old ≢ Some place }
+        requires container { is_container (kind_in (contents_found self.old)) ≡ true }
+        requires few { length (entries_found self.old) < MOST_ENTRIES }
+        requires same_kind { kind_in (contents_of block.1) ≡ kind_in (contents_found self.old) }
+        requires entries { entries_in (contents_of block.1) ≡ entries_found self.old ++ 0 ∷ [] }
+        requires keys { KeyPut (contents_found self.old) (contents_of block.1) }
+        ensures ended { PutsNone self.old self.new place block }
+        ensures frame { KeepsFrame self.old self.new }
+    {
+        self.places.replace(
+            place,
+            PlaceEntry {
+                cell: 0,
+                risen: false,
+            },
+        );
+        self.counter.unlock(block, Change::Put(place));
+        let _risen = self.counter.up(Source::Immortal(0), place, 0);
+    }
+
+    /// Unlocks, and an entry's reference is the place's, which had one to None; the next place gets one to None. The
+    /// answer is that place.
+    #[inline(always)]
+    pub(crate) fn end_swap_fresh(
+        &mut self,
+        block: Block<A>,
+        index: u32,
+        cell: u32,
+        place: u32,
+    ) -> u32
+        requires active { IsActive self.old }
+        requires locked { IsLocked self.old }
+        requires of_cell { cell_locked self.old ≡ Some block.0 }
+        requires entry { slice_get (entries_found self.old) index ≡ Some cell }
+        requires none { cell_in self.old place ≡ Some 0 }
+        requires apart { place_locked self.old ≢ Some place }
+        requires room { 0 < self.old.spare }
+        requires low { self.old.next < MOST_PLACES }
+        requires container { is_container (kind_in (contents_found self.old)) ≡ true }
+        requires same_kind { kind_in (contents_of block.1) ≡ kind_in (contents_found self.old) }
+        requires entries { entries_in (contents_of block.1) ≡ slice_set (entries_found self.old) index 0 }
+        requires keys { keys_in (contents_of block.1) ≡ keys_found self.old }
+        ensures swapped { SwapsFresh self.old self.new index place cell block (handle_at self.new result) }
+    {
+        self.end_swap(block, index, cell, place);
+        self.fill(Source::Immortal(0), 0)
+    }
+
+    /// Unlocks, and an entry's reference, which is to None, goes: through the next place, which is vacant again at once.
+    #[inline(always)]
+    pub(crate) fn end_take_none(&mut self, block: Block<A>, index: u32)
+        requires active { IsActive self.old }
+        requires locked { IsLocked self.old }
+        requires of_cell { cell_locked self.old ≡ Some block.0 }
+        requires entry { slice_get (entries_found self.old) index ≡ Some 0 }
+        requires low { self.old.next < MOST_PLACES }
+        requires container { is_container (kind_in (contents_found self.old)) ≡ true }
+        requires same_kind { kind_in (contents_of block.1) ≡ kind_in (contents_found self.old) }
+        requires entries { entries_in (contents_of block.1) ≡ remove (entries_found self.old) index }
+        requires keys { keys_in (contents_of block.1) ≡ remove (keys_found self.old) index }
+        ensures ended { TakesNone self.old self.new index block }
+        ensures frame { KeepsFrame self.old self.new }
+    {
+        let place = self.places.next();
+        self.counter.unlock(block, Change::Take { index, place });
+        if let Some(gone) = self.counter.give_up(Dropped::Frame(place), 0, false) {
+            self.works.push(gone);
+        }
     }
 }
 
@@ -276,5 +358,94 @@ impl<H: HasTable<A>, A: Allocator> Frame<H, A> {
     {
         self.holdings.end_swap(block, index, cell, handle.place);
         handle
+    }
+
+    /// Unlocks the object whose block this is; its last entry has a reference to None now, which was the handle's. The
+    /// handle has another at once, so that one handle to None serves for all that is put.
+    #[inline(always)]
+    pub fn end_put_none(&mut self, block: Block<A>, none: &Handle<A>)
+        requires locked { IsLocked self.old }
+        requires of_cell { cell_locked self.old ≡ Some block.0 }
+        requires owned { Owns self.old none.now }
+        requires none { cell_in self.old none.now.place ≡ Some 0 }
+        requires apart { place_locked self.old ≢ Some none.now.place }
+        requires container { is_container (kind_in (contents_found self.old)) ≡ true }
+        requires few { length (entries_found self.old) < MOST_ENTRIES }
+        requires same_kind { kind_in (contents_of block.1) ≡ kind_in (contents_found self.old) }
+        requires entries { entries_in (contents_of block.1) ≡ entries_found self.old ++ 0 ∷ [] }
+        requires keys { KeyPut (contents_found self.old) (contents_of block.1) }
+        ensures ended { PutsNone self.old self.new none.now.place block }
+        ensures frame { KeepsFrame self.old self.new }
+    {
+        self.holdings.end_put_none(block, none.place);
+    }
+
+    /// Unlocks the object whose block this is; a reference to None, which an entry has, and the handle's are exchanged. So
+    /// the world stays as it is.
+    #[inline(always)]
+    pub fn end_swap_none(&mut self, block: Block<A>, index: u32, none: &Handle<A>)
+        requires locked { IsLocked self.old }
+        requires of_cell { cell_locked self.old ≡ Some block.0 }
+        requires entry { slice_get (entries_found self.old) index ≡ Some 0 }
+        requires owned { Owns self.old none.now }
+        requires none { cell_in self.old none.now.place ≡ Some 0 }
+        requires apart { place_locked self.old ≢ Some none.now.place }
+        requires container { is_container (kind_in (contents_found self.old)) ≡ true }
+        requires same_kind { kind_in (contents_of block.1) ≡ kind_in (contents_found self.old) }
+        requires entries { entries_in (contents_of block.1) ≡ slice_set (entries_found self.old) index 0 }
+        requires keys { keys_in (contents_of block.1) ≡ keys_found self.old }
+        ensures ended { UnlockedBy self.old self.new (changes.Swap index none.now.place) block }
+        ensures frame { KeepsFrame self.old self.new }
+    {
+        self.holdings.end_swap(block, index, 0, none.place);
+    }
+
+    /// Unlocks the object whose block this is; the reference of an entry, of which the cell is told, and the handle's to
+    /// None are exchanged. The answer has the entry's; the handle has another to None, in the next place: `place` made sure
+    /// of it.
+    #[inline(always)]
+    pub fn end_swap_fresh(
+        &mut self,
+        block: Block<A>,
+        index: u32,
+        cell: u32,
+        none: &mut Handle<A>,
+    ) -> Handle<A>
+        requires locked { IsLocked self.old }
+        requires of_cell { cell_locked self.old ≡ Some block.0 }
+        requires entry { slice_get (entries_found self.old) index ≡ Some cell }
+        requires owned { Owns self.old none.old }
+        requires none { cell_in self.old none.old.place ≡ Some 0 }
+        requires apart { place_locked self.old ≢ Some none.old.place }
+        requires room { 0 < self.old.spare }
+        requires low { self.old.next < MOST_PLACES }
+        requires container { is_container (kind_in (contents_found self.old)) ≡ true }
+        requires same_kind { kind_in (contents_of block.1) ≡ kind_in (contents_found self.old) }
+        requires entries { entries_in (contents_of block.1) ≡ slice_set (entries_found self.old) index 0 }
+        requires keys { keys_in (contents_of block.1) ≡ keys_found self.old }
+        ensures same { result ≡ none.old }
+        ensures swapped { SwapsFresh self.old self.new index none.old.place cell block none.new }
+    {
+        let place = self.holdings.end_swap_fresh(block, index, cell, none.place);
+        let fresh = self.handle(place);
+        mem::replace(none, fresh)
+    }
+
+    /// Unlocks the object whose block this is; the reference of an entry, which was one to None, is gone, and later
+    /// entries have closed up. No handle is given.
+    #[inline(always)]
+    pub fn end_take_none(&mut self, block: Block<A>, index: u32)
+        requires locked { IsLocked self.old }
+        requires of_cell { cell_locked self.old ≡ Some block.0 }
+        requires entry { slice_get (entries_found self.old) index ≡ Some 0 }
+        requires low { self.old.next < MOST_PLACES }
+        requires container { is_container (kind_in (contents_found self.old)) ≡ true }
+        requires same_kind { kind_in (contents_of block.1) ≡ kind_in (contents_found self.old) }
+        requires entries { entries_in (contents_of block.1) ≡ remove (entries_found self.old) index }
+        requires keys { keys_in (contents_of block.1) ≡ remove (keys_found self.old) index }
+        ensures ended { TakesNone self.old self.new index block }
+        ensures frame { KeepsFrame self.old self.new }
+    {
+        self.holdings.end_take_none(block, index);
     }
 }

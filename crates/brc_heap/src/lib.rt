@@ -59,8 +59,17 @@ pub use brc_things::{
     try_list_take, try_recv, try_send, try_text_into, try_text_of,
 };
 
+// the same by values: scalars without an object, and references with a label
+pub use brc_things::{
+    Pair, Value, dict_del_value, dict_find_value, dict_pair_value, dict_set_value, list_get_value,
+    list_pop_value, list_push_value, list_put_value, list_set_value, list_take_value, recv_value,
+    send_value, try_dict_del_value, try_dict_find_value, try_dict_pair_value, try_dict_set_value,
+    try_list_get_value, try_list_pop_value, try_list_push_value, try_list_put_value,
+    try_list_set_value, try_list_take_value, try_recv_value, try_send_value,
+};
+
 // plain values
-pub use brc_words::{Fault, GLOBALS, Key, Kind, Text};
+pub use brc_words::{Fault, GLOBALS, Key, Kind, Note, Text};
 
 // names of before, for one version
 pub use asking::same_object as is_same;

@@ -21,18 +21,17 @@ use Rattle.brc_places.specs.declared.giving.GiveBy.TheVariants as gives
 use Rattle.brc_places.specs.declared.taking.TakeBy.{TakeBy}
 use Rattle.brc_places.specs.declared.taking.TakeBy.TheVariants as takes
 
--- so of a call that answers nothing; and of one that answers what the value came for
-abbrev pub AnswersNone : (Result (Unit {0}) (HandedBack HandleSeen) → Type 0)
-    → Result (Option HandleSeen) (HandedBack HandleSeen) → Type 0
-AnswersNone call (Ok None) = call (Ok tt)
-AnswersNone call (Ok (Some given)) = ⊥
-AnswersNone call (Err handed) = call (Err handed)
+module _ {V : Type 0} where
+  -- so of a call that answers nothing; and of one that answers what the value came for
+  abbrev pub AnswersNone : (Result (Unit {0}) (HandedBack V) → Type 0) → Result (Option V) (HandedBack V) → Type 0
+  AnswersNone call (Ok None) = call (Ok tt)
+  AnswersNone call (Ok (Some given)) = ⊥
+  AnswersNone call (Err handed) = call (Err handed)
 
-abbrev pub AnswersOld : (Result HandleSeen (HandedBack HandleSeen) → Type 0)
-    → Result (Option HandleSeen) (HandedBack HandleSeen) → Type 0
-AnswersOld call (Ok None) = ⊥
-AnswersOld call (Ok (Some given)) = call (Ok given)
-AnswersOld call (Err handed) = call (Err handed)
+  abbrev pub AnswersOld : (Result V (HandedBack V) → Type 0) → Result (Option V) (HandedBack V) → Type 0
+  AnswersOld call (Ok None) = ⊥
+  AnswersOld call (Ok (Some given)) = call (Ok given)
+  AnswersOld call (Err handed) = call (Err handed)
 
 -- a handle of which this was done, or why there is none
 pub record HandleOr (done : HandleSeen → Type 0) (why : Fault → Type 0) (result : Result HandleSeen Fault)

@@ -14,11 +14,13 @@ mod reading;
 mod stack;
 mod stack_turns;
 mod taking;
+mod valued;
 
 // by handle, the call as a value
 pub use giving::{GiveBy, give_by, try_give_by};
 pub use place_makers::{Make, make_by};
 pub use taking::{TakeBy, take_by, try_take_by};
+pub use valued::{PutBy, put_value_by, take_out_value_by, try_put_value_by, try_take_out_value_by};
 
 // by place
 pub use giving::{give_at, try_give_at};

@@ -66,7 +66,7 @@ module _ {A : Type 0} where
   key_wrong (payloads.Dict pairs) index other = absurd (other refl)
   key_wrong _ index other = refl
 
-  value_wrong : (payload : Payload A) (index : ℕ) → kind_of payload ≢ kinds.Dict
+  pub value_wrong : (payload : Payload A) (index : ℕ) → kind_of payload ≢ kinds.Dict
       → plain_value_at A index (contents_of payload) ≡ Err faults.WrongKind
   value_wrong (payloads.Dict pairs) index other = absurd (other refl)
   value_wrong _ index other = refl
@@ -79,7 +79,7 @@ module _ {A : Type 0} where
       ∙ key_is before index
       ∙ ap (λ o. leaving (contents_of (payloads.Dict before)) (first_of (or_fault faults.NoSuchPlace o))) past.past
 
-  value_past : (payload : Payload A) (index : ℕ) → IsPast payload index → plain_value_at A index (contents_of payload)
+  pub value_past : (payload : Payload A) (index : ℕ) → IsPast payload index → plain_value_at A index (contents_of payload)
       ≡ Err faults.NoSuchPlace
   value_past payload index past =
       let before = past.pairs in

@@ -2,6 +2,10 @@ pub mod Waited
 pub mod One_History
 pub mod Rows_Law
 pub mod Within_Law
+mod Valued_Law
+mod Valued_Plain
+mod Valued_Refusals
+mod Valued_Pairs
 pub mod Joining
 pub mod Standing
 pub mod Shown

@@ -116,7 +116,7 @@ module _ {A : Type 0} where
     keeps = thread_kept_on was.keeps ended.keeps;
   }
 
-  places_since : (before now new : FrameSeen A) (p : ℕ) (cell : Option ℕ) → KeepsAllPlaces before now
+  pub places_since : (before now new : FrameSeen A) (p : ℕ) (cell : Option ℕ) → KeepsAllPlaces before now
       → ChangesPlace now new p cell
       → ChangesPlace before new p cell
   places_since before now new p cell same places = record {
@@ -156,7 +156,7 @@ module _ {A : Type 0} where
 
   -- ---- what the calls that succeed did
 
-  pub takes_since : (before now new : FrameSeen A) (k : ℕ) (block : ℕ × Payload A) (left : Payload A)
+  abbrev pub takes_since : (before now new : FrameSeen A) (k : ℕ) (block : ℕ × Payload A) (left : Payload A)
       (call : PlainCall Entry) (index : ℕ) (cell : Entry) (given : HandleSeen)
       → Stood before now k block → UnlockedBy now new (Take index given.place) (block.0, left)
       → slice_get (noted_of block.1) index ≡ Some cell → call (contents_of block.1) ≡ Ok (cell, contents_of left)
@@ -225,7 +225,7 @@ module _ {A : Type 0} where
     len = len ∙ was.places.len;
   }
 
-  pub swaps_since : {R : Type 0} (before now new : FrameSeen A) (k v : ℕ) (block : ℕ × Payload A) (left : Payload A)
+  abbrev pub swaps_since : {R : Type 0} (before now new : FrameSeen A) (k v : ℕ) (block : ℕ × Payload A) (left : Payload A)
       (call : ℕ → PlainCall R) (answer : Entry → R)
       (value index : ℕ) (cell : Entry)
       → Stood before now k block → UnlockedBy now new (Swap index v) (block.0, left)

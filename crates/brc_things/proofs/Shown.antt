@@ -128,6 +128,15 @@ module _ {A : Type 0} where
       ∙ ap noted_of was) in
       ap contents_of is ∙ same_shown before.items after.items same_keys same_cells ∙ ap contents_of (sym was)
 
+  pub put_over : (key : Key A) (value : Entry) (old : Payload A) (index : ℕ) (cell : Entry) (there : HasKeyAt old key index cell)
+      → plain_put key value (contents_of old) ≡ Ok (Some cell, dict_of (replaced key value there.pairs.items))
+  put_over key value old index cell there =
+      let before = there.pairs in
+      ap (λ p. plain_put key value (contents_of p)) there.is
+      ∙ plain_put_is key value before
+      ∙ ap leaving_dict (replaces key value cell before.items
+      (beside_is key before.items index cell there.stands there.beside))
+
   pub put_there : (key : Key A) (value : Entry) (old new : Payload A) (index : ℕ) (cell : Entry) → HasKeyAt old key index cell
       → kind_of new ≡ kind_of old → keys_of new ≡ keys_of old → noted_of new ≡ slice_set (noted_of old) index value
       → plain_put key value (contents_of old) ≡ Ok (Some cell, contents_of new)
@@ -140,10 +149,7 @@ module _ {A : Type 0} where
       let same_cells : noted_in after.items ≡ noted_in (replaced key value before.items) =
       ap noted_of (sym is) ∙ entries ∙ ap (λ p. slice_set (noted_of p) index value) there.is
       ∙ sym (replaced_cells key value before.items index there.stands) in
-      ap (λ p. plain_put key value (contents_of p)) there.is
-      ∙ plain_put_is key value before
-      ∙ ap leaving_dict (replaces key value cell before.items
-      (beside_is key before.items index cell there.stands there.beside))
+      put_over key value old index cell there
       ∙ ap (λ d. Ok (Some cell, d)) (same_shown after.items (replaced key value before.items) same_keys same_cells
       ∙ ap contents_of (sym is))
 

@@ -8,9 +8,20 @@ use Rattle.brc_count.specs.Frames.{FrameSeen}
 use Rattle.brc_count.specs.Locking.{KeepsThread, KeepsFrame}
 use Rattle.brc_things.specs.Waiting.{BeginsLate}
 use Rattle.brc_count.proofs.Kept.{thread_kept_on, frame_kept_on}
-use Rattle.brc_things.specs.Called.{Looked, HandsOut, TakesIn}
+use Rattle.brc_things.specs.Called.{Looked, HandsOut, TakesIn, TakesInPlaced}
 use Rattle.brc_things.specs.Changing.{KeepsAllPlaces}
 use Rattle.brc_things.specs.Since.{JustLocked, Since}
+
+-- what an answer says, by what it says besides; so of a refusal
+pub ok_by : {T E : Type 0} {P Q : T → Type 0} (result : Result T E) → IfOk result P → ((answer : T) → P answer → Q answer)
+    → IfOk result Q
+ok_by (Ok answer) says by = by answer says
+ok_by (Err refused) says by = tt
+
+pub err_by : {T E : Type 0} {P Q : E → Type 0} (result : Result T E) → IfErr result P → ((refused : E) → P refused → Q refused)
+    → IfErr result Q
+err_by (Ok answer) says by = tt
+err_by (Err refused) says by = by refused says
 
 module _ {A : Type 0} where
   -- a locking that waited, from the frame that its lost tries left
@@ -79,5 +90,22 @@ module _ {A : Type 0} where
         thread = thread_kept_on since.keeps thread;
         did = tt;
         frame = frame_kept_on since.frame frame;
+        refused = refused before k since;
+      }
+
+  pub takes_in_placed : {T V : Type 0} (before now new : FrameSeen A) (k : ℕ) (block : ℕ × Payload A) (done : FrameSeen A → ℕ
+      → T → Type 0)
+      (why : FrameSeen A → ℕ → Fault → Type 0) (result : Result T (HandedBack V)) → JustLocked before now k block
+      → KeepsThread now new
+      → IfOk result (λ answer. Since now block (λ b j. done b j answer)) → IfErr result (λ handed. KeepsAllPlaces now new)
+      → IfErr result (λ handed. Since now block (λ b j. why b j handed.fault))
+      → TakesInPlaced before new (done before k) (why before k) result
+  takes_in_placed before now new k block done why (Ok answer) since thread did places refused =
+      record { thread = thread_kept_on since.keeps thread; did = did before k since; places = tt; refused = tt }
+  takes_in_placed before now new k block done why (Err handed) since thread did places refused =
+      record {
+        thread = thread_kept_on since.keeps thread;
+        did = tt;
+        places = places_on since.frame places;
         refused = refused before k since;
       }

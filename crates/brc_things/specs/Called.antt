@@ -40,3 +40,11 @@ module _ {A : Type 0} where
     pub did : IfOk result done
     pub frame : OnErr result (KeepsFrame old new)
     pub refused : IfErr result (λ handed. why handed.fault)
+
+  -- As `TakesIn`, of a call that may want a place of the frame: a refusal leaves every place as it was.
+  pub record TakesInPlaced {T V : Type 0} (old new : FrameSeen A) (done : T → Type 0) (why : Fault → Type 0)
+      (result : Result T (HandedBack V)) : Type 0 where
+    pub thread : KeepsThread old new
+    pub did : IfOk result done
+    pub places : OnErr result (KeepsAllPlaces old new)
+    pub refused : IfErr result (λ handed. why handed.fault)

@@ -14,3 +14,6 @@ pub mod Since
 pub mod Indexing
 pub mod Putting
 pub mod Dict_Calls
+pub mod Plain_Values
+pub mod Value_Calls
+pub mod Values

@@ -24,7 +24,10 @@ use std::sync::Wait;
 
 /// The pair at the place: WrongKind where the object is no dictionary, NoSuchPlace past its end.
 #[inline]
-fn pair_in<A: Allocator>(payload: &Payload<A>, index: usize) -> Result<(&Key<A>, Entry), Fault>
+pub(crate) fn pair_in<A: Allocator>(
+    payload: &Payload<A>,
+    index: usize,
+) -> Result<(&Key<A>, Entry), Fault>
     ensures there { IfOk result (λ pair. IsAt payload.now index pair.0.now pair.1) }
     ensures refused { IfErr result (NoPair payload.now index) }
 {

@@ -10,6 +10,7 @@
 //! its forms cite.
 #![tactic(auto)]
 
+mod dict_valued;
 mod dict_values;
 mod indexing;
 mod late;
@@ -23,10 +24,18 @@ mod putting;
 mod readers;
 mod rows;
 mod seeking;
+mod value;
+mod valued;
+mod valued_entries;
+mod valued_late;
 mod waiting_calls;
 mod waiting_readers;
 mod within;
 
+pub use dict_valued::{
+    dict_del_value, dict_find_value, dict_pair_value, dict_set_value, try_dict_del_value,
+    try_dict_find_value, try_dict_pair_value, try_dict_set_value,
+};
 pub use dict_values::{
     dict_del, dict_del_by, dict_find, dict_find_by, try_dict_del, try_dict_del_by, try_dict_find,
     try_dict_find_by,
@@ -40,5 +49,14 @@ pub use makers::{new_dict, new_int, new_list, new_mailbox, new_text, none, truth
 pub use placing::{dict_key_by, try_dict_key_by};
 pub use putting::{dict_put, dict_set, try_dict_put, try_dict_set};
 pub use readers::{try_int_of, try_kind_of, try_len_of, try_text_into, try_text_of};
+pub use value::{Pair, Value};
+pub use valued::{
+    try_list_get_value, try_list_pop_value, try_list_push_value, try_list_put_value,
+    try_list_set_value, try_list_take_value, try_recv_value, try_send_value,
+};
+pub use valued_late::{
+    list_get_value, list_pop_value, list_push_value, list_put_value, list_set_value,
+    list_take_value, recv_value, send_value,
+};
 pub use waiting_calls::{list_get, list_pop, list_push, list_set, list_take, recv, send};
 pub use waiting_readers::{int_of, kind_of, len_of, text_into, text_of};

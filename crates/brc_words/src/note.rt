@@ -6,8 +6,3 @@ pub struct Note {
     pub label: u32,
     pub bits: u64,
 }
-
-impl Note {
-    /// Where nothing was noted.
-    pub const NONE: Note = Note { label: 0, bits: 0 };
-}

@@ -1,0 +1,20 @@
+use Rattle.brc_count.specs.block.Lent_Keys.{key_lent}
+use Rattle.brc_things.specs.Changing.{RefusedPlace}
+use Rattle.brc_things.specs.Plain_Dicts.{plain_find}
+use Rattle.brc_things.specs.Values.{LooksAtValue}
+use Rattle.brc_things.proofs.Since_Law.{hands_out, locked_late}
+use Rattle.brc_things.proofs.dict_valued.dict_find_value.Goals as goal
+
+pub returns-clause-looked : goal.returns-clause-looked
+returns-clause-looked g c =
+    let late = c.begin_late-block.ensures in
+    let locked = c.begin_late-block.new.frame in
+    let up = c.look_value.ensures in (
+      late.mid,
+      late.waits,
+      hands_out late.mid locked c.look_value.new.frame c.args.dict.now.place c.begin_late-block.result
+          (λ before k came. LooksAtValue before c.look_value.new.frame k (plain_find {A = g.row.A.Denot} (key_lent c.args.key)) came)
+          (λ before k fault. RefusedPlace before c.look_value.new.frame k (plain_find {A = g.row.A.Denot} (key_lent c.args.key)) fault)
+          c.look_value.result (locked_late c.args.frame.now locked c.args.dict.now.place c.begin_late-block.result late)
+          up.thread up.looked up.places up.refused,
+    )

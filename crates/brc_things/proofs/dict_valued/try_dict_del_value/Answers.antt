@@ -1,0 +1,17 @@
+use Rattle.brc_count.specs.block.Lent_Keys.{key_lent}
+use Rattle.brc_things.specs.Changing.{RefusedPlace}
+use Rattle.brc_things.specs.Plain_Dicts.{plain_del}
+use Rattle.brc_things.specs.Values.{TakesOutValue}
+use Rattle.brc_things.specs.Since.{JustLocked}
+use Rattle.brc_things.proofs.Since_Law.{hands_out}
+use Rattle.brc_things.proofs.dict_valued.try_dict_del_value.Goals as goal
+
+pub returns-clause-takes : goal.returns-clause-takes
+returns-clause-takes g c =
+    let since : JustLocked c.args.frame.now c.begin.new.self c.args.dict.now.place c.in-Some.block =
+    record { began = c.in-Some.ensures.began; keeps = c.begin.ensures.keeps; frame = c.begin.ensures.frame } in
+    let up = c.del_value.ensures in
+    hands_out c.args.frame.now c.begin.new.self c.del_value.new.frame c.args.dict.now.place c.in-Some.block
+    (λ before k came. TakesOutValue before c.del_value.new.frame k (plain_del {A = g.row.A.Denot} (key_lent c.args.key)) came)
+    (λ before k fault. RefusedPlace before c.del_value.new.frame k (plain_del {A = g.row.A.Denot} (key_lent c.args.key)) fault)
+    c.del_value.result since up.thread up.takes up.places up.refused
