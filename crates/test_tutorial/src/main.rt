@@ -1,13 +1,13 @@
-//! A small runtime in six steps, as `docs/TUTORIAL.md` tells them: values, a list, a dictionary, the globals, a second
-//! thread, and a pool. Each step is a file of its own. At the end the heap is closed, and its report has no object left.
+//! A small runtime in six steps, as `docs/TUTORIAL.md` tells them: an object, a list, a dictionary, the globals, a
+//! second thread, and a pool. Each step is a file of its own. At the end the heap is closed, and its report has no object left.
 #![tactic(auto)]
 
 mod dictionary;
 mod globals;
 mod list;
+mod object;
 mod pool;
 mod threads;
-mod values;
 
 ghost use Rattle.std.specs.Prelude.{◌≡◌};
 ghost use Rattle.brc_heap.specs.Words.{IsUnlocked};
@@ -17,10 +17,10 @@ use std::alloc::Global;
 use std::io;
 use std::sync::Wait;
 
-/// What the first three steps came to, and whether the fourth left its value in the globals.
+/// What the first three steps came to, and whether the fourth left its list in the globals.
 #[derive(Clone, Copy, Debug)]
 struct Alone {
-    doubled: Option<i64>,
+    measured: Option<usize>,
     popped: Option<i64>,
     looked_up: Option<i64>,
     left: Option<()>,
@@ -36,7 +36,7 @@ fn works_alone(rt: &impl Wait, alloc: Global, mutator: &mut Mutator) -> Alone
 {
     let frame = mutator.frame();
     Alone {
-        doubled: values::doubles(rt, alloc, frame, 21_000),
+        measured: object::measures(rt, alloc, frame, "a small runtime"),
         popped: list::pushes_and_pops(rt, alloc, frame),
         looked_up: dictionary::puts_and_finds(rt, alloc, frame),
         left: globals::leaves(rt, alloc, frame, 0, 4_000),
