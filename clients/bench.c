@@ -2,7 +2,8 @@
  *
  *     bench [CALLS]
  *
- * A caller's own loop is in each figure; the first line is an empty call. */
+ * A caller's own loop is in each figure; the first line is an empty call. The lines with "value" are of the calls by values:
+ * of a scalar, and of a reference with a label. */
 #define _POSIX_C_SOURCE 200809L
 #include <stdio.h>
 #include <stdlib.h>
@@ -48,6 +49,36 @@ static void show(const char *what, double *runs) {
         show(what, runs_);                                                                            \
     } while (0)
 
+/* Calls by values, on containers that have 16 entries and 8 pairs already. */
+static void time_values(brc_thread *t, brc_ref own, uint64_t count) {
+    static const uint8_t key[8] = "eight by";
+    brc_ref list, dict, box, more;
+    brc_value scalar = brc_of_int(1, 1000), value, old;
+    MUST(brc_new_list(t, &list));
+    MUST(brc_new_dict(t, &dict));
+    MUST(brc_new_mailbox(t, &box));
+    for (int i = 0; i < 16; i++) MUST(brc_list_push_value(t, list, scalar));
+    for (int i = 0; i < 8; i++) MUST(brc_dict_put_int_value(t, dict, i, scalar, &old));
+    MUST(brc_dict_put_text_value(t, dict, key, sizeof key, scalar, &old));
+    MUST(brc_retain(t, own, &more));
+    value = brc_of_ref(1, more);
+    TIME("value: list_push + list_pop", count / 4, brc_list_push_value(t, list, scalar); brc_list_pop_value(t, list, &old));
+    TIME("value: list_get", count / 4, brc_list_get_value(t, list, 7, &old));
+    TIME("value: list_set", count / 4, brc_list_set_value(t, list, 7, scalar, &old));
+    TIME("value: list_put at an index that is there", count / 4, brc_list_put_value(t, list, 7, scalar, &old));
+    TIME("value: send + recv", count / 4, brc_send_value(t, box, scalar); brc_recv_value(t, box, &old));
+    TIME("value: dict_find_int", count / 4, brc_dict_find_int_value(t, dict, 5, &old));
+    TIME("value: dict_find_text, 8 bytes", count / 4, brc_dict_find_text_value(t, dict, key, sizeof key, &old));
+    TIME("value: dict_put_int, an old key", count / 4, brc_dict_put_int_value(t, dict, 5, scalar, &old));
+    TIME("value: list_push + list_pop, a reference", count / 4, brc_list_push_value(t, list, value);
+         brc_list_pop_value(t, list, &value));
+    MUST(brc_value_clear(t, &value));
+    MUST(brc_release(t, box));
+    MUST(brc_release(t, dict));
+    MUST(brc_release(t, list));
+    while (brc_work(t, 64) == 0) { }
+}
+
 int main(int argc, char **argv) {
     uint64_t count = argc > 1 ? strtoull(argv[1], NULL, 10) : 2000000, live;
     brc_heap heap;
@@ -91,6 +122,7 @@ int main(int argc, char **argv) {
     MUST(brc_put(&t, dict, "key", one, &old));
     TIME("dict_find_int + release", count / 4, brc_dict_find_int(&t, dict, 1, &one); brc_release(&t, one));
     TIME("dict_find_text + release", count / 4, brc_find(&t, dict, "key", &one); brc_release(&t, one));
+    time_values(&t, own, count);
     TIME("poll, nothing asked", count, brc_poll(&t));
     TIME("work, nothing dead", count, brc_work(&t, 64));
     TIME("thread_new + leave + drop", 20, MUST(brc_thread_open(&heap, &third)); brc_thread_leave(&third);

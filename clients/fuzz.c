@@ -3,11 +3,13 @@
  *     fuzz SEED [STEPS [LOCAL_LIMIT [CELLS]]]
  *
  * Four threads call everything, in an order drawn at random. Their numbers are right, stale, another thread's, another heap's,
- * flipped in one bit, or noise. After each call a thread checks what it can know:
+ * flipped in one bit, or noise. So are those in their values, among which are scalars with a number's bits. After each call a
+ * thread checks what it can know:
  *
  *   - the status is one of those that brc.h names for the call;
- *   - the numbers were STALE or FOREIGN if and only if the thread doesn't hold them;
+ *   - the numbers were STALE or FOREIGN if and only if the thread doesn't hold them, and a scalar never was;
  *   - a refused call has written nothing;
+ *   - a value that came out is one that some thread put in: its label was given with such bits, or with a reference;
  *   - brc_count is the count of the numbers that the thread holds.
  *
  * At the end each thread releases what it holds, and the heap must count exactly: births less frees are the live objects.
@@ -37,10 +39,16 @@ enum { MOST_HELD = 200, MOST_OLD = 64, WORKERS = 4, STATUSES = 80, UNWRITTEN = 0
 /* ---- The calls, and the statuses that brc.h names for each */
 
 typedef enum {
-    RELEASE, PUSH, SEND, POLL, WORK, LEN_OF, INT_OF, KIND_OF, TRUTH_OF, SAME, TEXT_OF, SET, LEDGER, CLAIM, LEAVE,
+    RELEASE, PUSH, SEND, POLL, WORK, LEN_OF, INT_OF, KIND_OF, TRUTH_OF, SAME, TEXT_OF, SET, LEDGER, CLAIM, LEAVE, RELEASE_ALL,
+    PUSH_VALUE, SEND_VALUE,
     /* from here on a call hands out a reference more */
     RETAIN, NONE, TRUTH, GLOBALS, NEW_INT, NEW_TEXT, NEW_LIST, NEW_DICT, NEW_MAILBOX, POP, TAKE, GET, RECV, PUT_INT, FIND_INT,
-    DEL_INT, PUT_TEXT, FIND_TEXT, DEL_TEXT, PAIR, CALLS
+    DEL_INT, PUT_TEXT, FIND_TEXT, DEL_TEXT, PAIR,
+    /* and from here on a value, if its status is OK */
+    POP_VALUE, TAKE_VALUE, GET_VALUE, RECV_VALUE, SET_VALUE, FIND_INT_VALUE, DEL_INT_VALUE, FIND_TEXT_VALUE, DEL_TEXT_VALUE,
+    PAIR_VALUE,
+    /* or nothing */
+    PUT_VALUE, PUT_INT_VALUE, PUT_TEXT_VALUE, CALLS
 } call_t;
 
 /* A set of statuses. */
@@ -52,6 +60,7 @@ typedef enum {
 #define LOCKED (NUMBER | S(BRC_BUSY))
 #define OBJECT (LOCKED | S(BRC_WRONG_KIND))
 #define ENTERS (OBJECT | S(BRC_SAME))
+#define VALUE (ENTERS | PLACE | S(BRC_NOT_VALUE))
 
 /* How often a call is drawn, how many numbers it is given, and how it may end. */
 static const struct { int weight, numbers; uint64_t statuses; } ABOUT[CALLS] = {
@@ -70,6 +79,9 @@ static const struct { int weight, numbers; uint64_t statuses; } ABOUT[CALLS] = {
     [LEDGER] = {1, 0, GIVEN},
     [CLAIM] = {1, 0, GIVEN},
     [LEAVE] = {1, 0, GIVEN | S(BRC_NOT_IDLE) | S(BRC_BUSY) | S(BRC_OUT_OF_MEMORY)},
+    [RELEASE_ALL] = {1, 0, GIVEN},
+    [PUSH_VALUE] = {4, 2, VALUE | S(BRC_FULL)},
+    [SEND_VALUE] = {4, 2, VALUE | S(BRC_FULL)},
     [RETAIN] = {2, 1, NUMBER | PLACE},
     [NONE] = {1, 0, GIVEN | PLACE},
     [TRUTH] = {1, 0, GIVEN | PLACE},
@@ -90,11 +102,25 @@ static const struct { int weight, numbers; uint64_t statuses; } ABOUT[CALLS] = {
     [FIND_TEXT] = {2, 1, OBJECT | PLACE | S(BRC_NOT_TEXT) | S(BRC_NO_SUCH_KEY)},
     [DEL_TEXT] = {2, 1, OBJECT | PLACE | S(BRC_NOT_TEXT) | S(BRC_NO_SUCH_KEY)},
     [PAIR] = {2, 1, OBJECT | PLACE | S(BRC_NO_SUCH_PLACE)},
+    [POP_VALUE] = {2, 1, OBJECT | PLACE | S(BRC_NO_SUCH_PLACE)},
+    [TAKE_VALUE] = {2, 1, OBJECT | PLACE | S(BRC_NO_SUCH_PLACE)},
+    [GET_VALUE] = {2, 1, OBJECT | PLACE | S(BRC_NO_SUCH_PLACE)},
+    [RECV_VALUE] = {2, 1, OBJECT | PLACE | S(BRC_NO_SUCH_PLACE)},
+    [SET_VALUE] = {2, 2, VALUE | S(BRC_NO_SUCH_PLACE)},
+    [FIND_INT_VALUE] = {2, 1, OBJECT | PLACE | S(BRC_NO_SUCH_KEY)},
+    [DEL_INT_VALUE] = {2, 1, OBJECT | PLACE | S(BRC_NO_SUCH_KEY)},
+    [FIND_TEXT_VALUE] = {2, 1, OBJECT | PLACE | S(BRC_NOT_TEXT) | S(BRC_NO_SUCH_KEY)},
+    [DEL_TEXT_VALUE] = {2, 1, OBJECT | PLACE | S(BRC_NOT_TEXT) | S(BRC_NO_SUCH_KEY)},
+    [PAIR_VALUE] = {2, 1, OBJECT | PLACE | S(BRC_NO_SUCH_PLACE)},
+    [PUT_VALUE] = {2, 2, VALUE | S(BRC_NO_SUCH_PLACE) | S(BRC_FULL)},
+    [PUT_INT_VALUE] = {4, 2, VALUE | S(BRC_FULL)},
+    [PUT_TEXT_VALUE] = {4, 2, VALUE | S(BRC_NOT_TEXT) | S(BRC_FULL)},
 };
 
 /* What a call is given, and where it writes. */
 typedef struct {
     brc_ref one, other;
+    brc_value put;              /* a scalar; or `other`, as a reference or as what no value holds */
     int64_t key;
     uint32_t index, word;
     uint8_t bytes[3];
@@ -104,6 +130,7 @@ typedef struct {
 
 typedef struct {
     brc_ref ref;
+    brc_value came;
     int64_t value;
     uint64_t allocs, frees;
     size_t len;
@@ -111,6 +138,11 @@ typedef struct {
     brc_key key;
     uint8_t text[16];
 } outs_t;
+
+/* Labels: a reference's, and those of scalars that have the bits which belong to the label. */
+enum { OF_REFERENCE = 1, OF_BITS = 2 };
+
+static uint64_t bits_of(uint32_t label) { return (label + UINT64_C(1)) * UINT64_C(0x9e3779b97f4a7c15); }
 
 /* ---- A thread, and what it knows */
 
@@ -122,7 +154,7 @@ typedef struct {
     pthread_mutex_t lock;       /* of `old`, which other workers read */
     brc_ref old[MOST_OLD];      /* numbers that it held */
     int has_dropped;            /* a thread that it forked, and dropped without a word */
-    uint64_t done, refused[STATUSES];
+    uint64_t done, scalars, refused[STATUSES];
 } worker_t;
 
 static worker_t workers[WORKERS];
@@ -191,10 +223,53 @@ static call_t any_call(worker_t *w) {
     return RELEASE;
 }
 
-static inputs_t any_inputs(worker_t *w) {
+static brc_value any_value(worker_t *w, brc_ref ref) {
+    uint32_t label = (uint32_t)draw(w, 0) & ~(uint32_t)(OF_REFERENCE | OF_BITS);
+    brc_value value;
+    switch (draw(w, 12)) {
+    case 0: return brc_of_bits(label, draw(w, 0));
+    case 1: return brc_of_bits(label, ref);
+    case 2:
+        value = brc_of_ref(label, ref);
+        value.holds += 1 + (uint32_t)(draw(w, 2) ? draw(w, 3) : draw(w, UINT32_MAX - BRC_REFERENCE));
+        return value;
+    case 3:
+    case 4:
+    case 5:
+        value = brc_of_bits(label | OF_BITS, bits_of(label | OF_BITS));
+        if (draw(w, 4) == 0) value.holds = BRC_NO_VALUE;
+        return value;
+    default: return brc_of_ref(label | OF_REFERENCE, ref);
+    }
+}
+
+/* The kind that a call on a container is for, else 0. */
+static brc_kind kind_for(call_t call) {
+    switch (call) {
+    case PUSH: case POP: case TAKE: case GET: case SET:
+    case PUSH_VALUE: case POP_VALUE: case TAKE_VALUE: case GET_VALUE: case SET_VALUE: case PUT_VALUE: return BRC_LIST;
+    case SEND: case RECV: case SEND_VALUE: case RECV_VALUE: return BRC_MAILBOX;
+    case PUT_INT: case FIND_INT: case DEL_INT: case PUT_TEXT: case FIND_TEXT: case DEL_TEXT: case PAIR:
+    case PUT_INT_VALUE: case FIND_INT_VALUE: case DEL_INT_VALUE: case PUT_TEXT_VALUE: case FIND_TEXT_VALUE:
+    case DEL_TEXT_VALUE: case PAIR_VALUE: return BRC_DICT;
+    default: return 0;
+    }
+}
+
+/* The first number is any; in every other call on a container it is one of its kind, if some tries find one. */
+static brc_ref first_number(worker_t *w, call_t call) {
+    brc_ref ref = any_number(w);
+    brc_kind kind = kind_for(call), found = 0;
+    int tries = kind && draw(w, 2) ? 8 : 0;
+    while (tries-- > 0 && (brc_kind_of(&w->thread, ref, &found) != BRC_OK || found != kind)) ref = one_held(w);
+    return ref;
+}
+
+static inputs_t any_inputs(worker_t *w, call_t call) {
     inputs_t in;
-    in.one = any_number(w);
-    in.other = any_number(w);
+    in.one = first_number(w, call);
+    in.other = draw(w, 50) ? any_number(w) : in.one;
+    in.put = any_value(w, in.other);
     in.key = (int64_t)draw(w, 8);
     in.index = (uint32_t)draw(w, 4);
     in.word = (uint32_t)draw(w, 0);
@@ -246,14 +321,39 @@ static brc_status make_call(worker_t *w, call_t call, const inputs_t *in, outs_t
     case FIND_TEXT: return brc_dict_find_text(t, one, in->bytes, in->len, &out->ref);
     case DEL_TEXT: return brc_dict_del_text(t, one, in->bytes, in->len, &out->ref);
     case PAIR: return brc_dict_pair(t, one, in->index, &out->key, out->text, in->room, &out->ref);
+    case RELEASE_ALL: return brc_release_all(t);
+    case PUSH_VALUE: return brc_list_push_value(t, one, in->put);
+    case SEND_VALUE: return brc_send_value(t, one, in->put);
+    case POP_VALUE: return brc_list_pop_value(t, one, &out->came);
+    case TAKE_VALUE: return brc_list_take_value(t, one, in->index, &out->came);
+    case GET_VALUE: return brc_list_get_value(t, one, in->index, &out->came);
+    case RECV_VALUE: return brc_recv_value(t, one, &out->came);
+    case SET_VALUE: return brc_list_set_value(t, one, in->index, in->put, &out->came);
+    case FIND_INT_VALUE: return brc_dict_find_int_value(t, one, in->key, &out->came);
+    case DEL_INT_VALUE: return brc_dict_del_int_value(t, one, in->key, &out->came);
+    case FIND_TEXT_VALUE: return brc_dict_find_text_value(t, one, in->bytes, in->len, &out->came);
+    case DEL_TEXT_VALUE: return brc_dict_del_text_value(t, one, in->bytes, in->len, &out->came);
+    case PAIR_VALUE:
+        return brc_dict_pair_value(t, one, in->index, &out->key, out->text, in->room, &out->came, &out->word);
+    case PUT_VALUE: return brc_list_put_value(t, one, in->index, in->put, &out->came);
+    case PUT_INT_VALUE: return brc_dict_put_int_value(t, one, in->key, in->put, &out->came);
+    case PUT_TEXT_VALUE: return brc_dict_put_text_value(t, one, in->bytes, in->len, in->put, &out->came);
     default: abort();
     }
 }
 
-static int has_bytes(call_t call) { return call == NEW_TEXT || call == PUT_TEXT || call == FIND_TEXT || call == DEL_TEXT; }
+static int has_bytes(call_t call) {
+    return call == NEW_TEXT || call == PUT_TEXT || call == FIND_TEXT || call == DEL_TEXT || call == PUT_TEXT_VALUE ||
+           call == FIND_TEXT_VALUE || call == DEL_TEXT_VALUE;
+}
 
-static int gives_a_value(call_t call) {
-    return call == PUSH || call == SEND || call == SET || call == PUT_INT || call == PUT_TEXT;
+static int puts_a_value(call_t call) {
+    return call == PUSH_VALUE || call == SEND_VALUE || call == SET_VALUE || call >= PUT_VALUE;
+}
+
+static int puts_a_reference(call_t call, const inputs_t *in) {
+    return call == PUSH || call == SEND || call == SET || call == PUT_INT || call == PUT_TEXT ||
+           (puts_a_value(call) && in->put.holds == BRC_REFERENCE);
 }
 
 /* Whether the outs are as they were before the call, which has filled them with one byte. */
@@ -267,25 +367,43 @@ static int is_unwritten(const outs_t *out) {
 /* Holds the status against what the thread knows. It isn't GONE. */
 static void check_status(worker_t *w, call_t call, const inputs_t *in, brc_status s) {
     int holds_one = ABOUT[call].numbers < 1 || place_of(w, in->one) >= 0;
-    int holds_all = holds_one && (ABOUT[call].numbers < 2 || place_of(w, in->other) >= 0);
+    int needs_one = ABOUT[call].numbers < 2 || (puts_a_value(call) && in->put.holds != BRC_REFERENCE);
+    int holds_all = holds_one && (needs_one || place_of(w, in->other) >= 0);
     if (has_bytes(call) && !in->is_text) {
         CHECK(s == BRC_NOT_TEXT);
+    } else if (puts_a_value(call) && in->put.holds > BRC_REFERENCE) {
+        CHECK(s == BRC_NOT_VALUE);
     } else if (!holds_all) {
         CHECK(s == BRC_STALE || s == BRC_FOREIGN);
     } else {
-        CHECK(s != BRC_STALE && s != BRC_FOREIGN && s != BRC_NOT_TEXT);
-        CHECK(!gives_a_value(call) || (s == BRC_SAME) == (in->one == in->other));
+        CHECK(s != BRC_STALE && s != BRC_FOREIGN && s != BRC_NOT_TEXT && s != BRC_NOT_VALUE);
+        CHECK(call == SAME || (s == BRC_SAME) == (puts_a_reference(call, in) && in->one == in->other));
+    }
+}
+
+/* The value that came out. What was put without one, and None that was put with a label, have bits 0. */
+static void check_value(worker_t *w, call_t call, brc_value came) {
+    if (came.holds == BRC_REFERENCE) {
+        CHECK(came.label == 0 || (came.label & OF_REFERENCE) != 0);
+        gains(w, came.bits);
+    } else if (came.holds == BRC_SCALAR) {
+        CHECK(came.bits == 0 || (came.label & OF_REFERENCE) == 0);
+        CHECK(came.bits == bits_of(came.label) || (came.label & OF_BITS) == 0);
+        w->scalars++;
+    } else {
+        CHECK(came.holds == BRC_NO_VALUE && call >= PUT_VALUE);
     }
 }
 
 /* A call, and its checks. Returns whether the thread has left, or began to. */
 static int turn(worker_t *w) {
     call_t call = any_call(w);
-    inputs_t in = any_inputs(w);
+    inputs_t in = any_inputs(w, call);
     outs_t out;
     brc_status s;
-    /* (a thread leaves seldom, or it wouldn't live long) */
+    /* (a thread leaves seldom, or it wouldn't live long; and it would hold little) */
     if (call == LEAVE && w->count == 0 && draw(w, 5000) != 0) return 0;
+    if (call == RELEASE_ALL && draw(w, 20) != 0) return 0;
     memset(&out, UNWRITTEN, sizeof out);
     s = make_call(w, call, &in, &out);
     CHECK(s < STATUSES && (ABOUT[call].statuses & S(s)) != 0);
@@ -293,29 +411,34 @@ static int turn(worker_t *w) {
         CHECK(w->count == 0);
         return 1;               /* (`run` goes on with a leaving that was Busy) */
     }
-    if (call != LEAVE) check_status(w, call, &in, s);
+    if (call == LEAVE) CHECK(w->count > 0);             /* (a reference to None that the thread keeps is no reason) */
+    else check_status(w, call, &in, s);
     if (s != BRC_OK) {
         w->refused[s]++;
         CHECK(is_unwritten(&out));
     } else {
         w->done++;
         if (call == RELEASE) loses(w, in.one);
-        if (gives_a_value(call)) loses(w, in.other);
-        if (call >= RETAIN || call == SET) {
+        if (puts_a_reference(call, &in)) loses(w, in.other);
+        while (call == RELEASE_ALL && w->count > 0) loses(w, w->held[0]);
+        if (call >= POP_VALUE) {
+            check_value(w, call, out.came);
+        } else if (call >= RETAIN || call == SET) {
             if ((call == PUT_INT || call == PUT_TEXT) && out.ref == BRC_NONE) {
                 /* there was no value beside the key */
             } else {
                 gains(w, out.ref);
             }
         }
-        if (call == TEXT_OF || call == PAIR)
+        if (call == PAIR_VALUE) CHECK(in.index < out.word);
+        if (call == TEXT_OF || call == PAIR || call == PAIR_VALUE)
             for (size_t i = in.room; i < sizeof out.text; i++) CHECK(out.text[i] == UNWRITTEN);
     }
     CHECK(brc_count(&w->thread) == (size_t)w->count);
     return 0;
 }
 
-/* A thread is forked, makes an object, and is dropped without a word. */
+/* A thread is forked, makes an object and a list with a scalar, and is dropped without a word. */
 static void drop_one(worker_t *w) {
     brc_thread forked;
     brc_ref made;
@@ -323,6 +446,7 @@ static void drop_one(worker_t *w) {
     if (brc_thread_fork(&w->thread, &forked.at) != BRC_OK) return;
     w->has_dropped = 1;
     if (brc_new_int(&forked, 77777, &made) == BRC_OK) CHECK(brc_release(&w->thread, made) == BRC_FOREIGN);
+    if (brc_new_list(&forked, &made) == BRC_OK) MUST(brc_list_push_value(&forked, made, brc_of_bits(0, 7)));
     brc_thread_drop(forked);
 }
 
@@ -346,16 +470,21 @@ static void *run(void *given) {
 
 /* Takes all pairs out of the globals. */
 static void clear_globals(brc_thread *t) {
-    brc_ref globals, value, gone;
+    brc_ref globals, gone;
+    brc_value value;
     brc_key key;
     uint8_t name[8];
+    uint32_t pairs;
+    size_t len;
     brc_status s;
     MUST(brc_globals(t, &globals));
-    while ((s = brc_dict_pair(t, globals, 0, &key, name, sizeof name, &value)) == BRC_OK) {
+    while ((s = brc_dict_pair_value(t, globals, 0, &key, name, sizeof name, &value, &pairs)) == BRC_OK) {
+        MUST(brc_len_of(t, globals, &len));
+        CHECK(len == pairs);
         if (key.is_text) MUST(brc_dict_del_text(t, globals, name, key.len, &gone));
         else MUST(brc_dict_del_int(t, globals, key.number, &gone));
         MUST(brc_release(t, gone));
-        MUST(brc_release(t, value));
+        MUST(brc_value_clear(t, &value));
     }
     CHECK(s == BRC_NO_SUCH_PLACE);
     MUST(brc_release(t, globals));
@@ -365,7 +494,8 @@ int main(int argc, char **argv) {
     brc_heap heap, second;
     brc_thread root, second_thread;
     pthread_t threads[WORKERS];
-    uint64_t seed = argc > 1 ? strtoull(argv[1], NULL, 10) : 1, done = 0, refused[STATUSES] = {0};
+    uint64_t seed = argc > 1 ? strtoull(argv[1], NULL, 10) : 1, done = 0, scalars = 0;
+    uint64_t refused[STATUSES] = {0};
     uint64_t allocs = 0, frees = 0, live = 0;
     uint32_t local_limit = argc > 3 ? (uint32_t)strtoul(argv[3], NULL, 10) : 4294967294u;
     uint32_t cells = argc > 4 ? (uint32_t)strtoul(argv[4], NULL, 10) : 2048, registered = 0, left = 0, dropped = 0;
@@ -393,6 +523,7 @@ int main(int argc, char **argv) {
     for (int i = 0; i < WORKERS; i++) {
         brc_thread_drop(workers[i].thread);
         done += workers[i].done;
+        scalars += workers[i].scalars;
         dropped += (uint32_t)workers[i].has_dropped;
         for (int k = 0; k < STATUSES; k++) refused[k] += workers[i].refused[k];
     }
@@ -411,7 +542,8 @@ int main(int argc, char **argv) {
     brc_heap_drop(second);
     brc_thread_drop(second_thread);
 
-    printf("seed %" PRIu64 ": done %" PRIu64 ", threads %" PRIu32 " of %" PRIu32, seed, done, left, registered);
+    printf("seed %" PRIu64 ": done %" PRIu64 ", scalars %" PRIu64, seed, done, scalars);
+    printf(", threads %" PRIu32 " of %" PRIu32, left, registered);
     printf(", made %" PRIu64 ", freed %" PRIu64, allocs, frees);
     if (s == BRC_OK) printf(", live %" PRIu64 ", cycles %" PRIu64, live, cycles);
     else printf(", not closed: %" PRIu32 " dropped threads are missing", registered - left);

@@ -54,6 +54,23 @@ static void fill_the_containers(brc_thread *t) {
     while (brc_work(t, 4096) == 0) { }
 }
 
+/* A list has so many scalars, too. They take no object and no reference, but for one to None, which isn't counted. */
+static void fill_with_scalars(brc_thread *t) {
+    brc_ref list;
+    brc_value value;
+    uint64_t had_allocs, had_frees, allocs, frees;
+    CHECK(brc_new_list(t, &list) == BRC_OK && brc_ledger(t, &had_allocs, &had_frees) == BRC_OK);
+    for (int i = 0; i < ENTRIES; i++) CHECK(brc_list_push_value(t, list, brc_of_int(1, i)) == BRC_OK);
+    CHECK(brc_list_push_value(t, list, brc_of_int(1, ENTRIES)) == BRC_FULL);
+    CHECK(brc_list_put_value(t, list, ENTRIES, brc_of_int(1, ENTRIES), &value) == BRC_FULL);
+    CHECK(brc_list_pop_value(t, list, &value) == BRC_OK && brc_int_in(value) == ENTRIES - 1);
+    CHECK(brc_list_push_value(t, list, brc_of_int(1, ENTRIES)) == BRC_OK);
+    CHECK(brc_list_push_value(t, list, brc_of_int(1, ENTRIES)) == BRC_FULL);
+    CHECK(brc_ledger(t, &allocs, &frees) == BRC_OK && allocs == had_allocs && frees == had_frees && brc_count(t) == 1);
+    CHECK(brc_release(t, list) == BRC_OK);
+    while (brc_work(t, 4096) == 0) { }
+}
+
 /* So many threads are registered at a time, and so many in the heap's life. */
 static void register_all(brc_heap *heap, uint32_t registered) {
     brc_thread threads[THREADS], one;
@@ -85,15 +102,16 @@ int main(void) {
     CHECK(brc_thread_open(&heap, &t) == BRC_OK);
     fill_the_frame(&t);
     fill_the_containers(&t);
+    fill_with_scalars(&t);
     CHECK(brc_heap_close(&heap, &live, &cycles) == BRC_MISSING);
     CHECK(brc_thread_leave(&t) == BRC_OK);
     brc_thread_drop(t);
     register_all(&heap, 1);
     CHECK(brc_heap_counts(&heap, &registered, &left, &allocs, &frees) == BRC_OK);
-    CHECK(registered == REGISTRATIONS && left == REGISTRATIONS && allocs == 5 && frees == 5);
+    CHECK(registered == REGISTRATIONS && left == REGISTRATIONS && allocs == 6 && frees == 6);
     CHECK(brc_heap_close(&heap, &live, &cycles) == BRC_OK && live == 0 && cycles == 0);
     CHECK(brc_heap_close(&heap, &live, &cycles) == BRC_OK && brc_thread_open(&heap, &t) == BRC_GONE);
-    CHECK(brc_heap_report(&heap, 0, text, sizeof text, &len) == BRC_OK && len == 13 && !memcmp(text, "ledger 5 5 0\n", 13));
+    CHECK(brc_heap_report(&heap, 0, text, sizeof text, &len) == BRC_OK && len == 13 && !memcmp(text, "ledger 6 6 0\n", 13));
     brc_heap_drop(heap);
     printf("%d references, %d entries, %d threads, %d registrations\n", REFERENCES, ENTRIES, THREADS, REGISTRATIONS);
     return 0;

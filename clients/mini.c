@@ -29,6 +29,8 @@
  *     if R NAME       does so unless the integer of R is 0
  *     print R
  *
+ * An integer stands in a list as a scalar: it takes no cell of the heap there, and what comes out is a new object.
+ *
  * A line that begins with # is a comment. The exit status is 0; 1 if a program failed or an object remains; 2 if a program
  * can't be read. */
 #define _POSIX_C_SOURCE 200809L
@@ -42,6 +44,7 @@
 #include "brc.h"
 
 enum { MOST_LINES = 1000, MOST_PROGRAMS = 60, REGISTERS = 26, WORD = 32, CELLS = 8192 };
+enum { NUMBER = 1 };            /* the label of an integer in a list */
 
 typedef enum {
     INT, TEXT, LIST, DICT, BOX, NONE, TRUE_, FALSE_, COPY, DROP, PUSH, POP, GET, SET, LEN, PUT, FIND, DEL, SEND, RECV, SHARE,
@@ -174,6 +177,35 @@ static brc_status out_of(program_t *p, int reg, brc_status s, brc_ref old) {
     return s;
 }
 
+/* What goes into a list: an integer is a scalar, and all else a reference. */
+static brc_status entry_of(program_t *p, int reg, brc_value *value) {
+    int64_t number;
+    brc_status s = integer(p, reg, &number);
+    if (s == BRC_OK) *value = brc_of_int(NUMBER, number);
+    if (s != BRC_WRONG_KIND) return s;
+    *value = brc_of_ref(0, p->reg[reg]);
+    return BRC_OK;
+}
+
+/* A register whose value the list has. The reference is the list's; that of a scalar is still the register's. */
+static brc_status entered(program_t *p, int reg, brc_status s, brc_value value) {
+    if (s != BRC_OK) return s;
+    if (value.holds == BRC_REFERENCE) p->reg[reg] = BRC_NONE;
+    return brc_clear(&p->thread, &p->reg[reg]);
+}
+
+/* What came out of a list goes into a register: of a scalar the integer, and of None's scalar None. */
+static brc_status came(program_t *p, int reg, brc_status s, brc_value value) {
+    brc_ref made = BRC_NONE;
+    if (s != BRC_OK) return s;
+    if (value.holds == BRC_REFERENCE) made = value.bits;
+    else if (value.label == NUMBER) BRC_MAKE(&p->thread, s, brc_new_int(&p->thread, brc_int_in(value), &made));
+    else s = brc_none(&p->thread, &made);
+    return into(p, reg, s, made);
+}
+
+static uint32_t index_of(int64_t number) { return number < 0 || number > UINT32_MAX ? UINT32_MAX : (uint32_t)number; }
+
 static brc_status print_text(program_t *p, brc_ref ref) {
     size_t len;
     brc_status s = brc_text_len(&p->thread, ref, &len);
@@ -279,7 +311,8 @@ static brc_status step(program_t *p, const instruction_t *in) {
     brc_thread *t = &p->thread;
     const int x = in->reg[0], y = in->reg[1], z = in->reg[2];
     brc_ref *r = p->reg, made = BRC_NONE;
-    int64_t value;
+    brc_value value = brc_of_bits(0, 0), old = value;
+    int64_t number;
     uint32_t same;
     size_t len;
     brc_status s;
@@ -294,21 +327,25 @@ static brc_status step(program_t *p, const instruction_t *in) {
     case FALSE_: s = brc_truth(t, 0, &made); return into(p, x, s, made);
     case COPY: s = brc_retain(t, r[y], &made); return into(p, x, s, made);
     case DROP: return brc_clear(t, &r[x]);
-    case PUSH: return out_of(p, y, brc_list_push(t, r[x], r[y]), BRC_NONE);
+    case PUSH:
+        s = entry_of(p, y, &value);
+        if (s == BRC_OK) s = brc_list_push_value(t, r[x], value);
+        return entered(p, y, s, value);
     case SEND: return out_of(p, y, brc_send(t, r[x], r[y]), BRC_NONE);
-    case POP: s = brc_list_pop(t, r[y], &made); return into(p, x, s, made);
+    case POP: s = brc_list_pop_value(t, r[y], &value); return came(p, x, s, value);
     case RECV:
         s = brc_recv(t, r[y], &made);
         return s == BRC_NO_SUCH_PLACE ? (brc_status)BRC_BUSY : into(p, x, s, made);     /* no letter yet */
     case GET:
-        s = integer(p, z, &value);
-        if (s == BRC_OK) s = brc_list_get(t, r[y], value < 0 || value > UINT32_MAX ? UINT32_MAX : (uint32_t)value, &made);
-        return into(p, x, s, made);
+        s = integer(p, z, &number);
+        if (s == BRC_OK) s = brc_list_get_value(t, r[y], index_of(number), &value);
+        return came(p, x, s, value);
     case SET:
-        s = integer(p, y, &value);
-        if (s == BRC_OK)
-            s = brc_list_set(t, r[x], value < 0 || value > UINT32_MAX ? UINT32_MAX : (uint32_t)value, r[z], &made);
-        return out_of(p, z, s, made);
+        s = integer(p, y, &number);
+        if (s == BRC_OK) s = entry_of(p, z, &value);
+        if (s == BRC_OK) s = brc_list_set_value(t, r[x], index_of(number), value, &old);
+        s = entered(p, z, s, value);
+        return came(p, z, s, old);
     case LEN:
         s = brc_len_of(t, r[y], &len);
         if (s == BRC_OK) BRC_MAKE(t, s, brc_new_int(t, (int64_t)len, &made));
@@ -328,8 +365,8 @@ static brc_status step(program_t *p, const instruction_t *in) {
         return into(p, x, s, made);
     case JUMP: p->at = in->target; return BRC_OK;
     case IF:
-        s = integer(p, x, &value);
-        if (s == BRC_OK && value != 0) p->at = in->target;
+        s = integer(p, x, &number);
+        if (s == BRC_OK && number != 0) p->at = in->target;
         return s;
     case PRINT: return print(p, r[x]);
     }

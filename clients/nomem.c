@@ -11,6 +11,7 @@
 #include "brc.h"
 
 static long allocations, refused_at = -1, blocks, told;
+static int is_empty;                            /* no memory is left: all are refused, and none is counted */
 
 void *__real_malloc(size_t size);
 void *__real_realloc(void *block, size_t size);
@@ -21,14 +22,14 @@ void __wrap_free(void *block);
 
 void *__wrap_malloc(size_t size) {
     void *block;
-    if (++allocations == refused_at) return NULL;
+    if (is_empty || ++allocations == refused_at) return NULL;
     block = __real_malloc(size);
     blocks += block != NULL;
     return block;
 }
 
 void *__wrap_realloc(void *block, size_t size) {
-    if (++allocations == refused_at) return NULL;
+    if (is_empty || ++allocations == refused_at) return NULL;
     blocks += block == NULL;
     return __real_realloc(block, size);
 }
@@ -117,6 +118,165 @@ static void change(brc_thread *t, brc_ref list, brc_ref dict, int i) {
     TRY(brc_release(t, globals));
 }
 
+enum { LABEL = 7, NUMBER = 5000 };
+
+/* A value to be put: a scalar if i is even, else a reference more to the object. */
+static brc_value value_of(brc_thread *t, brc_ref one, int i) {
+    brc_ref more;
+    if (i % 2 == 0) return brc_of_int(LABEL, i);
+    TRY(brc_retain(t, one, &more));
+    return brc_of_ref(LABEL, more);
+}
+
+/* What came out is that value, and is let go of. */
+static void is_value_of(brc_thread *t, brc_value came, int i) {
+    int64_t number = 0;
+    if (came.holds != (i % 2 == 0 ? BRC_SCALAR : BRC_REFERENCE) || came.label != LABEL) fail(__LINE__, BRC_OK);
+    if (came.holds == BRC_SCALAR) {
+        if (brc_int_in(came) != i) fail(__LINE__, BRC_OK);
+        return;
+    }
+    TRY(brc_int_of(t, came.bits, &number));
+    if (number != NUMBER) fail(__LINE__, BRC_OK);
+    TRY(brc_release(t, came.bits));
+}
+
+static void is_nothing(brc_value came) {
+    if (came.holds != BRC_NO_VALUE || came.label != 0 || came.bits != 0) fail(__LINE__, BRC_OK);
+}
+
+/* Each call that puts a value makes its container grow, and the value is looked at. */
+static void fill_by_values(brc_thread *t, brc_ref one, brc_ref list, brc_ref dict, brc_ref mailbox, int i) {
+    brc_value value;
+    brc_key key;
+    uint32_t pairs;
+    uint8_t text[64];
+    char name[40];
+    const uint8_t *bytes = (const uint8_t *)name;
+    size_t len;
+    snprintf(name, sizeof name, "a key with the number %d", i);
+    len = strlen(name);
+
+    value = value_of(t, one, i);
+    TRY(brc_list_push_value(t, list, value));
+    value = value_of(t, one, i);
+    TRY(brc_list_put_value(t, list, 2 * (uint32_t)i + 1, value, &value));
+    is_nothing(value);
+    value = value_of(t, one, i);
+    TRY(brc_send_value(t, mailbox, value));
+    value = value_of(t, one, i);
+    TRY(brc_dict_put_int_value(t, dict, i, value, &value));
+    is_nothing(value);
+    value = value_of(t, one, i);
+    TRY(brc_dict_put_text_value(t, dict, bytes, len, value, &value));
+    is_nothing(value);
+
+    TRY(brc_list_get_value(t, list, 2 * (uint32_t)i + 1, &value));
+    is_value_of(t, value, i);
+    TRY(brc_dict_find_int_value(t, dict, i, &value));
+    is_value_of(t, value, i);
+    TRY(brc_dict_pair_value(t, dict, 2 * (uint32_t)i + 1, &key, text, sizeof text, &value, &pairs));
+    is_value_of(t, value, i);
+    if (!key.is_text || key.len != len || memcmp(text, name, len) != 0) fail(__LINE__, BRC_OK);
+    if (pairs != 2 * (uint32_t)i + 2) fail(__LINE__, BRC_OK);
+}
+
+/* The calls by which a value comes out: of a list, a dictionary, a mailbox. */
+enum { GET, TAKE, POP, SET, PUT, FIND_INT, FIND_TEXT, DEL_INT, DEL_TEXT, PUT_INT, PUT_TEXT, PAIR, RECV, COMINGS };
+
+static const char *const NAMES[] = {"beside a scalar", "beside a reference"};
+
+/* A container for the call, with a reference and a scalar. */
+static brc_ref make_both(brc_thread *t, brc_ref one, int call) {
+    brc_ref made;
+    brc_value value;
+    if (call <= PUT) TRY(brc_new_list(t, &made));
+    else if (call <= PAIR) TRY(brc_new_dict(t, &made));
+    else TRY(brc_new_mailbox(t, &made));
+    for (int i = 0; i < 2; i++) {
+        value = value_of(t, one, call == RECV ? 1 - i : i);
+        if (call <= PUT) TRY(brc_list_push_value(t, made, value));
+        else if (call == RECV) TRY(brc_send_value(t, made, value));
+        else if (call == FIND_INT || call == DEL_INT || call == PUT_INT) TRY(brc_dict_put_int_value(t, made, i, value, &value));
+        else TRY(brc_dict_put_text_value(t, made, (const uint8_t *)NAMES[i], strlen(NAMES[i]), value, &value));
+    }
+    return made;
+}
+
+/* The scalar comes out if i is 0, else the reference. A call that puts a value puts that scalar. */
+static brc_status come(brc_thread *t, int call, brc_ref from, int i, brc_value *came) {
+    const brc_value scalar = brc_of_int(LABEL, 0);
+    const uint8_t *name = (const uint8_t *)NAMES[i];
+    const size_t len = strlen(NAMES[i]);
+    const uint32_t index = (uint32_t)i;
+    brc_key key;
+    uint8_t text[8];
+    uint32_t pairs;
+    switch (call) {
+    case GET: return brc_list_get_value(t, from, index, came);
+    case TAKE: return brc_list_take_value(t, from, index, came);
+    case POP: return brc_list_pop_value(t, from, came);
+    case SET: return brc_list_set_value(t, from, index, scalar, came);
+    case PUT: return brc_list_put_value(t, from, index, scalar, came);
+    case FIND_INT: return brc_dict_find_int_value(t, from, i, came);
+    case FIND_TEXT: return brc_dict_find_text_value(t, from, name, len, came);
+    case DEL_INT: return brc_dict_del_int_value(t, from, i, came);
+    case DEL_TEXT: return brc_dict_del_text_value(t, from, name, len, came);
+    case PUT_INT: return brc_dict_put_int_value(t, from, i, scalar, came);
+    case PUT_TEXT: return brc_dict_put_text_value(t, from, name, len, scalar, came);
+    case PAIR: return brc_dict_pair_value(t, from, index, &key, text, sizeof text, came, &pairs);
+    default: return brc_recv_value(t, from, came);
+    }
+}
+
+/* No place is left that has memory, so memory for the next one is asked for. */
+static void tighten(brc_thread *t, brc_ref one) {
+    brc_ref more;
+    brc_status s;
+    is_empty = 1;
+    while ((s = brc_retain(t, one, &more)) == BRC_OK) { }
+    is_empty = 0;
+    if (s != BRC_OUT_OF_MEMORY) fail(__LINE__, s);
+}
+
+/* The reference comes out into a place that is asked for, and the scalar without memory; a pair's key is copied. */
+static void come_by_values(brc_thread *t, brc_ref one, int call) {
+    const brc_ref from = make_both(t, one, call);
+    brc_value came;
+    long before;
+    tighten(t, one);
+    before = allocations;
+    TRY(come(t, call, from, 1, &came));
+    if (allocations == before) fail(__LINE__, BRC_OK);
+    is_value_of(t, came, 1);
+    if (call != PAIR) is_empty = 1;
+    TRY(come(t, call, from, 0, &came));
+    is_empty = 0;
+    is_value_of(t, came, 0);
+    TRY(brc_release(t, from));
+}
+
+/* All calls by values. The first put asks for a place for None: it puts a scalar in one half, and a reference in the other.
+ * Each half has half of the calls by which values come out, since the thread's places double with each. */
+static void live_by_values(brc_thread *t, int half) {
+    brc_ref one, list, dict, mailbox;
+    brc_value value;
+    long before;
+    TRY(brc_new_int(t, NUMBER, &one));
+    TRY(brc_new_list(t, &list));
+    TRY(brc_new_dict(t, &dict));
+    TRY(brc_new_mailbox(t, &mailbox));
+    value = value_of(t, one, half);
+    tighten(t, one);
+    before = allocations;
+    TRY(brc_list_push_value(t, list, value));
+    if (allocations < before + 2) fail(__LINE__, BRC_OK);       /* for None, and for the list */
+    TRY(brc_list_pop_value(t, list, &value));
+    is_value_of(t, value, half);
+    for (int i = 0; i < ROUNDS; i++) fill_by_values(t, one, list, dict, mailbox, i);
+    for (int call = half; call < COMINGS; call += 2) come_by_values(t, one, call);
+}
+
 static void life(void) {
     brc_heap heap;
     brc_thread t, forked;
@@ -136,9 +296,14 @@ static void life(void) {
     for (int i = 0; i < ROUNDS; i++) fill(&t, list, dict, mailbox, i);
     for (int i = 0; i < ROUNDS; i++) change(&t, list, dict, i);
     for (int i = 0; i < ROUNDS; i += 2) take(&t, list, dict, mailbox, i);
+    live_by_values(&t, 0);
+    live_by_values(&forked, 1);
     brc_poll(&t);
     brc_work(&t, 10);
     TRY(brc_release_all(&t));
+    TRY(brc_release_all(&forked));
+    while (brc_work(&t, 4096) == 0) { }
+    while (brc_work(&forked, 4096) == 0) { }
     TRY(brc_thread_leave(&forked));
     TRY(brc_thread_leave(&t));
     brc_thread_drop(forked);

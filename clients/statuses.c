@@ -2,7 +2,8 @@
  *
  * A row is a call in a situation, and the status that it must return. The conditions of that status hold there, and those of
  * as many later ones as can hold at once. No earlier one holds. So a call that looks in another order fails a row. After a
- * refusal all must be as before: out parameters, numbers, counts, lengths, ledgers, blocks of memory.
+ * refusal all must be as before: out parameters, numbers, counts, lengths, ledgers, blocks of memory. A put by value has its
+ * rows with a reference, with a scalar, and with what is none of the three.
  *
  * It is linked with
  *
@@ -24,8 +25,8 @@
 #include <time.h>
 #include "brc.h"
 
-enum { REFERENCES = 65536, ENTRIES = 1048576, MOST_THREADS = 64, CALLS = 46 };
-enum { UNWRITTEN = 0xa5, DEAD_ENTRIES = 100000, TRIES = 10000000, SECONDS = 60 };
+enum { REFERENCES = 65536, ENTRIES = 1048576, MOST_THREADS = 64, CALLS = 61 };
+enum { LABEL = 77, UNWRITTEN = 0xa5, DEAD_ENTRIES = 100000, TRIES = 10000000, SECONDS = 60 };
 
 /* ---- What is said */
 
@@ -201,12 +202,15 @@ static void hold(hold_t *h, brc_thread *thread, brc_kind kind, brc_ref object) {
 typedef enum {
     RETAIN, RELEASE, SAME, NOTHING, TRUTH, GLOBALS, NEW_INT, NEW_SMALL, NEW_TEXT, NEW_LIST, NEW_DICT, NEW_MAILBOX, KIND_OF,
     LEN_OF, INT_OF, TRUTH_OF, TEXT_OF, PUSH, POP, TAKE, GET, SET, SEND, RECV, PUT_INT, PUT_TEXT, FIND_INT, FIND_TEXT, DEL_INT,
-    DEL_TEXT, PAIR, LEDGER, RELEASE_ALL, CLAIM, POLL, WORK, COUNT
+    DEL_TEXT, PAIR, LEDGER, RELEASE_ALL, CLAIM, POLL, WORK, COUNT, PUSH_VALUE, POP_VALUE, TAKE_VALUE, GET_VALUE, SET_VALUE,
+    PUT_VALUE, SEND_VALUE, RECV_VALUE, PUT_INT_VALUE, PUT_TEXT_VALUE, FIND_INT_VALUE, FIND_TEXT_VALUE, DEL_INT_VALUE,
+    DEL_TEXT_VALUE, PAIR_VALUE
 } call_t;
 
 /* What a call is given, and where it writes. */
 typedef struct {
     brc_ref one, other;
+    uint32_t holds;             /* what a value holds: its bits are `other` */
     int64_t key;
     uint32_t index;
     const uint8_t *bytes;
@@ -218,7 +222,8 @@ typedef struct {
     int64_t value;
     uint64_t allocs, frees;
     size_t len;
-    uint32_t word;
+    uint32_t word, pairs;
+    brc_value datum;
     brc_key key;
     uint8_t text[16];
 } outs_t;
@@ -227,6 +232,7 @@ enum { NOT_SO = 99 };           /* a call without a status returned something el
 
 static brc_status make_call(call_t call, brc_thread *t, const inputs_t *in, outs_t *out) {
     const brc_ref one = in->one, other = in->other;
+    const brc_value value = {other, LABEL, in->holds};
     switch (call) {
     case RETAIN: return brc_retain(t, one, &out->ref);
     case RELEASE: return brc_release(t, one);
@@ -265,6 +271,22 @@ static brc_status make_call(call_t call, brc_thread *t, const inputs_t *in, outs
     case POLL: return brc_poll(t) == 0 ? BRC_OK : NOT_SO;
     case WORK: return brc_work(t, 7) == 7 ? BRC_OK : NOT_SO;
     case COUNT: return brc_count(t) == 0 ? BRC_OK : NOT_SO;
+    case PUSH_VALUE: return brc_list_push_value(t, one, value);
+    case POP_VALUE: return brc_list_pop_value(t, one, &out->datum);
+    case TAKE_VALUE: return brc_list_take_value(t, one, in->index, &out->datum);
+    case GET_VALUE: return brc_list_get_value(t, one, in->index, &out->datum);
+    case SET_VALUE: return brc_list_set_value(t, one, in->index, value, &out->datum);
+    case PUT_VALUE: return brc_list_put_value(t, one, in->index, value, &out->datum);
+    case SEND_VALUE: return brc_send_value(t, one, value);
+    case RECV_VALUE: return brc_recv_value(t, one, &out->datum);
+    case PUT_INT_VALUE: return brc_dict_put_int_value(t, one, in->key, value, &out->datum);
+    case PUT_TEXT_VALUE: return brc_dict_put_text_value(t, one, in->bytes, in->len, value, &out->datum);
+    case FIND_INT_VALUE: return brc_dict_find_int_value(t, one, in->key, &out->datum);
+    case FIND_TEXT_VALUE: return brc_dict_find_text_value(t, one, in->bytes, in->len, &out->datum);
+    case DEL_INT_VALUE: return brc_dict_del_int_value(t, one, in->key, &out->datum);
+    case DEL_TEXT_VALUE: return brc_dict_del_text_value(t, one, in->bytes, in->len, &out->datum);
+    case PAIR_VALUE:
+        return brc_dict_pair_value(t, one, in->index, &out->key, out->text, sizeof out->text, &out->datum, &out->pairs);
     default: abort();
     }
 }
@@ -272,12 +294,16 @@ static brc_status make_call(call_t call, brc_thread *t, const inputs_t *in, outs
 /* ---- Their rows */
 
 /* Who calls. READY has places to spare, FULL has 65,536 references, TIGHT has no place without memory for one, and LEFT has
- * left. TIGHT is also whose calls are stopped: each asks for memory. The heap has no free cell. */
-typedef enum { READY, FULL, TIGHT, LEFT, WHO } who_t;
+ * left. TIGHT is also whose calls are stopped: each asks for memory. The heap has no free cell. READY, TIGHT and KEEPS have
+ * put a value, and keep a reference to None. KEEPS has 65,535 others, and so no place. FULL and BARE keep none, and BARE has
+ * no place without memory. */
+typedef enum { READY, FULL, TIGHT, KEEPS, BARE, LEFT, WHO } who_t;
 
-/* Objects that each of them has a reference to. LIST, DICT and MAILBOX have entries, and one more needs memory. */
+/* Objects that each of them has a reference to. Six have entries, and one more needs memory: LIST, DICT and MAILBOX have
+ * references to an integer, and the three behind them have scalars. A full one has references to None. */
 typedef enum {
-    EMPTY_LIST, LIST, FULL_LIST, EMPTY_DICT, DICT, FULL_DICT, EMPTY_MAILBOX, MAILBOX, FULL_MAILBOX, INT, TEXT, OBJECTS
+    EMPTY_LIST, LIST, SCALAR_LIST, FULL_LIST, EMPTY_DICT, DICT, SCALAR_DICT, FULL_DICT, EMPTY_MAILBOX, MAILBOX,
+    SCALAR_MAILBOX, FULL_MAILBOX, INT, TEXT, OBJECTS
 } object_t;
 
 /* Which number a call is given. ZERO to AWAY name no reference of the thread. VALUE names an integer, and TWICE is the first
@@ -287,8 +313,9 @@ typedef enum {
     ZERO, THEIRS, ELSEWHERE, SPENT, AWAY, VALUE, TWICE, WRONG, EMPTY, SOME, MOST, OTHER_EMPTY, OTHER_MOST
 } number_t;
 
-/* Which key, index or text. FIRST is there. ABSENT is just past the end, FAR is the largest index, BAD isn't UTF-8. */
-typedef enum { FIRST, ABSENT, FAR, BAD } at_t;
+/* Which key, index or text. FIRST is there, and so is SECOND, whose index is 1: in a dictionary the first pair has a text for
+ * its key, and the second a number. ABSENT is just past the end, FAR is the largest index, BAD isn't UTF-8. */
+typedef enum { FIRST, SECOND, ABSENT, FAR, BAD } at_t;
 
 typedef struct {
     const char *what;
@@ -297,7 +324,7 @@ typedef struct {
     at_t at;
     long given;                 /* how many allocations the call is given */
     brc_status wanted;
-    brc_status otherwise;       /* what comes instead of BUSY, once the object isn't locked */
+    brc_status otherwise;       /* what comes instead of BUSY, or still the same, once the object isn't locked */
 } row_t;
 
 static const row_t THREAD_LEFT[] = {
@@ -393,6 +420,7 @@ static const row_t GIVES[] = {
     {"the container is empty", FULL, EMPTY, VALUE, FIRST, NONE, BRC_NO_SUCH_PLACE, 0},
     {"the container is empty, and no memory for a place", TIGHT, EMPTY, VALUE, FIRST, NONE, BRC_NO_SUCH_PLACE, 0},
     {"the thread has 65,536 references", FULL, SOME, VALUE, FIRST, NONE, BRC_FRAME_FULL, 0},
+    {"the thread has 65,535 references, and keeps one to None", KEEPS, SOME, VALUE, FIRST, NONE, BRC_FRAME_FULL, 0},
     {"no memory for a place", TIGHT, SOME, VALUE, FIRST, NONE, BRC_OUT_OF_MEMORY, 0},
     {0}};
 static const row_t INDEXES[] = {
@@ -406,6 +434,7 @@ static const row_t FINDS[] = {
     {"the key isn't there", FULL, SOME, VALUE, ABSENT, NONE, BRC_NO_SUCH_KEY, 0},
     {"the key isn't there, and no memory for a place", TIGHT, SOME, VALUE, ABSENT, NONE, BRC_NO_SUCH_KEY, 0},
     {"the thread has 65,536 references", FULL, SOME, VALUE, FIRST, NONE, BRC_FRAME_FULL, 0},
+    {"the thread has 65,535 references, and keeps one to None", KEEPS, SOME, VALUE, FIRST, NONE, BRC_FRAME_FULL, 0},
     {"no memory for a place", TIGHT, SOME, VALUE, FIRST, NONE, BRC_OUT_OF_MEMORY, 0},
     {0}};
 static const row_t KEY_COPY[] = {
@@ -415,6 +444,7 @@ static const row_t KEY_COPY[] = {
 /* Of the frame and the heap. */
 static const row_t PLACE[] = {
     {"the thread has 65,536 references", FULL, SOME, VALUE, FIRST, NONE, BRC_FRAME_FULL, 0},
+    {"the thread has 65,535 references, and keeps one to None", KEEPS, SOME, VALUE, FIRST, NONE, BRC_FRAME_FULL, 0},
     {"no memory for a place", TIGHT, SOME, VALUE, FIRST, NONE, BRC_OUT_OF_MEMORY, 0},
     {0}};
 static const row_t CELL[] = {
@@ -431,6 +461,81 @@ static const row_t NEW_BYTES[] = {
     {"the heap is full", READY, SOME, VALUE, FIRST, ALL, BRC_HEAP_FULL, 0},
     {0}};
 
+/* Of a value that holds none of the three. Its numbers would be refused, too. */
+static const row_t NOT_VALUES[] = {
+    {"the thread has left, and the value is none of the three", LEFT, ZERO, TWICE, FAR, NONE, BRC_GONE, 0},
+    {"none of the three, and the numbers are 0", FULL, ZERO, TWICE, FAR, NONE, BRC_NOT_VALUE, 0},
+    {"none of the three; the first is another thread's", FULL, THEIRS, SPENT, FAR, NONE, BRC_NOT_VALUE, 0},
+    {"none of the three; the first was released", FULL, SPENT, ELSEWHERE, FAR, NONE, BRC_NOT_VALUE, 0},
+    {"none of the three, and one number twice", FULL, SOME, TWICE, FAR, NONE, BRC_NOT_VALUE, 0},
+    {"none of the three, and the object is of another kind", FULL, OTHER_MOST, VALUE, FAR, NONE, BRC_NOT_VALUE, 0},
+    {"none of the three, and the container is full", FULL, MOST, VALUE, ABSENT, NONE, BRC_NOT_VALUE, 0},
+    {0}};
+static const row_t LARGEST[] = {
+    {"the largest of what is none of the three", FULL, ZERO, TWICE, FAR, NONE, BRC_NOT_VALUE, 0},
+    {0}};
+
+/* The thread's first put of a value makes a reference to None, before it looks at the object. */
+static const row_t MAKES_NONE[] = {
+    {"no place for None, and of another kind", FULL, OTHER_MOST, VALUE, ABSENT, NONE, BRC_FRAME_FULL, BRC_FRAME_FULL},
+    {"no place for None, and the container is full", FULL, MOST, VALUE, ABSENT, NONE, BRC_FRAME_FULL, BRC_FRAME_FULL},
+    {"no place for None, and there is the entry", FULL, SOME, VALUE, FIRST, NONE, BRC_FRAME_FULL, BRC_FRAME_FULL},
+    {"no memory for None, and of another kind", BARE, OTHER_MOST, VALUE, ABSENT, NONE, BRC_OUT_OF_MEMORY,
+     BRC_OUT_OF_MEMORY},
+    {"no memory for None, and the container is full", BARE, MOST, VALUE, ABSENT, NONE, BRC_OUT_OF_MEMORY, BRC_OUT_OF_MEMORY},
+    {"no memory for None, and there is the entry", BARE, SOME, VALUE, FIRST, NONE, BRC_OUT_OF_MEMORY, BRC_OUT_OF_MEMORY},
+    {0}};
+
+/* A scalar is no number, whatever its bits are. */
+static const row_t ANY_BITS[] = {
+    {"another thread has the object, and the scalar is its number", FULL, WRONG, TWICE, FAR, NONE, BRC_BUSY, BRC_WRONG_KIND},
+    {"another thread has the object, and the scalar is 0", FULL, WRONG, ZERO, FAR, NONE, BRC_BUSY, BRC_WRONG_KIND},
+    {"of another kind, and the scalar is its number", FULL, WRONG, TWICE, FAR, NONE, BRC_WRONG_KIND, 0},
+    {"of another kind, and the scalar is 0", FULL, WRONG, ZERO, FAR, NONE, BRC_WRONG_KIND, 0},
+    {"of another kind, and the scalar is another thread's number", FULL, WRONG, THEIRS, FAR, NONE, BRC_WRONG_KIND, 0},
+    {"of another kind, and the scalar is another heap's number", FULL, WRONG, ELSEWHERE, FAR, NONE, BRC_WRONG_KIND, 0},
+    {"of another kind, and the scalar is a number that was released", FULL, WRONG, SPENT, FAR, NONE, BRC_WRONG_KIND, 0},
+    {"of another kind, and the scalar is a number that was given away", FULL, WRONG, AWAY, FAR, NONE, BRC_WRONG_KIND, 0},
+    {0}};
+
+/* A scalar for a reference, which wants a place; and for a scalar, which wants none. */
+static const row_t FOR_REFERENCE[] = {
+    {"another thread has the container, where a reference stands", FULL, SOME, VALUE, FIRST, NONE, BRC_BUSY, BRC_FRAME_FULL},
+    {"no place for the reference that comes out", FULL, SOME, VALUE, FIRST, NONE, BRC_FRAME_FULL, 0},
+    {"no memory for the place of what comes out", TIGHT, SOME, VALUE, FIRST, NONE, BRC_OUT_OF_MEMORY, 0},
+    {0}};
+static const row_t FOR_SCALAR[] = {
+    {"another thread has the container, where a scalar stands", FULL, SOME, ELSEWHERE, FIRST, NONE, BRC_BUSY, BRC_OK},
+    {"no place, and a scalar comes out", FULL, SOME, ELSEWHERE, FIRST, NONE, BRC_OK, 0},
+    {"no memory for a place, and a scalar comes out", TIGHT, SOME, ELSEWHERE, FIRST, NONE, BRC_OK, 0},
+    {0}};
+static const row_t PUTS_AT[] = {
+    {"another thread has the list, which is full", FULL, MOST, VALUE, FAR, NONE, BRC_BUSY, BRC_NO_SUCH_PLACE},
+    {"the list is empty, and the index is 1", FULL, EMPTY, VALUE, SECOND, NONE, BRC_NO_SUCH_PLACE, 0},
+    {"the index is far past the end", FULL, SOME, VALUE, FAR, NONE, BRC_NO_SUCH_PLACE, 0},
+    {"the list is full, and the index is far past the end", FULL, MOST, VALUE, FAR, NONE, BRC_NO_SUCH_PLACE, 0},
+    {0}};
+
+/* Of a scalar that comes out, and of one that is looked at. */
+static const row_t GIVES_SCALAR[] = {
+    {"another thread has the container, where a scalar stands", FULL, SOME, VALUE, FIRST, NONE, BRC_BUSY, BRC_FRAME_FULL},
+    {"a scalar, and the thread has 65,536 references", FULL, SOME, VALUE, FIRST, NONE, BRC_FRAME_FULL, 0},
+    {"a scalar, and 65,535 references and one to None", KEEPS, SOME, VALUE, FIRST, NONE, BRC_FRAME_FULL, 0},
+    {0}};
+static const row_t LOOKS[] = {
+    {"another thread has the container, where a scalar stands", FULL, SOME, VALUE, SECOND, NONE, BRC_BUSY, BRC_OK},
+    {"a scalar, and the thread has 65,536 references", FULL, SOME, VALUE, SECOND, NONE, BRC_OK, 0},
+    {"a scalar, and no memory for a place", BARE, SOME, VALUE, SECOND, NONE, BRC_OK, 0},
+    {0}};
+static const row_t LOOKS_AT_KEY[] = {
+    {"a scalar, 65,536 references, and no memory for the key", FULL, SOME, VALUE, FIRST, NONE, BRC_OUT_OF_MEMORY, 0},
+    {"a scalar, and no memory for the key", READY, SOME, VALUE, FIRST, NONE, BRC_OUT_OF_MEMORY, 0},
+    {0}};
+static const row_t COPIED_KEY[] = {
+    {"memory for the key, and the thread has 65,536 references", FULL, SOME, VALUE, FIRST, 1, BRC_FRAME_FULL, 0},
+    {"memory for the key, and none for a place", TIGHT, SOME, VALUE, FIRST, 1, BRC_OUT_OF_MEMORY, 0},
+    {0}};
+
 /* A call, its objects from WRONG to OTHER_MOST, and its rows in the order of brc.h. */
 typedef struct {
     call_t call;
@@ -444,6 +549,9 @@ typedef struct {
 #define LISTS {TEXT, EMPTY_LIST, LIST, FULL_LIST, EMPTY_MAILBOX, FULL_MAILBOX}
 #define DICTS {TEXT, EMPTY_DICT, DICT, FULL_DICT, EMPTY_LIST, FULL_LIST}
 #define MAILBOXES {TEXT, EMPTY_MAILBOX, MAILBOX, FULL_MAILBOX, EMPTY_DICT, FULL_DICT}
+#define SCALAR_LISTS {TEXT, EMPTY_LIST, SCALAR_LIST, FULL_LIST, EMPTY_MAILBOX, FULL_MAILBOX}
+#define SCALAR_DICTS {TEXT, EMPTY_DICT, SCALAR_DICT, FULL_DICT, EMPTY_LIST, FULL_LIST}
+#define SCALAR_MAILBOXES {TEXT, EMPTY_MAILBOX, SCALAR_MAILBOX, FULL_MAILBOX, EMPTY_DICT, FULL_DICT}
 
 static const about_t ABOUT[] = {
     {LEDGER, "brc_ledger", ANY, {THREAD_LEFT}},
@@ -483,6 +591,43 @@ static const about_t ABOUT[] = {
     {DEL_INT, "brc_dict_del_int", DICTS, {NUMBER, OTHER_KIND, OTHER_CONTAINER, FINDS}},
     {DEL_TEXT, "brc_dict_del_text", DICTS, {KEY, NUMBER, OTHER_KIND, OTHER_CONTAINER, FINDS}},
     {PAIR, "brc_dict_pair", DICTS, {NUMBER, OTHER_KIND, OTHER_CONTAINER, INDEXES, GIVES, KEY_COPY}},
+    {POP_VALUE, "brc_list_pop_value", LISTS, {NUMBER, OTHER_KIND, OTHER_CONTAINER, GIVES}},
+    {POP_VALUE, "brc_list_pop_value", SCALAR_LISTS, {GIVES_SCALAR}},
+    {TAKE_VALUE, "brc_list_take_value", LISTS, {NUMBER, OTHER_KIND, OTHER_CONTAINER, INDEXES, GIVES}},
+    {TAKE_VALUE, "brc_list_take_value", SCALAR_LISTS, {GIVES_SCALAR}},
+    {GET_VALUE, "brc_list_get_value", LISTS, {NUMBER, OTHER_KIND, OTHER_CONTAINER, INDEXES, GIVES}},
+    {GET_VALUE, "brc_list_get_value", SCALAR_LISTS, {LOOKS}},
+    {RECV_VALUE, "brc_recv_value", MAILBOXES, {NUMBER, OTHER_KIND, OTHER_CONTAINER, GIVES}},
+    {RECV_VALUE, "brc_recv_value", SCALAR_MAILBOXES, {GIVES_SCALAR}},
+    {FIND_INT_VALUE, "brc_dict_find_int_value", DICTS, {NUMBER, OTHER_KIND, OTHER_CONTAINER, FINDS}},
+    {FIND_INT_VALUE, "brc_dict_find_int_value", SCALAR_DICTS, {LOOKS}},
+    {FIND_TEXT_VALUE, "brc_dict_find_text_value", DICTS, {KEY, NUMBER, OTHER_KIND, OTHER_CONTAINER, FINDS}},
+    {FIND_TEXT_VALUE, "brc_dict_find_text_value", SCALAR_DICTS, {LOOKS}},
+    {DEL_INT_VALUE, "brc_dict_del_int_value", DICTS, {NUMBER, OTHER_KIND, OTHER_CONTAINER, FINDS}},
+    {DEL_INT_VALUE, "brc_dict_del_int_value", SCALAR_DICTS, {GIVES_SCALAR}},
+    {DEL_TEXT_VALUE, "brc_dict_del_text_value", DICTS, {KEY, NUMBER, OTHER_KIND, OTHER_CONTAINER, FINDS}},
+    {DEL_TEXT_VALUE, "brc_dict_del_text_value", SCALAR_DICTS, {GIVES_SCALAR}},
+    {PAIR_VALUE, "brc_dict_pair_value", DICTS, {NUMBER, OTHER_KIND, OTHER_CONTAINER, INDEXES, GIVES, KEY_COPY, COPIED_KEY}},
+    {PAIR_VALUE, "brc_dict_pair_value", SCALAR_DICTS, {LOOKS, LOOKS_AT_KEY}},
+};
+
+/* A call that puts a value, its objects, and those where scalars stand. */
+typedef struct {
+    call_t call;
+    const char *name;
+    object_t of[6], of_scalars[6];
+    const row_t *key;           /* NULL, if it has no key that is a text */
+    const row_t *puts[3];       /* behind WRONG_KIND; NULL behind the last */
+    int gives;                  /* whether what stood there comes out */
+} put_t;
+
+static const put_t VALUE_PUTS[] = {
+    {PUSH_VALUE, "brc_list_push_value", LISTS, SCALAR_LISTS, NULL, {PUTS}, 0},
+    {SET_VALUE, "brc_list_set_value", LISTS, SCALAR_LISTS, NULL, {SETS}, 1},
+    {PUT_VALUE, "brc_list_put_value", LISTS, SCALAR_LISTS, NULL, {PUTS_AT, PUTS}, 1},
+    {SEND_VALUE, "brc_send_value", MAILBOXES, SCALAR_MAILBOXES, NULL, {PUTS}, 0},
+    {PUT_INT_VALUE, "brc_dict_put_int_value", DICTS, SCALAR_DICTS, NULL, {PUTS}, 1},
+    {PUT_TEXT_VALUE, "brc_dict_put_text_value", DICTS, SCALAR_DICTS, KEY, {PUTS, COPIES}, 1},
 };
 
 /* ---- The heap that they are played in */
@@ -511,12 +656,15 @@ static void leave(brc_thread *t) {
 static void make_objects(brc_thread *t, brc_ref *made) {
     MUST(brc_new_list(t, &made[EMPTY_LIST]));
     MUST(brc_new_list(t, &made[LIST]));
+    MUST(brc_new_list(t, &made[SCALAR_LIST]));
     MUST(brc_new_list(t, &made[FULL_LIST]));
     MUST(brc_new_dict(t, &made[EMPTY_DICT]));
     MUST(brc_new_dict(t, &made[DICT]));
+    MUST(brc_new_dict(t, &made[SCALAR_DICT]));
     MUST(brc_new_dict(t, &made[FULL_DICT]));
     MUST(brc_new_mailbox(t, &made[EMPTY_MAILBOX]));
     MUST(brc_new_mailbox(t, &made[MAILBOX]));
+    MUST(brc_new_mailbox(t, &made[SCALAR_MAILBOX]));
     MUST(brc_new_mailbox(t, &made[FULL_MAILBOX]));
     MUST(brc_new_int(t, 1000, &made[INT]));
     MUST(brc_new_str(t, "a text that no thread has read", &made[TEXT]));
@@ -542,20 +690,63 @@ static void fill(object_t container) {
     CHECK(len == ENTRIES);
 }
 
-/* Entries come until one more needs memory. The first is known by its number, the key of a dictionary's first is a text. */
+/* References to an integer come until one more needs memory. It is known by its number. A dictionary's first key is a text. */
 static void fill_what_is_had(object_t container) {
     brc_thread *t = &threads[READY];
-    brc_ref value, old;
-    brc_status s = BRC_OK;
-    if (container == DICT) MUST(brc_put(t, held[READY][DICT], "key", none(t), &old));
-    MUST(brc_new_int(t, 2000 + (int64_t)container, &value));
-    MUST(put_one(container, 0, value));
-    value = none(t);
+    brc_ref one, more, old;
+    brc_status s;
+    MUST(brc_new_int(t, 2000 + (int64_t)container, &one));
+    MUST(brc_retain(t, one, &more));
+    if (container == DICT) {
+        MUST(brc_put(t, held[READY][DICT], "key", more, &old));
+        MUST(brc_retain(t, one, &more));
+    }
+    MUST(put_one(container, 0, more));
+    MUST(brc_retain(t, one, &more));
     given = NONE;
-    for (int64_t key = 1; (s = put_one(container, key, value)) == BRC_OK; key++) value = none(t);
+    for (int64_t key = 1; (s = put_one(container, key, more)) == BRC_OK; key++) MUST(brc_retain(t, one, &more));
     given = ALL;
     settle(s, BRC_OUT_OF_MEMORY);
-    MUST(brc_release(t, value));
+    MUST(brc_release(t, more));
+    MUST(brc_release(t, one));
+}
+
+/* The scalars of the containers. Their bits are a number of another heap. */
+static brc_value scalar(void) { return brc_of_bits(LABEL, elsewhere); }
+
+static int is_scalar(const brc_value *value) {
+    return value->holds == BRC_SCALAR && value->label == LABEL && value->bits == elsewhere;
+}
+
+static brc_status put_scalar(object_t container, int64_t key) {
+    brc_thread *t = &threads[READY];
+    const brc_ref into = held[READY][container];
+    brc_value old;
+    if (container == SCALAR_LIST) return brc_list_push_value(t, into, scalar());
+    if (container == SCALAR_DICT) return brc_dict_put_int_value(t, into, key, scalar(), &old);
+    return brc_send_value(t, into, scalar());
+}
+
+/* Scalars come until one more needs memory. A dictionary's first key is a text. */
+static void fill_with_scalars(object_t container) {
+    brc_thread *t = &threads[READY];
+    const uint8_t *text = (const uint8_t *)"key";
+    brc_value old;
+    brc_status s;
+    if (container == SCALAR_DICT) MUST(brc_dict_put_text_value(t, held[READY][SCALAR_DICT], text, 3, scalar(), &old));
+    MUST(put_scalar(container, 0));
+    given = NONE;
+    for (int64_t key = 1; (s = put_scalar(container, key)) == BRC_OK; key++) { }
+    given = ALL;
+    settle(s, BRC_OUT_OF_MEMORY);
+}
+
+/* The thread puts a value, and keeps a reference to None from then on. */
+static void keep_none(who_t who) {
+    brc_value value;
+    MUST(brc_list_push_value(&threads[who], held[who][SCALAR_LIST], scalar()));
+    MUST(brc_list_pop_value(&threads[who], held[who][SCALAR_LIST], &value));
+    CHECK(is_scalar(&value));
 }
 
 /* The others find the objects in the globals. */
@@ -598,6 +789,7 @@ static void fill_heap_and_frame(void) {
     for (int64_t i = 3000; s == BRC_OK; i++) s = brc_new_int(&threads[READY], i, &made);
     settle(s, BRC_HEAP_FULL);
     while (brc_count(&threads[FULL]) < REFERENCES) none(&threads[FULL]);
+    while (brc_count(&threads[KEEPS]) < REFERENCES - 1) none(&threads[KEEPS]);
 }
 
 static void build(void) {
@@ -612,13 +804,18 @@ static void build(void) {
     for (int who = READY; who < WHO; who++) spend((who_t)who);
     MUST(brc_release_all(&threads[LEFT]));
     leave(&threads[LEFT]);
-    for (object_t it = EMPTY_LIST; it < INT; it += 3) {
+    keep_none(READY);
+    keep_none(TIGHT);
+    keep_none(KEEPS);
+    for (object_t it = EMPTY_LIST; it < INT; it += 4) {
         fill_what_is_had(it + 1);
-        fill(it + 2);
+        fill_with_scalars(it + 2);
+        fill(it + 3);
     }
     fill_heap_and_frame();
     tighten(READY, 8);
     tighten(TIGHT, 0);
+    tighten(BARE, 0);
     brc_poll(&threads[READY]);
 }
 
@@ -661,6 +858,7 @@ typedef struct {
     uint32_t registered, left;
     object_look_t objects[WHO][OBJECTS];
     int64_t first_of_list, first_of_dict;
+    brc_value first_scalars[2];
     long blocks;
 } look_t;
 
@@ -687,6 +885,9 @@ static void look(look_t *to) {
     MUST(brc_dict_find_int(&threads[READY], held[READY][DICT], 0, &first));
     MUST(brc_int_of(&threads[READY], first, &to->first_of_dict));
     MUST(brc_release(&threads[READY], first));
+    MUST(brc_list_get_value(&threads[READY], held[READY][SCALAR_LIST], 0, &to->first_scalars[0]));
+    MUST(brc_dict_find_int_value(&threads[READY], held[READY][SCALAR_DICT], 0, &to->first_scalars[1]));
+    CHECK(is_scalar(&to->first_scalars[0]) && is_scalar(&to->first_scalars[1]));
     MUST(brc_heap_counts(&heap, &to->registered, &to->left, &to->allocs, &to->frees));
     to->blocks = blocks;
 }
@@ -704,16 +905,17 @@ static brc_ref number_of(who_t who, number_t which, object_t object) {
 
 static object_t object_of(const about_t *about, const row_t *row) { return about->of[row->one < WRONG ? 0 : row->one - WRONG]; }
 
-static inputs_t inputs_of(const about_t *about, const row_t *row) {
-    static const char *const TEXT_KEYS[] = {"key", "another key", "another key", "\xff"};
+static inputs_t inputs_of(const about_t *about, const row_t *row, uint32_t holds) {
+    static const char *const TEXT_KEYS[] = {"key", "key", "another key", "another key", "\xff"};
     const object_t object = object_of(about, row);
     inputs_t in;
     size_t len = 0;
     if (object < INT) MUST(brc_len_of(&threads[READY], held[READY][object], &len));
     in.one = number_of(row->who, row->one, object);
     in.other = row->other == TWICE ? in.one : number_of(row->who, row->other, INT);
-    in.key = row->at == FIRST ? 0 : -1;
-    in.index = row->at == FIRST ? 0 : row->at == ABSENT ? (uint32_t)len : UINT32_MAX;
+    in.holds = holds;
+    in.key = row->at <= SECOND ? 0 : -1;
+    in.index = row->at <= SECOND ? (uint32_t)row->at : row->at == ABSENT ? (uint32_t)len : UINT32_MAX;
     in.bytes = (const uint8_t *)TEXT_KEYS[row->at];
     in.len = strlen(TEXT_KEYS[row->at]);
     return in;
@@ -729,6 +931,7 @@ static void expect(const about_t *about, const row_t *row, const inputs_t *in, b
     given = ALL;
     settle(s, wanted);
     CHECK(s == BRC_OK || is_unwritten(&out, sizeof out));
+    CHECK(s != BRC_OK || about->call < PUSH_VALUE || is_scalar(&out.datum));
 }
 
 /* One of TIGHT's calls is stopped with the object locked. Returns whether it has it locked: so says another call. */
@@ -740,19 +943,21 @@ static int hold_object(hold_t *h, object_t object) {
 }
 
 /* Statuses that come before BUSY, if the call has it: so they are wanted while the object is locked. */
-static int comes_first(brc_status s) {
-    return s == BRC_GONE || s == BRC_NOT_TEXT || s == BRC_FOREIGN || s == BRC_STALE || s == BRC_SAME || s == BRC_BUSY;
+static int comes_first(const row_t *row) {
+    const brc_status s = row->wanted;
+    if (s == BRC_GONE || s == BRC_NOT_TEXT || s == BRC_NOT_VALUE || s == BRC_FOREIGN || s == BRC_STALE) return 1;
+    return s == BRC_SAME || s == BRC_BUSY || (s != BRC_OK && s == row->otherwise);
 }
 
-static void play(const about_t *about, const row_t *row) {
+static void play(const about_t *about, const row_t *row, uint32_t holds) {
     look_t before, after;
     hold_t h;
     inputs_t in;
     int is_seen = 1;
     begin_row(about->name, row->what);
-    in = inputs_of(about, row);
+    in = inputs_of(about, row, holds);
     look(&before);
-    if (comes_first(row->wanted)) {
+    if (comes_first(row)) {
         is_seen = hold_object(&h, object_of(about, row)) || row->wanted != BRC_BUSY;
         expect(about, row, &in, is_seen ? row->wanted : row->otherwise);
         let_go(&h);
@@ -767,7 +972,46 @@ static void play(const about_t *about, const row_t *row) {
 static void play_all(void) {
     for (size_t i = 0; i < sizeof ABOUT / sizeof ABOUT[0]; i++)
         for (int k = 0; ABOUT[i].parts[k] != NULL; k++)
-            for (const row_t *row = ABOUT[i].parts[k]; row->what != NULL; row++) play(&ABOUT[i], row);
+            for (const row_t *row = ABOUT[i].parts[k]; row->what != NULL; row++) play(&ABOUT[i], row, BRC_NO_VALUE);
+}
+
+/* Rows of a put, with a value that holds this. Where the rows have FULL, `full` calls. */
+static void play_part(const put_t *put, who_t full, uint32_t holds, const row_t *part) {
+    about_t about = {put->call, put->name, ANY, {NULL}};
+    memcpy(about.of, part == FOR_SCALAR ? put->of_scalars : put->of, sizeof about.of);
+    for (const row_t *row = part; row != NULL && row->what != NULL; row++) {
+        row_t here = *row;
+        if (here.who == FULL) here.who = full;
+        play(&about, &here, holds);
+    }
+}
+
+/* FULL makes a reference to None in a put, if it gets so far; KEEPS has one. */
+static void play_put(const put_t *put, uint32_t holds) {
+    const int has_number = holds == BRC_REFERENCE;
+    play_part(put, FULL, holds, put->key);
+    play_part(put, FULL, holds, has_number ? NUMBERS_OF_TWO : NUMBER);
+    if (has_number) play_part(put, FULL, holds, ONE_TWICE);
+    play_part(put, FULL, holds, MAKES_NONE);
+    play_part(put, KEEPS, holds, OTHER_KIND);
+    play_part(put, KEEPS, holds, OTHER_CONTAINER);
+    if (!has_number) play_part(put, KEEPS, holds, ANY_BITS);
+    for (int k = 0; put->puts[k] != NULL; k++) play_part(put, KEEPS, holds, put->puts[k]);
+    if (has_number || !put->gives) return;
+    play_part(put, KEEPS, holds, FOR_REFERENCE);
+    play_part(put, KEEPS, holds, FOR_SCALAR);
+}
+
+static void play_puts(void) {
+    for (size_t i = 0; i < sizeof VALUE_PUTS / sizeof VALUE_PUTS[0]; i++) {
+        const put_t *put = &VALUE_PUTS[i];
+        play_part(put, FULL, BRC_REFERENCE + 1, put->key);
+        play_part(put, FULL, BRC_REFERENCE + 1, NOT_VALUES);
+        play_part(put, FULL, UINT32_MAX, LARGEST);
+        play_put(put, BRC_REFERENCE);
+        play_put(put, BRC_SCALAR);
+        play_put(put, BRC_NO_VALUE);
+    }
 }
 
 /* Calls that are never BUSY, while the text and the register are locked. */
@@ -1168,6 +1412,97 @@ static void reports_its_ledger(void) {
     end_life(&l);
 }
 
+/* A reference to None is kept from the first put on, until the thread leaves. So it has places for 65,535 others. */
+static void keeps_a_none(void) {
+    life_t l;
+    brc_thread *t;
+    brc_ref list, more = BRC_NONE, none_more;
+    brc_value value;
+    arrange(&l, OPEN);
+    t = &l.threads[0];
+    MUST(brc_new_list(t, &list));
+    while (brc_count(t) < REFERENCES - 1) more = none(t);
+    MUST(brc_list_push_value(t, list, scalar()));
+    CHECK(brc_count(t) == REFERENCES - 1);
+    settle(brc_none(t, &none_more), BRC_FRAME_FULL);
+    settle(brc_list_pop_value(t, list, &value), BRC_FRAME_FULL);
+    MUST(brc_list_get_value(t, list, 0, &value));
+    CHECK(is_scalar(&value));
+    MUST(brc_release(t, more));
+    MUST(brc_list_pop_value(t, list, &value));
+    CHECK(is_scalar(&value) && brc_count(t) == REFERENCES - 2);
+    MUST(brc_release_all(t));
+    CHECK(brc_count(t) == 0);
+    while (brc_count(t) < REFERENCES - 1) none(t);
+    settle(brc_none(t, &none_more), BRC_FRAME_FULL);
+    end_life(&l);
+}
+
+/* A thread that keeps a reference to None is dropped, and has left. */
+static void drops_a_none(void) {
+    life_t l;
+    brc_ref list;
+    heap_outs_t out;
+    arrange(&l, OPEN);
+    MUST(brc_new_list(&l.threads[0], &list));
+    MUST(brc_list_push_value(&l.threads[0], list, scalar()));
+    drop(&l.threads[0]);
+    MUST(call_heap(&l, COUNTS, ALL, &out));
+    CHECK(out.registered == 2 && out.left == 1 && out.allocs == 1 && out.frees == 1);
+    end_life(&l);
+}
+
+/* None is a scalar, if it comes out by value, and a scalar is None, if it comes out alone. */
+static void mixes_its_calls(void) {
+    life_t l;
+    brc_thread *t;
+    brc_ref list, more;
+    brc_value value;
+    brc_kind kind;
+    arrange(&l, OPEN);
+    t = &l.threads[0];
+    MUST(brc_new_list(t, &list));
+    more = none(t);
+    MUST(brc_list_push_value(t, list, brc_of_ref(LABEL, more)));
+    settle(brc_release(t, more), BRC_STALE);
+    MUST(brc_list_push(t, list, none(t)));
+    MUST(brc_list_push_value(t, list, scalar()));
+    MUST(brc_list_pop(t, list, &more));
+    MUST(brc_kind_of(t, more, &kind));
+    CHECK(kind == BRC_NOTHING);
+    MUST(brc_list_pop_value(t, list, &value));
+    CHECK(value.holds == BRC_SCALAR && value.label == 0 && value.bits == 0);
+    MUST(brc_list_pop_value(t, list, &value));
+    CHECK(value.holds == BRC_SCALAR && value.label == LABEL && value.bits == 0);
+    end_life(&l);
+}
+
+static void looks_at_pairs(void) {
+    life_t l;
+    brc_thread *t;
+    brc_ref dict, made;
+    brc_value value;
+    brc_key key;
+    uint8_t text[4];
+    uint32_t pairs = 0;
+    arrange(&l, OPEN);
+    t = &l.threads[0];
+    MUST(brc_new_dict(t, &dict));
+    MUST(brc_new_int(t, 1000, &made));
+    MUST(brc_dict_put_int_value(t, dict, -7, scalar(), &value));
+    CHECK(value.holds == BRC_NO_VALUE && value.label == 0 && value.bits == 0);
+    MUST(brc_dict_put_text_value(t, dict, (const uint8_t *)"a key", 5, brc_of_ref(LABEL, made), &value));
+    CHECK(value.holds == BRC_NO_VALUE && value.label == 0 && value.bits == 0);
+    MUST(brc_dict_pair_value(t, dict, 0, &key, text, sizeof text, &value, &pairs));
+    CHECK(!key.is_text && key.number == -7 && is_scalar(&value) && pairs == 2);
+    MUST(brc_dict_pair_value(t, dict, 1, &key, text, sizeof text, &value, &pairs));
+    CHECK(key.is_text && key.len == 5 && memcmp(text, "a ke", 4) == 0 && pairs == 2);
+    CHECK(value.holds == BRC_REFERENCE && value.label == LABEL);
+    MUST(brc_release(t, value.bits));
+    settle(brc_dict_pair_value(t, dict, pairs, &key, text, sizeof text, &value, &pairs), BRC_NO_SUCH_PLACE);
+    end_life(&l);
+}
+
 static void *leaver(void *at) {
     leave(at);
     return NULL;
@@ -1206,14 +1541,100 @@ static const struct { const char *name, *what; void (*play)(void); } STEPS[] = {
     {"brc_thread_drop", "the thread has references", drops_its_references},
     {"brc_thread_drop", "the thread has left", drops_what_has_left},
     {"brc_thread_drop", "the thread can't leave", drops_what_cannot_leave},
+    {"brc_thread_drop", "the thread keeps a reference to None", drops_a_none},
     {"brc_ledger", "the thread is on its way out", reports_its_ledger},
+    {"brc_list_push_value", "a reference to None is kept", keeps_a_none},
+    {"brc_list_pop_value", "None, and scalars, by both kinds of calls", mixes_its_calls},
+    {"brc_dict_pair_value", "each pair, and how many there are", looks_at_pairs},
 };
+
+/* ---- Values that come out, and the places that they want */
+
+/* A call, what makes its container, and what puts an entry there. A call that puts a value has another come out for it. */
+static const struct { call_t call; const char *name; call_t makes, puts; } COMINGS[] = {
+    {POP_VALUE, "brc_list_pop_value", NEW_LIST, PUSH_VALUE},
+    {TAKE_VALUE, "brc_list_take_value", NEW_LIST, PUSH_VALUE},
+    {RECV_VALUE, "brc_recv_value", NEW_MAILBOX, SEND_VALUE},
+    {DEL_INT_VALUE, "brc_dict_del_int_value", NEW_DICT, PUT_INT_VALUE},
+    {DEL_TEXT_VALUE, "brc_dict_del_text_value", NEW_DICT, PUT_TEXT_VALUE},
+    {SET_VALUE, "brc_list_set_value", NEW_LIST, PUSH_VALUE},
+    {PUT_VALUE, "brc_list_put_value", NEW_LIST, PUT_VALUE},
+    {PUT_INT_VALUE, "brc_dict_put_int_value", NEW_DICT, PUT_INT_VALUE},
+    {PUT_TEXT_VALUE, "brc_dict_put_text_value", NEW_DICT, PUT_TEXT_VALUE},
+};
+
+/* The call on the container's first entry: the status, and what it wrote. */
+static brc_status come(call_t call, brc_thread *t, brc_ref container, brc_value value, outs_t *out) {
+    inputs_t in = {container, value.bits, value.holds, 0, 0, (const uint8_t *)"key", 3};
+    memset(out, UNWRITTEN, sizeof *out);
+    return make_call(call, t, &in, out);
+}
+
+/* A scalar comes out though there is no memory for a place. */
+static void comes_without_memory(brc_thread *t, call_t call, brc_ref container) {
+    brc_status s;
+    brc_ref more;
+    outs_t out;
+    given = NONE;
+    while ((s = brc_none(t, &more)) == BRC_OK) { }
+    settle(s, BRC_OUT_OF_MEMORY);
+    MUST(come(call, t, container, scalar(), &out));
+    given = ALL;
+    CHECK(is_scalar(&out.datum));
+    MUST(brc_len_of(t, container, &out.len));
+    CHECK(out.len == 0);
+}
+
+/* With no place left, a reference comes out for another and not for a scalar. If it goes in for a scalar, a place is left. */
+static void change_places(brc_thread *t, call_t call, brc_ref container) {
+    brc_ref one, more;
+    outs_t out;
+    int64_t number;
+    MUST(brc_new_int(t, 1000, &one));
+    while (brc_count(t) < REFERENCES - 1) MUST(brc_retain(t, one, &more));
+    MUST(come(call, t, container, scalar(), &out));
+    CHECK(is_scalar(&out.datum) && brc_count(t) == REFERENCES - 1);
+    MUST(come(call, t, container, brc_of_ref(LABEL, one), &out));
+    CHECK(is_scalar(&out.datum) && brc_count(t) == REFERENCES - 2);
+    settle(brc_release(t, one), BRC_STALE);
+    MUST(brc_retain(t, more, &one));
+    settle(come(call, t, container, scalar(), &out), BRC_FRAME_FULL);
+    MUST(come(call, t, container, brc_of_ref(LABEL, one), &out));
+    CHECK(out.datum.holds == BRC_REFERENCE && out.datum.label == LABEL && brc_count(t) == REFERENCES - 1);
+    settle(brc_release(t, one), BRC_STALE);
+    MUST(brc_int_of(t, out.datum.bits, &number));
+    CHECK(number == 1000);
+    MUST(brc_release(t, out.datum.bits));
+    MUST(come(call, t, container, scalar(), &out));
+    CHECK(out.datum.holds == BRC_REFERENCE && out.datum.label == LABEL && brc_count(t) == REFERENCES - 1);
+}
+
+static void play_comings(void) {
+    for (size_t i = 0; i < sizeof COMINGS / sizeof COMINGS[0]; i++) {
+        const int is_change = COMINGS[i].call == COMINGS[i].puts || COMINGS[i].call == SET_VALUE;
+        life_t l;
+        brc_thread *t;
+        brc_ref container;
+        outs_t out;
+        begin_row(COMINGS[i].name, is_change ? "values change places in a full frame" : "a scalar, and no memory for a place");
+        arrange(&l, OPEN);
+        t = &l.threads[0];
+        MUST(come(COMINGS[i].makes, t, BRC_NONE, scalar(), &out));
+        container = out.ref;
+        MUST(come(COMINGS[i].puts, t, container, scalar(), &out));
+        if (is_change) change_places(t, COMINGS[i].call, container);
+        else comes_without_memory(t, COMINGS[i].call, container);
+        end_life(&l);
+        CHECK(blocks == 0);
+    }
+}
 
 int main(void) {
     clock_gettime(CLOCK_REALTIME, &deadline);
     deadline.tv_sec += SECONDS;
     build();
     play_all();
+    play_puts();
     play_unlocked();
     take_down();
     play_sizes();
@@ -1223,6 +1644,7 @@ int main(void) {
         STEPS[i].play();
         CHECK(blocks == 0);
     }
+    play_comings();
     begin("main", "each call has a row");
     CHECK(calls == CALLS);
     printf("%d calls, %d rows\n", calls, rows);

@@ -1,6 +1,7 @@
 """brc from Python, by ctypes: python3 use.py LIBBRC_SO [BRC_H]
 
-Four Python threads push integers onto one list, which they find in the globals; then their sum is looked at. ctypes releases
+Four Python threads push integers onto one list, which they find in the globals, every other one as a scalar; then their sum is
+looked at. ctypes releases
 Python's own lock during a call, so the four are in brc at the same time. With the header, the types of all calls are read off
 its prototypes."""
 import ctypes
@@ -23,9 +24,14 @@ class Key(ctypes.Structure):
     _fields_ = [("number", ctypes.c_int64), ("len", ctypes.c_size_t), ("is_text", ctypes.c_uint32)]
 
 
+class Value(ctypes.Structure):
+    _fields_ = [("bits", ctypes.c_uint64), ("label", ctypes.c_uint32), ("holds", ctypes.c_uint32)]
+
+
+SCALAR, REFERENCE = 1, 2
 NUMBERS = {"int64_t": ctypes.c_int64, "uint64_t": ctypes.c_uint64, "uint32_t": ctypes.c_uint32, "size_t": ctypes.c_size_t}
 NUMBERS |= {"brc_ref": ctypes.c_uint64, "brc_status": ctypes.c_uint32, "brc_kind": ctypes.c_uint32}
-TYPES = {**NUMBERS, "brc_heap": Variable, "brc_thread": Variable, "brc_key": Key}
+TYPES = {**NUMBERS, "brc_heap": Variable, "brc_thread": Variable, "brc_key": Key, "brc_value": Value}
 
 
 def type_of(words):
@@ -67,7 +73,7 @@ def call(thread, name, *given):
         elif status != BUSY:
             raise Refused(name, status)
         brc.brc_poll(ctypes.byref(thread))
-    return outs[0].value if outs else None
+    return getattr(outs[0], "value", outs[0]) if outs else None
 
 
 def new_thread(heap):
@@ -82,7 +88,11 @@ def pushes(thread, number):
     shared = call(thread, "brc_globals")
     numbers = call(thread, "brc_dict_find_text", shared, b"numbers", 7)
     for i in range(EACH):
-        call(thread, "brc_list_push", numbers, call(thread, "brc_new_int", 1000 * number + i))
+        it = 1000 * number + i
+        if i % 2:
+            call(thread, "brc_list_push_value", numbers, Value(it, number, SCALAR))
+        else:
+            call(thread, "brc_list_push", numbers, call(thread, "brc_new_int", it))
     for reference in (shared, numbers):
         call(thread, "brc_release", reference)
     assert brc.brc_release(ctypes.byref(thread), numbers) == STALE
@@ -107,9 +117,14 @@ def main():
 
     total = 0
     while call(first, "brc_len_of", numbers):
-        one = call(first, "brc_list_pop", numbers)
-        total += call(first, "brc_int_of", one)
-        call(first, "brc_release", one)
+        one = call(first, "brc_list_pop_value", numbers)
+        if one.holds == SCALAR:
+            total += one.bits
+            assert one.label == one.bits // 1000
+            continue
+        assert (one.holds, one.label) == (REFERENCE, 0)
+        total += call(first, "brc_int_of", one.bits)
+        call(first, "brc_release", one.bits)
     call(first, "brc_release", call(first, "brc_dict_del_text", shared, b"numbers", 7))
     call(first, "brc_release_all")
     call(first, "brc_thread_leave")

@@ -44,12 +44,12 @@
  * brc_heap_new. A stale number is taken for a live one only after a rare coincidence: one place of
  * the thread was vacated 2^32 times since, or the heap registered 65,535 threads since.
  *
- * Refusals. A call that returns another status than OK changes nothing, but for two: a brc_heap_close
- * that is OUT_OF_MEMORY has ended its heap, and a brc_thread_leave that is BUSY or OUT_OF_MEMORY has
- * gone on. What a call was given is still the caller's, and no out parameter is written. No call
- * aborts, throws, calls back, or waits for another thread. Below, the statuses of each call stand in
- * the order in which it looks for them. A status behind a number is looked for at that number; numbers
- * are looked at in the order written.
+ * Refusals. A call that returns another status than OK changes nothing, but for three: a brc_heap_close
+ * that is OUT_OF_MEMORY has ended its heap, a brc_thread_leave that is BUSY or OUT_OF_MEMORY has gone
+ * on, and the first call that puts a value has kept its None. What a call was given is still the
+ * caller's, and no out parameter is written. No call aborts, throws, calls back, or waits for another
+ * thread. Below, the statuses of each call stand in the order in which it looks for them. A status
+ * behind a number is looked for at that number; numbers are looked at in the order written.
  *
  * Busy. BRC_BUSY says that another thread's call has this object locked at this moment, or the heap's
  * register of threads. No lock is kept between two calls. Call again, with a poll between: BRC_WAIT.
@@ -62,9 +62,9 @@
  * cell of a dead object is free only then. A thread that never works fills the heap: see BRC_MAKE.
  *
  * Limits. A heap has 64 threads at a time, and 65,536 registrations in its life. A thread has 65,536
- * references. A heap has 512 to 65,536 cells, of which 266 are taken. A container has 1,048,576
- * entries. Integers from -5 to 256, None, False, True and the globals are immortal and take no cell.
- */
+ * references, of which a kept None is one. A heap has 512 to 65,536 cells, of which 266 are taken. A
+ * container has 1,048,576 entries. Integers from -5 to 256, None, False, True and the globals are
+ * immortal and take no cell. */
 #ifndef BRC_H
 #define BRC_H
 
@@ -72,10 +72,10 @@
 #include <stdint.h>
 #include <string.h>
 
-/* The version of this page, 0.1.0, as 1000 * major + 100 * minor + patch. */
+/* The version of this page, 0.2.0, as 1000 * major + 100 * minor + patch. */
 #define BRC_VERSION_MAJOR 0
-#define BRC_VERSION_MINOR 1
-#define BRC_VERSION 100
+#define BRC_VERSION_MINOR 2
+#define BRC_VERSION 200
 
 #ifdef __cplusplus
 extern "C" {
@@ -108,7 +108,8 @@ enum {
     BRC_FOREIGN = 65,                       /* another thread's number, or none */
     BRC_SAME = 66,                          /* one number stands in two places of a call */
     BRC_GONE = 67,                          /* the thread has left; the heap is closed */
-    BRC_NOT_TEXT = 68                       /* the bytes are not UTF-8 */
+    BRC_NOT_TEXT = 68,                      /* the bytes are not UTF-8 */
+    BRC_NOT_VALUE = 69                      /* what the value holds is none of the three */
 };
 
 typedef uint32_t brc_kind;
@@ -125,6 +126,19 @@ enum {
 
 /* A key of a dictionary: with is_text 0 it is `number`, else a text of `len` bytes. */
 typedef struct brc_key { int64_t number; size_t len; uint32_t is_text; } brc_key;
+
+/* A value: what stands in an entry of a list, a dictionary or a mailbox. `holds` says what it is. A
+ * scalar is 64 bits of the program's own, a number or whatever it likes: it is no object, and takes no
+ * cell, no reference and no count. A reference has a brc_ref of the thread in `bits`. Both have a label
+ * of 32 bits, which is the program's own too, say for what it takes the value. The heap looks at no label
+ * and at no scalar. A label belongs to the reference and not to its object: what changes later can't
+ * stand in it. A value is passed in two registers; so `value` and `old` of a call may be one variable. */
+typedef struct brc_value { uint64_t bits; uint32_t label; uint32_t holds; } brc_value;
+enum {
+    BRC_NO_VALUE = 0,                       /* written where nothing came out; given, it is a scalar */
+    BRC_SCALAR = 1,
+    BRC_REFERENCE = 2
+};
 
 /* The version of the library: BRC_VERSION of the page that it was built with. Before 1.0.0 a program
  * and a library fit if BRC_VERSION / 100 is the same in both, and then if BRC_VERSION / 1000 is. */
@@ -322,6 +336,64 @@ brc_status brc_dict_pair(brc_thread *, brc_ref dict, uint32_t index, brc_key *ke
                          brc_ref *value);
 
 
+/* ---- Values. The same containers by values. A call of this part and one without `_value` may be mixed
+ * on one object. What a call without `_value` puts has the label 0. What it takes or finds is the
+ * reference alone: of a scalar it is one to None. So None that was put without `_value` is the scalar with
+ * label 0 and bits 0, and None that is given with a label comes back as a scalar with that label.
+ *
+ * After OK, a reference that was given belongs to the container, and one that is written is the
+ * caller's. A scalar belongs to nobody. A refusal writes nothing.
+ *
+ * The statuses are those of the call without `_value`, in the same order, with these differences.
+ * NOT_VALUE comes right behind GONE and NOT_TEXT. A scalar is never STALE, FOREIGN or SAME. The first
+ * call that puts a value makes a reference to None, which the thread keeps: FRAME_FULL and
+ * OUT_OF_MEMORY may come for it, behind those of the numbers. It stays whatever that call comes to, and
+ * brc_release_all leaves it. It takes one of the 65,536 places of the thread, has no number, and
+ * brc_count leaves it out. brc_thread_leave lets it go. A scalar that is taken out wants a place of the
+ * thread for a moment, and no memory for it, so FRAME_FULL may come; a look at a scalar wants none. A
+ * scalar put where a reference stands wants one for what comes out: FRAME_FULL, OUT_OF_MEMORY. */
+
+/* The value becomes the last entry. */
+brc_status brc_list_push_value(brc_thread *, brc_ref list, brc_value value);
+
+/* The last entry, out of the list; the one at the index, and later entries move up. */
+brc_status brc_list_pop_value(brc_thread *, brc_ref list, brc_value *value);
+brc_status brc_list_take_value(brc_thread *, brc_ref list, uint32_t index, brc_value *value);
+
+/* The entry at the index, which stays. Of a reference it is one more. */
+brc_status brc_list_get_value(brc_thread *, brc_ref list, uint32_t index, brc_value *value);
+
+/* The value becomes the entry at the index, and what was there becomes `old`. */
+brc_status brc_list_set_value(brc_thread *, brc_ref list, uint32_t index, brc_value value, brc_value *old);
+
+/* The same; and at the index that is the list's length the value becomes the last entry: `old` holds
+ * BRC_NO_VALUE then. So of two threads that fill a list from its end, none overwrites the other's.
+ * Behind NO_SUCH_PLACE come FULL and OUT_OF_MEMORY. */
+brc_status brc_list_put_value(brc_thread *, brc_ref list, uint32_t index, brc_value value, brc_value *old);
+
+/* The value becomes the last letter; the first letter, out of the mailbox. */
+brc_status brc_send_value(brc_thread *, brc_ref mailbox, brc_value value);
+brc_status brc_recv_value(brc_thread *, brc_ref mailbox, brc_value *value);
+
+/* The value goes beside the key, and `old` is what was there, or holds BRC_NO_VALUE. */
+brc_status brc_dict_put_int_value(brc_thread *, brc_ref dict, int64_t key, brc_value value, brc_value *old);
+brc_status brc_dict_put_text_value(brc_thread *, brc_ref dict, const uint8_t *key, size_t len, brc_value value,
+                                   brc_value *old);
+
+/* What is beside the key, which stays. Of a reference it is one more. */
+brc_status brc_dict_find_int_value(brc_thread *, brc_ref dict, int64_t key, brc_value *value);
+brc_status brc_dict_find_text_value(brc_thread *, brc_ref dict, const uint8_t *key, size_t len, brc_value *value);
+
+/* What is beside the key, out of the dictionary, and its pair ends: later pairs move up. */
+brc_status brc_dict_del_int_value(brc_thread *, brc_ref dict, int64_t key, brc_value *value);
+brc_status brc_dict_del_text_value(brc_thread *, brc_ref dict, const uint8_t *key, size_t len, brc_value *value);
+
+/* The pair at an index, as brc_dict_pair has it, and how many pairs there are, which is the index to
+ * stop at: all as one look found them. */
+brc_status brc_dict_pair_value(brc_thread *, brc_ref dict, uint32_t index, brc_key *key, uint8_t *to, size_t room,
+                               brc_value *value, uint32_t *pairs);
+
+
 /* ---- Helpers: these are compiled into the program, and are no part of the library. */
 
 /* What a loop does while a call is BUSY. Define it before this page, as sched_yield(), say. */
@@ -387,6 +459,47 @@ static inline brc_status brc_del(brc_thread *thread, brc_ref dict, const char *k
     return brc_dict_del_text(thread, dict, (const uint8_t *)key, strlen(key), value);
 }
 
+/* Values of the usual kinds. */
+static inline brc_value brc_of_bits(uint32_t label, uint64_t bits) {
+    brc_value value = { bits, label, BRC_SCALAR };
+    return value;
+}
+
+static inline brc_value brc_of_int(uint32_t label, int64_t number) { return brc_of_bits(label, (uint64_t)number); }
+
+static inline brc_value brc_of_double(uint32_t label, double number) {
+    uint64_t bits;
+    memcpy(&bits, &number, sizeof bits);
+    return brc_of_bits(label, bits);
+}
+
+static inline brc_value brc_of_ref(uint32_t label, brc_ref ref) {
+    brc_value value = { ref, label, BRC_REFERENCE };
+    return value;
+}
+
+static inline int64_t brc_int_in(brc_value value) {
+    int64_t number;
+    memcpy(&number, &value.bits, sizeof number);
+    return number;
+}
+
+static inline double brc_double_in(brc_value value) {
+    double number;
+    memcpy(&number, &value.bits, sizeof number);
+    return number;
+}
+
+/* Releases what a value refers to, if it is a reference, and clears the variable. */
+static inline brc_status brc_value_clear(brc_thread *thread, brc_value *variable) {
+    brc_value old = *variable;
+    variable->bits = 0;
+    variable->label = 0;
+    variable->holds = BRC_NO_VALUE;
+    if (old.holds != BRC_REFERENCE) return BRC_OK;
+    return brc_release(thread, (brc_ref)old.bits);
+}
+
 /* The length of a text. */
 static inline brc_status brc_text_len(brc_thread *thread, brc_ref text, size_t *len) {
     uint8_t none;
@@ -415,6 +528,7 @@ static inline const char *brc_status_name(brc_status status) {
     case BRC_SAME: return "Same";
     case BRC_GONE: return "Gone";
     case BRC_NOT_TEXT: return "NotText";
+    case BRC_NOT_VALUE: return "NotValue";
     default: return "?";
     }
 }

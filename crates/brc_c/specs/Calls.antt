@@ -1,6 +1,6 @@
 -- Which call of the heap an export of this name makes, where its bytes or numbers of C stand for something else; and what
 -- it writes, where that is more than one number.
-use Rattle.std.specs.Prelude.{◌≡◌, ◌++◌, ℕ, zero, suc, pos, Bool, true, false, List, Option, Result, Ok, Err, length}
+use Rattle.std.specs.Prelude.{◌≡◌, ◌++◌, ℕ, zero, suc, pos, Bool, true, false, List, Option, Some, None, Result, Ok, Err, length}
 use Rattle.std.specs.Prelude.{take, drop}
 use Rattle.std.specs.declared.alloc.Global.{Global}
 use Rattle.brc_words.specs.declared.fault.Fault.{Fault}
@@ -10,13 +10,19 @@ use Rattle.brc_count.specs.law.declared.rule.contents.Contents.TheVariants as co
 use Rattle.brc_count.specs.declared.handed.HandedBack.{HandedBack}
 use Rattle.brc_count.specs.Frames.{FrameSeen, HandleSeen}
 use Rattle.brc_count.specs.Making.{Made}
+use Rattle.brc_things.specs.declared.value.Value.{Value}
 use Rattle.brc_things.specs.Dict_Calls.{DictPut, DictFind, DictDel}
+use Rattle.brc_things.specs.Value_Calls.{DictFindValue, DictDelValue, DictSetValue}
 use Rattle.brc_places.specs.declared.place_makers.Make.TheVariants as making
 use Rattle.brc_places.specs.Calls.{HandleOr, RefusedText, MadeBy}
+use Rattle.brc_client.specs.declared.data.Datum.{Datum}
+use Rattle.brc_client.specs.declared.data.Datum.TheVariants as datums
+use Rattle.brc_client.specs.declared.data.PairDatum.{PairDatum}
 use Rattle.brc_client.specs.declared.status.Status.{Status}
 use Rattle.brc_client.specs.Clients.{ClientSeen}
 use Rattle.brc_client.specs.Answers.{Makes, BeginsClaims}
 use Rattle.brc_c.specs.declared.dicts.CKey.{CKey}
+use Rattle.brc_c.specs.declared.values.CValue.{CValue}
 
 -- C says yes by any number but 0
 abbrev pub is_yes : ℕ → Bool
@@ -44,6 +50,28 @@ abbrev pub PutsByText : List ℕ → FrameSeen Global → FrameSeen Global → �
     → Result (Option HandleSeen) (HandedBack HandleSeen) → Type 0
 PutsByText bytes old new k value result = DictPut old new k (keys.Text bytes) value result
 
+abbrev pub FindsValueByText : List ℕ → FrameSeen Global → FrameSeen Global → ℕ → Result (Value Global) Fault → Type 0
+FindsValueByText bytes old new k result = DictFindValue old new k (keys.Text bytes) result
+
+abbrev pub DeletesValueByText : List ℕ → FrameSeen Global → FrameSeen Global → ℕ → Result (Value Global) Fault → Type 0
+DeletesValueByText bytes old new k result = DictDelValue old new k (keys.Text bytes) result
+
+abbrev pub PutsValueByText : List ℕ → FrameSeen Global → FrameSeen Global → ℕ → HandleSeen → HandleSeen → Value Global
+    → Result (Option (Value Global)) (HandedBack (Value Global)) → Type 0
+PutsValueByText bytes old new k none after value result = DictSetValue old new k (keys.Text bytes) none after value result
+
+-- ---- what is written of a value
+
+-- a scalar's bits and label; of a reference its number and its label
+abbrev pub value_of : Datum → CValue
+value_of (datums.Scalar note) = record { bits = note.bits; label = note.label; holds = 1 }
+value_of (datums.Object number note) = record { bits = number; label = note.label; holds = 2 }
+
+-- what came out, or that nothing did
+abbrev pub came_of : Option Datum → CValue
+came_of None = record { bits = 0; label = 0; holds = 0 }
+came_of (Some datum) = value_of datum
+
 -- ---- what is written of a text and of a pair
 
 -- as many of the bytes as there is room for; the rest of the room is as it was
@@ -64,3 +92,9 @@ KeyWritten (keys.Text text) key room to =
 abbrev pub WritesPair : ℕ → ℕ → CKey → CKey → List ℕ → List ℕ → Result (Key Global × ℕ) Status → Type 0
 WritesPair value_was value key_was key room to (Ok pair) = (value ≡ pair.1) × KeyWritten pair.0 key room to
 WritesPair value_was value key_was key room to (Err status) = (value ≡ value_was) × (key ≡ key_was) × (to ≡ room)
+
+abbrev pub WritesValuePair : CValue → CValue → CKey → CKey → List ℕ → List ℕ → ℕ → ℕ → Result PairDatum Status → Type 0
+WritesValuePair value_was value key_was key room to pairs_was pairs (Ok pair) =
+    (value ≡ value_of pair.datum) × KeyWritten pair.key key room to × (pairs ≡ pair.of)
+WritesValuePair value_was value key_was key room to pairs_was pairs (Err status) =
+    (value ≡ value_was) × (key ≡ key_was) × (to ≡ room) × (pairs ≡ pairs_was)

@@ -1,10 +1,12 @@
 -- What an export comes to: which call was made on what C's variable leads to, and what C learns of its answer.
-use Rattle.std.specs.Prelude.{◌≡◌, ◌⊎◌, ⊤, ℕ, Bool, true, false, List, Option, Some, None, Result, Ok, Err}
+use Rattle.std.specs.Prelude.{◌≡◌, ◌<◌, ◌/◌, ◌%◌, ◌⊎◌, ⊤, ℕ, Bool, true, false, List, Option, Some, None, Result, Ok, Err}
 use Rattle.std.specs.Str.{IsUtf8}
 use Rattle.brc_words.specs.declared.kind.Kind.{Kind}
 use Rattle.brc_words.specs.declared.kind.Kind.TheVariants as kinds
 use Rattle.brc_client.specs.Numbers.{status_number}
 use Rattle.brc_client.specs.Clients.{ClientSeen}
+use Rattle.brc_client.specs.declared.data.Datum.{Datum}
+use Rattle.brc_client.specs.declared.data.Datum.TheVariants as datums
 use Rattle.brc_client.specs.declared.status.Status.{Status}
 use Rattle.brc_client.specs.declared.status.Status.TheVariants as statuses
 use Rattle.brc_client.specs.declared.thread.Stage.{Stage}
@@ -78,6 +80,28 @@ module _ {T : Type 0} where
       → Result T Status → Type 0
   OrNotText bytes call old new answer =
       call old new answer ⊎ ((answer ≡ Err statuses.NotText) × (IsUtf8 bytes → ⊥) × (new ≡ old))
+
+-- What a value holds that C hands over in two words: its bits; and above its label what they are.
+abbrev pub holds_in : ℕ → ℕ
+holds_in noted = noted / 4294967296
+
+abbrev pub label_in : ℕ → ℕ
+label_in noted = noted % 4294967296
+
+-- the datum that it is: a scalar by 0 and 1, the number of a reference by 2
+pub data HandsDatum (bits noted : ℕ) (datum : Datum) : Type 0 where
+  IsScalar : holds_in noted < 2 → datum ≡ datums.Scalar (record { label = label_in noted; bits = bits })
+      → HandsDatum bits noted datum
+  IsReference : holds_in noted ≡ 2 → datum ≡ datums.Object bits (record { label = label_in noted; bits = 0 })
+      → HandsDatum bits noted datum
+
+-- a call on the datum that C hands over; if it holds anything else, nothing is done
+module _ {T : Type 0} where
+  abbrev pub OrNotValue : ℕ → ℕ → (Datum → ClientSeen → ClientSeen → Result T Status → Type 0) → ClientSeen → ClientSeen
+      → Result T Status → Type 0
+  OrNotValue bits noted call old new answer =
+      ((datum : Datum) × HandsDatum bits noted datum × call datum old new answer)
+      ⊎ ((answer ≡ Err statuses.NotValue) × (2 < holds_in noted) × (new ≡ old))
 
 -- An export on a thread's client: it made this call, returned its answer's number, and wrote what it gave.
 module _ {T : Type 0} where

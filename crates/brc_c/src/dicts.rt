@@ -169,7 +169,7 @@ pub extern "C" fn brc_dict_pair(
 }
 
 /// The key is written; of a text, as many bytes as there is room for.
-fn write_key(found: &Key<Global>, key: &mut CKey, to: &mut [u8])
+pub(crate) fn write_key(found: &Key<Global>, key: &mut CKey, to: &mut [u8])
     ensures { KeyWritten found.now key.new to.old to.new }
 {
     match found {

@@ -11,12 +11,12 @@ use brc_client::{Owner, Status};
 use brc_words::Fault;
 use std::alloc::Global;
 
-/// The version of the interface, 0.1.0: `BRC_VERSION` of `include/brc.h`.
-const VERSION: u32 = 100;
+/// The version of the interface, 0.2.0: `BRC_VERSION` of `include/brc.h`.
+const VERSION: u32 = 200;
 
 #[unsafe(no_mangle)]
 pub extern "C" fn brc_version() -> u32
-    ensures { result ≡ 100 }
+    ensures { result ≡ 200 }
 {
     VERSION
 }

@@ -21,6 +21,8 @@ mod parts;
 mod references;
 mod slots;
 mod threads;
+mod values;
 
 pub use dicts::CKey;
 pub use slots::{CHeap, CThread, HeapRoom, ThreadRoom};
+pub use values::CValue;

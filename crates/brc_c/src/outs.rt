@@ -76,7 +76,9 @@ pub(crate) fn gone() -> u32
 
 /// Nothing is written: nothing comes out for what was given.
 #[inline(always)]
-pub(crate) fn status_of_taking(made: Result<Option<u64>, Status>) -> u32
+pub(crate) fn status_of_taking<T>(made: Result<Option<T>, Status>) -> u32
+where
+    T: Drop,
     ensures { result ≡ code_of made }
 {
     match made {

@@ -1,5 +1,6 @@
 -- A thread that is gathered, at each stage on its way out; and one that isn't registered.
-use Rattle.std.proofs.Common.{◌≡◌, ℕ, Option, Some, refl, sym, subst, ap, ◌∙◌}
+use Rattle.std.proofs.Common.{◌≡◌, ℕ, Option, Some, Result, Ok, Err, refl, sym, subst, ap, ◌∙◌}
+use Rattle.std.specs.Result.{OnOk}
 use Rattle.std.specs.declared.alloc.Global.{Global}
 use Rattle.brc_count.specs.table.Seated.{TableSeen, SeatSeen}
 use Rattle.brc_count.specs.Frames.{FrameSeen, KeepsHandles, Turns}
@@ -13,7 +14,7 @@ use Rattle.brc_heap.specs.Desk.{InnerSeen, SightSeen}
 use Rattle.brc_heap.specs.Shared.{GathersHere, RefusesHere, IsOf, fault_of}
 use Rattle.brc_client.specs.declared.status.Status.{Status}
 use Rattle.brc_client.specs.declared.status.Status.TheVariants as statuses
-use Rattle.brc_client.specs.Clients.{ClientSeen}
+use Rattle.brc_client.specs.Clients.{ClientSeen, KeptGoes}
 use Rattle.brc_client.specs.declared.thread.Stage.{Stage}
 use Rattle.brc_client.specs.declared.thread.Stage.TheVariants as stages
 use Rattle.brc_client.specs.Ends.{LeavesAs, StaysAt, RefusedAt, seen_in}
@@ -44,17 +45,19 @@ left_gathered left done retired n new keeps turns seat heap gathered = record {
 }
 
 -- the client left
-pub client_gathered : (client : ClientSeen) (polled idle left : FrameSeen Global) (told turns : ℕ) (new : Stage)
-    → Polled client.frame polled told → Turns polled turns idle → GoesOut idle left
+pub client_gathered : (client : ClientSeen) (polled idle bare left : FrameSeen Global) (told turns : ℕ) (new : Stage)
+    → Polled client.frame polled told → Turns polled turns idle → KeptGoes idle client.none bare → GoesOut bare left
     → left.heap ≡ client.frame.heap → left.seat.thread ≡ client.frame.seat.thread
     → LeavesAs (stages.Leaves left) new → LeavesAs (stages.Works client) new
-client_gathered client polled idle left told turns new polls works goes heap thread gathered = record {
+client_gathered client polled idle bare left told turns new polls works lets_go goes heap thread gathered = record {
   told = told;
   polled = polled;
   polls = polls;
   turns = turns;
   idle = idle;
   works = works;
+  bare = bare;
+  lets_go = lets_go;
   left = left;
   goes = goes;
   heap = heap;
@@ -97,3 +100,8 @@ pub told_at : (shared : InnerSeen) (refused : NotRegistered) (seen : Option Sigh
 told_at shared refused seen status why is told =
     subst (λ (o : Option SightSeen). RefusedAt shared.heap o status) (sym told)
     (subst (λ (s : Status). RefusedAt shared.heap (seen_in refused) s) (sym is) (told_as shared refused why))
+
+-- what an answer brings with it
+pub on_ok : {T E P Q : Type 0} (result : Result T E) → OnOk result P → (P → Q) → OnOk result Q
+on_ok (Ok answer) had step = step had
+on_ok (Err refused) had step = tt

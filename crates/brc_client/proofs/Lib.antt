@@ -1,5 +1,7 @@
 mod Gathered
 mod Named
 mod Placed
+mod Beside
+mod Putting
 mod Spending
 pub mod Statuses

@@ -62,6 +62,7 @@ misspelt handles numbers number (statuses.Fault fault) why = why
 misspelt handles numbers number statuses.Same why = why
 misspelt handles numbers number statuses.Gone why = why
 misspelt handles numbers number statuses.NotText why = why
+misspelt handles numbers number statuses.NotValue why = elim why [ ]
 
 -- ---- a handle came
 
@@ -112,21 +113,23 @@ names_given before new given n room places set is = given_in before new.handles 
 -- ---- a number was spent
 
 -- nothing of the numbers but that of one place, which no place has now
-pub name_spent : (old new : ClientSeen) (spent i : ℕ) (came : Option HandleSeen) → place_in spent ≡ i → Names old spent
-    → new.handles ≡ slice_set old.handles i came → number_at new.numbers i ≢ number_at old.numbers i
+pub spends : (old new : ClientSeen) (spent i : ℕ) → place_in spent ≡ i → Names old spent
+    → ((k : ℕ) → k ≢ i → slot new.handles k ≡ slot old.handles k) → number_at new.numbers i ≢ number_at old.numbers i
     → ((k : ℕ) → k ≢ i → number_at new.numbers k ≡ number_at old.numbers k) → SpendsName old new spent
-name_spent old new spent i came place named set differs others =
+spends old new spent i place named there differs others =
     let was : spent ≡ number_at old.numbers i = named.1.spelled ∙ ap (number_at old.numbers) place in
     record {
       none = λ names. differs (sym (names.1.spelled ∙ ap (number_at new.numbers) place) ∙ was);
       others = λ n h other names. (
           let else : place_in n ≢ i = λ same. other (names.spelled ∙ ap (number_at old.numbers) same ∙ sym was) in
-          record {
-            there = ap (λ (l : List (Option HandleSeen)). slot l (place_in n)) set
-                ∙ slot_else old.handles i (place_in n) came else ∙ names.there;
-            spelled = names.spelled ∙ sym (others (place_in n) else);
-          });
+          record { there = there (place_in n) else ∙ names.there; spelled = names.spelled ∙ sym (others (place_in n) else) });
     }
+
+pub name_spent : (old new : ClientSeen) (spent i : ℕ) (came : Option HandleSeen) → place_in spent ≡ i → Names old spent
+    → new.handles ≡ slice_set old.handles i came → number_at new.numbers i ≢ number_at old.numbers i
+    → ((k : ℕ) → k ≢ i → number_at new.numbers k ≡ number_at old.numbers k) → SpendsName old new spent
+name_spent old new spent i came place named set differs others = spends old new spent i place named
+    (λ k else. ap (λ (l : List (Option HandleSeen)). slot l k) set ∙ slot_else old.handles i k came else) differs others
 
 -- no number names anything where no handle is
 pub nameless : (client : ClientSeen) → ((k : ℕ) → slot client.handles k ≡ None) → (n : ℕ) → Names client n → ⊥

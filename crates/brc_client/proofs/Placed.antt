@@ -13,22 +13,22 @@ use Rattle.brc_handles.specs.Handles.{slot, filled, IsApart, IsBare, ComesIn, Co
 use Rattle.brc_handles.specs.Standing.{KeepsStanding}
 use Rattle.brc_handles.proofs.Places.{bare_of}
 use Rattle.brc_client.specs.Numbers.{NumbersSeen, place_in}
-use Rattle.brc_client.specs.Clients.{IsClient, NamesIn}
+use Rattle.brc_client.specs.Clients.{IsClient, KeptBeside, NamesIn, kept_count}
 
 -- ---- one place
 
-slot_set : (hs : List (Option HandleSeen)) (i : ℕ) (x : Option HandleSeen) → i < length hs → slot (slice_set hs i x) i ≡ x
+pub slot_set : (hs : List (Option HandleSeen)) (i : ℕ) (x : Option HandleSeen) → i < length hs → slot (slice_set hs i x) i ≡ x
 slot_set hs i x inside = grind (arith, common_steps)
 
 pub slot_else : (hs : List (Option HandleSeen)) (i k : ℕ) (x : Option HandleSeen) → k ≢ i
     → slot (slice_set hs i x) k ≡ slot hs k
 slot_else hs i k x other = grind (arith, common_steps)
 
-length_set : (hs : List (Option HandleSeen)) (i : ℕ) (x : Option HandleSeen) → length (slice_set hs i x) ≡ length hs
+pub length_set : (hs : List (Option HandleSeen)) (i : ℕ) (x : Option HandleSeen) → length (slice_set hs i x) ≡ length hs
 length_set hs i x = grind (arith, common_steps)
 
 -- a place in which a handle is, is there
-inside_of : (hs : List (Option HandleSeen)) (k : ℕ) (h : HandleSeen) → slot hs k ≡ Some h → k < length hs
+pub inside_of : (hs : List (Option HandleSeen)) (k : ℕ) (h : HandleSeen) → slot hs k ≡ Some h → k < length hs
 inside_of hs k h is = grind (arith, common_steps)
 
 -- no handle is where none is counted
@@ -39,24 +39,24 @@ none_counted (None ∷ hs) count (suc k) = none_counted hs count k
 none_counted (Some h ∷ hs) count k = absurd (omega (arith, count))
 
 -- what is so of each that is there stays so as another thing
-each : {P Q : HandleSeen → Type 0} → ((h : HandleSeen) → P h → Q h) → (found : Option HandleSeen) → IfSome found P
+pub each : {P Q : HandleSeen → Type 0} → ((h : HandleSeen) → P h → Q h) → (found : Option HandleSeen) → IfSome found P
     → IfSome found Q
 each step None all = tt
 each step (Some h) all = step h all
 
-at_slot : (P : HandleSeen → Type 0) (found : Option HandleSeen) (h : HandleSeen) → found ≡ Some h → IfSome found P → P h
+pub at_slot : (P : HandleSeen → Type 0) (found : Option HandleSeen) (h : HandleSeen) → found ≡ Some h → IfSome found P → P h
 at_slot P found h is all = let there : IfSome (Some h) P = rw is at all in there
 
 -- the frame owns the handle that a number names
-pub owned : (frame : FrameSeen Global) (hs : List (Option HandleSeen)) (numbers : NumbersSeen) (number : ℕ)
-    (h : HandleSeen) → IsClient frame hs → NamesIn hs numbers number h → Owns frame h
+pub owned : {none : Option HandleSeen} (frame : FrameSeen Global) (hs : List (Option HandleSeen)) (numbers : NumbersSeen)
+    (number : ℕ) (h : HandleSeen) → IsClient frame hs none → NamesIn hs numbers number h → Owns frame h
 owned frame hs numbers number h client names = at_slot (Owns frame) (slot hs (place_in number)) h names.there
     (client.stands.holds.owned (place_in number))
 
 -- ---- many
 
 pub opens : (frame : FrameSeen Global) (hs : List (Option HandleSeen)) → frame.len ≡ 0 → IsUnlocked frame → IsBare hs
-    → length hs ≡ 65536 → IsClient frame hs
+    → length hs ≡ 65536 → IsClient frame hs None
 opens frame hs idle unlocked bare places = record {
   stands = record {
     holds = record {
@@ -65,13 +65,21 @@ opens frame hs idle unlocked bare places = record {
     };
     unlocked = unlocked;
   };
+  kept = tt;
   lies = λ k h is. (let none : slot hs k ≡ None = bare.places k in let off : None ≡ Some h = sym none ∙ is in cc);
   places = places;
 }
 
-pub keeps : (old new : FrameSeen Global) (hs : List (Option HandleSeen)) → IsClient old hs → Keeps old new
-    → IsUnlocked new → IsClient new hs
-keeps old new hs client kept unlocked = record {
+-- the handle that is kept, after a call on others
+kept_still : {old new : FrameSeen Global} (hs after : List (Option HandleSeen))
+    → ((h : HandleSeen) → Owns old h → IsApart h hs → Owns new h × IsApart h after) → (none : Option HandleSeen)
+    → KeptBeside old hs none → KeptBeside new after none
+kept_still hs after step None beside = tt
+kept_still hs after step (Some h) beside = (let now = step h beside.0 beside.2 in (now.0, beside.1, now.1))
+
+pub keeps : {none : Option HandleSeen} (old new : FrameSeen Global) (hs : List (Option HandleSeen)) → IsClient old hs none
+    → Keeps old new → IsUnlocked new → IsClient new hs none
+keeps {none} old new hs client kept unlocked = record {
   stands = record {
     holds = record {
       owned = λ k. each kept.owns (slot hs k) (client.stands.holds.owned k);
@@ -79,28 +87,31 @@ keeps old new hs client kept unlocked = record {
     };
     unlocked = unlocked;
   };
+  kept = kept_still hs hs (λ h owns off. (kept.owns h owns, off)) none client.kept;
   lies = client.lies;
   places = client.places;
 }
 
 -- the place of a handle that the frame gains is empty
-none_unless : (o : Option HandleSeen) → ((h : HandleSeen) → o ≡ Some h → ⊥) → o ≡ None
+pub none_unless : (o : Option HandleSeen) → ((h : HandleSeen) → o ≡ Some h → ⊥) → o ≡ None
 none_unless None never = refl
 none_unless (Some h) never = absurd (never h refl)
 
-pub vacant : (old new : FrameSeen Global) (hs : List (Option HandleSeen)) (given : HandleSeen) → IsClient old hs
+pub vacant : {none : Option HandleSeen} (old new : FrameSeen Global) (hs : List (Option HandleSeen)) (given : HandleSeen)
+    → IsClient old hs none
     → Gains old new given → slot hs given.place ≡ None
 vacant old new hs given client gains = none_unless (slot hs given.place)
     (λ h is. gains.apart h (at_slot (Owns old) (slot hs given.place) h is (client.stands.holds.owned given.place))
     (sym (client.lies given.place h is)))
 
-pub apart : (old new : FrameSeen Global) (hs : List (Option HandleSeen)) (given : HandleSeen) → IsClient old hs
+pub apart : {none : Option HandleSeen} (old new : FrameSeen Global) (hs : List (Option HandleSeen)) (given : HandleSeen)
+    → IsClient old hs none
     → Gains old new given → IsApart given hs
 apart old new hs given client gains = λ k. each gains.apart (slot hs k) (client.stands.holds.owned k)
 
 -- one handle more to the object of a number lies in the place that was next
-pub next_is : (old new : FrameSeen Global) (hs : List (Option HandleSeen)) (numbers : NumbersSeen) (number : ℕ)
-    (h given : HandleSeen) → IsClient old hs → NamesIn hs numbers number h
+pub next_is : {none : Option HandleSeen} (old new : FrameSeen Global) (hs : List (Option HandleSeen)) (numbers : NumbersSeen)
+    (number : ℕ) (h given : HandleSeen) → IsClient old hs none → NamesIn hs numbers number h
     → ((c : ℕ) → place_seen old.heap.cells old.seat.log h.place ≡ Some c
     → GivenHandle old new (sources.Frame h.place) c given)
     → given.place ≡ old.next
@@ -110,12 +121,12 @@ next_is old new hs numbers number h given client names gives =
     (gives c is).place
 
 -- each handle that is there, by its place
-each_there : {P : HandleSeen → Type 0} (o : Option HandleSeen) → ((h : HandleSeen) → o ≡ Some h → P h) → IfSome o P
+pub each_there : {P : HandleSeen → Type 0} (o : Option HandleSeen) → ((h : HandleSeen) → o ≡ Some h → P h) → IfSome o P
 each_there None all = tt
 each_there (Some h) all = all h refl
 
 -- where a handle is in places of which one was set
-there_set : (hs : List (Option HandleSeen)) (i k : ℕ) (x : Option HandleSeen) (h : HandleSeen) → i < length hs
+pub there_set : (hs : List (Option HandleSeen)) (i k : ℕ) (x : Option HandleSeen) (h : HandleSeen) → i < length hs
     → slot (slice_set hs i x) k ≡ Some h → ((k ≡ i) × (x ≡ Some h)) ⊎ ((k ≢ i) × (slot hs k ≡ Some h))
 there_set hs i k x h inside is = elim (cases_eq k i) [
   | inl same ↦
@@ -125,10 +136,11 @@ there_set hs i k x h inside is = elim (cases_eq k i) [
 ]
 
 -- a handle came into its own place
-pub gained : (old new : FrameSeen Global) (hs after : List (Option HandleSeen)) (given : HandleSeen) → IsClient old hs
+pub gained : {none : Option HandleSeen} (old new : FrameSeen Global) (hs after : List (Option HandleSeen)) (given : HandleSeen)
+    → IsClient old hs none
     → Gains old new given → IsUnlocked new → given.place < 65536 → after ≡ slice_set hs given.place (Some given)
-    → ComesIn hs after given → IsClient new after
-gained old new hs after given client gains unlocked room set comes =
+    → ComesIn hs after given → IsClient new after none
+gained {none} old new hs after given client gains unlocked room set comes =
     let inside : given.place < length hs = omega (arith, room, client.places) in
     let owned : (k : ℕ) (h : HandleSeen) → slot (slice_set hs given.place (Some given)) k ≡ Some h → Owns new h
     = λ k h is. elim (there_set hs given.place k (Some given) h inside is) [
@@ -148,15 +160,25 @@ gained old new hs after given client gains unlocked room set comes =
         };
         unlocked = unlocked;
       };
+      kept = kept_still hs after (λ h owns off. (
+        gains.owns h owns,
+        λ k. each_there (slot after k) (λ x is. elim
+            (there_set hs given.place k (Some given) x inside (rw set at is)) [
+              | inl (same, this) ↦ (let e : given ≡ x = cc in subst (λ (g : HandleSeen). h.place ≢ g.place) e
+                  (λ one. gains.apart h owns (sym one)))
+              | inr (other, was) ↦ at_slot (λ (g : HandleSeen). h.place ≢ g.place) (slot hs k) x was (off k)
+            ]),
+      )) none client.kept;
       lies = λ k h is. lies k h (rw set at is);
       places = ap (λ (l : List (Option HandleSeen)). length l) set ∙ length_set hs given.place (Some given) ∙ client.places;
     }
 
 -- a handle went out of its place
-pub lost : (old new : FrameSeen Global) (hs after : List (Option HandleSeen)) (i : ℕ) (gone : HandleSeen)
-    → IsClient old hs → Loses old new gone → IsUnlocked new → slot hs i ≡ Some gone → after ≡ slice_set hs i None
-    → ComesOut hs after i gone → IsClient new after
-lost old new hs after i gone client loses unlocked was set comes =
+pub lost : {none : Option HandleSeen} (old new : FrameSeen Global) (hs after : List (Option HandleSeen)) (i : ℕ)
+    (gone : HandleSeen)
+    → IsClient old hs none → Loses old new gone → IsUnlocked new → slot hs i ≡ Some gone → after ≡ slice_set hs i None
+    → ComesOut hs after i gone → IsClient new after none
+lost {none} old new hs after i gone client loses unlocked was set comes =
     let inside : i < length hs = inside_of hs i gone was in
     let before : (k : ℕ) (h : HandleSeen) → slot (slice_set hs i None) k ≡ Some h → (k ≢ i) × (slot hs k ≡ Some h)
     = λ k h is. elim (there_set hs i k None h inside is) [
@@ -174,15 +196,20 @@ lost old new hs after i gone client loses unlocked was set comes =
         };
         unlocked = unlocked;
       };
+      kept = kept_still hs after (λ h owns off. (
+        loses.owns h owns (λ one. at_slot (λ (g : HandleSeen). h.place ≢ g.place) (slot hs i) gone was (off i) (sym one)),
+        λ k. each_there (slot after k) (λ x is. at_slot (λ (g : HandleSeen). h.place ≢ g.place) (slot hs k) x
+            (before k x (rw set at is)).1 (off k)),
+      )) none client.kept;
       lies = λ k h is. client.lies k h (before k h (rw set at is)).1;
       places = ap (λ (l : List (Option HandleSeen)). length l) set ∙ length_set hs i None ∙ client.places;
     }
 
 -- a handle went into a container, and its place has none now, or the same handle, of what came out
-pub put_in : (old new : FrameSeen Global) (hs after : List (Option HandleSeen)) (i : ℕ) (given : HandleSeen)
-    (came : Option HandleSeen) → IsClient old hs → KeepsStanding old new hs after → slot hs i ≡ Some given
-    → after ≡ slice_set hs i came → IfSome (slot after i) (λ h. slot hs i ≡ Some h) → IsClient new after
-put_in old new hs after i given came client keeps was set same =
+pub put_in : {none : Option HandleSeen} (old new : FrameSeen Global) (hs after : List (Option HandleSeen)) (i : ℕ)
+    (given : HandleSeen) (came : Option HandleSeen) → IsClient old hs none → KeepsStanding old new hs after → slot hs i ≡ Some given
+    → after ≡ slice_set hs i came → IfSome (slot after i) (λ h. slot hs i ≡ Some h) → IsClient new after none
+put_in {none} old new hs after i given came client keeps was set same =
     let inside : i < length hs = inside_of hs i given was in
     let lies : (k : ℕ) (h : HandleSeen) → slot after k ≡ Some h → h.place ≡ k
     = λ k h is. elim (there_set hs i k came h inside (rw set at is)) [
@@ -199,6 +226,7 @@ put_in old new hs after i given came client keeps was set same =
         };
         unlocked = keeps.unlocked;
       };
+      kept = kept_still hs after (λ h owns off. (keeps.owns h owns off, keeps.apart h owns off)) none client.kept;
       lies = lies;
       places = ap (λ (l : List (Option HandleSeen)). length l) set ∙ length_set hs i came ∙ client.places;
     }
@@ -216,7 +244,8 @@ bare_below hs n none all = bare_of hs (λ k. elim (cases_order k n) [
   ]
 ])
 
-pub bare_counted : (frame : FrameSeen Global) (hs : List (Option HandleSeen)) → IsClient frame hs → frame.len ≡ 0
+pub bare_counted : {none : Option HandleSeen} (frame : FrameSeen Global) (hs : List (Option HandleSeen))
+    → IsClient frame hs none → frame.len ≡ kept_count none
     → IsBare hs
 bare_counted frame hs client idle =
     let count : filled hs ≡ 0 = omega (arith, idle, client.stands.holds.count) in

@@ -33,3 +33,4 @@ above statuses.Foreign = omega arith
 above statuses.Same = omega arith
 above statuses.Gone = omega arith
 above statuses.NotText = omega arith
+above statuses.NotValue = omega arith

@@ -1,28 +1,47 @@
 -- What is seen of a client that has numbers and no handles, and what a number names.
-use Rattle.std.specs.Prelude.{◌≡◌, ◌≢◌, ◌<◌, ℕ, List, Option, Some, None, length, get_or}
+use Rattle.std.specs.Prelude.{◌≡◌, ◌≢◌, ◌<◌, ⊤, ℕ, List, Option, Some, None, length, get_or}
 use Rattle.std.specs.declared.alloc.Global.{Global}
 use Rattle.brc_heap.specs.Desk.{SightSeen}
-use Rattle.brc_count.specs.Frames.{FrameSeen, HandleSeen}
-use Rattle.brc_count.specs.Owned.{Keeps}
-use Rattle.brc_handles.specs.Handles.{slot}
+use Rattle.brc_count.specs.Frames.{FrameSeen, HandleSeen, Owns}
+use Rattle.brc_count.specs.Owned.{Keeps, Loses}
+use Rattle.brc_handles.specs.Handles.{slot, IsApart}
 use Rattle.brc_handles.specs.Standing.{Stands}
 use Rattle.brc_client.specs.declared.status.Status.{Status}
 use Rattle.brc_client.specs.declared.status.Status.TheVariants as statuses
 use Rattle.brc_client.specs.Numbers.{NumbersSeen, number_at, place_in, stamp_in, once_more}
 
 -- The thread's frame; the handle in each place, if one is there; the numbers of the places; the text that was read last;
--- and the heap's root as it was seen when the thread forked last, if it did.
+-- the heap's root as it was seen when the thread forked last, if it did; and the handle to None that is kept for scalars,
+-- once one went in.
 pub record ClientSeen : Type 0 where
   pub frame : FrameSeen Global
   pub handles : List (Option HandleSeen)
   pub numbers : NumbersSeen
   pub text : List ℕ
   pub seen : Option SightSeen
+  pub none : Option HandleSeen
 
--- What a client keeps from call to call: its frame has the handles that are there and no others, nothing is locked, and
--- each handle lies in the place that has its own number in the frame.
-pub record IsClient (frame : FrameSeen Global) (handles : List (Option HandleSeen)) : Type 0 where
-  pub stands : Stands 0 frame handles
+-- how many handles are kept beside those of the places
+abbrev pub kept_count : Option HandleSeen → ℕ
+kept_count None = 0
+kept_count (Some _) = 1
+
+-- the frame has the one that is kept, which is in none of the places
+abbrev pub KeptBeside : FrameSeen Global → List (Option HandleSeen) → Option HandleSeen → Type 0
+KeptBeside frame handles None = ⊤
+KeptBeside frame handles (Some kept) = Owns frame kept × (kept.place < 65536) × IsApart kept handles
+
+-- the one that was kept is released, if there was one
+abbrev pub KeptGoes : FrameSeen Global → Option HandleSeen → FrameSeen Global → Type 0
+KeptGoes old None new = new ≡ old
+KeptGoes old (Some kept) new = Loses old new kept
+
+-- What a client keeps from call to call: its frame has the handles that are there, the one that is kept and no others,
+-- nothing is locked, and each handle lies in the place that has its own number in the frame.
+pub record IsClient (frame : FrameSeen Global) (handles : List (Option HandleSeen)) (none : Option HandleSeen)
+    : Type 0 where
+  pub stands : Stands (kept_count none) frame handles
+  pub kept : KeptBeside frame handles none
   pub lies : (k : ℕ) (h : HandleSeen) → slot handles k ≡ Some h → h.place ≡ k
   pub places : length handles ≡ 65536
 
@@ -59,6 +78,7 @@ NamesNone client = NamesNoneIn client.handles client.numbers
 pub record KeepsNumbers (old new : ClientSeen) : Type 0 where
   pub handles : new.handles ≡ old.handles
   pub numbers : new.numbers ≡ old.numbers
+  pub none : new.none ≡ old.none
   pub frame : Keeps old.frame new.frame
 
 -- the same client, whatever was seen of the heap's root
@@ -67,6 +87,7 @@ pub record SameClient (old new : ClientSeen) : Type 0 where
   pub handles : new.handles ≡ old.handles
   pub numbers : new.numbers ≡ old.numbers
   pub text : new.text ≡ old.text
+  pub none : new.none ≡ old.none
 
 -- each number that named a handle names it still
 abbrev pub KeepsNames : ClientSeen → ClientSeen → Type 0

@@ -27,7 +27,7 @@ use Rattle.brc_client.specs.declared.owner.OwnerStage.TheVariants as owners
 use Rattle.brc_client.specs.declared.owner.Left.{Left}
 use Rattle.brc_client.specs.Desks.{DeskSeen}
 use Rattle.brc_client.specs.Numbers.{IsStamped}
-use Rattle.brc_client.specs.Clients.{ClientSeen, SameClient}
+use Rattle.brc_client.specs.Clients.{ClientSeen, KeptGoes, SameClient}
 
 -- ---- a thread
 
@@ -131,7 +131,8 @@ pub record FinishedAs (left : FrameSeen Global) (new : Stage) : Type 0 where
   pub thread : retired.seat.thread ≡ left.seat.thread
   pub gathered : GatheredAs retired new
 
--- the client's thread polled, and took dead objects apart; then it left its heap, and was gathered
+-- the client's thread polled, took dead objects apart, and let its handle to None go; then it left its heap, and was
+-- gathered
 pub record LeftAs (client : ClientSeen) (new : Stage) : Type 0 where
   pub told : ℕ
   pub polled : FrameSeen Global
@@ -139,8 +140,10 @@ pub record LeftAs (client : ClientSeen) (new : Stage) : Type 0 where
   pub turns : ℕ
   pub idle : FrameSeen Global
   pub works : Turns polled turns idle
+  pub bare : FrameSeen Global
+  pub lets_go : KeptGoes idle client.none bare
   pub left : FrameSeen Global
-  pub goes : GoesOut idle left
+  pub goes : GoesOut bare left
   pub heap : left.heap ≡ client.frame.heap
   pub thread : left.seat.thread ≡ client.frame.seat.thread
   pub gathered : FinishedAs left new

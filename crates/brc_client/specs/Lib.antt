@@ -5,3 +5,4 @@ pub mod Answers
 pub mod Desks
 pub mod Ends
 pub mod Lending
+pub mod Valued

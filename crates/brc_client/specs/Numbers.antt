@@ -14,6 +14,7 @@ status_number statuses.Foreign = 65
 status_number statuses.Same = 66
 status_number statuses.Gone = 67
 status_number statuses.NotText = 68
+status_number statuses.NotValue = 69
 
 -- a registration: what the stamps of its heap begin with, and the heap's root as it was found and left
 pub record StampSeen : Type 0 where

@@ -8,8 +8,8 @@ ghost use Rattle.brc_count.specs.Polling.{Polled};
 ghost use Rattle.brc_count.specs.Closing.{GoesOut};
 ghost use Rattle.brc_count.specs.Frames.{Owns, Turns, HasSpare, IsUnlocked, KeepsHandles, ledger_seen, word_asked};
 ghost use Rattle.brc_handles.specs.Handles.{slot, filled, IsApart, IsBare, ComesIn};
-ghost use Rattle.brc_client.specs.Numbers.{number_at, place_in};
-ghost use Rattle.brc_client.specs.Clients.{IsClient, Names, NamesIn, NamesNone, NamesNoneIn};
+ghost use Rattle.brc_client.specs.Numbers.{number_at, place_in, stamp_in};
+ghost use Rattle.brc_client.specs.Clients.{IsClient, KeptGoes, Names, NamesIn, NamesNone, NamesNoneIn, kept_count};
 ghost use Rattle.brc_client.specs.Clients.{KeepsNumbers, KeepsNames, SpendsName, SpendsEach, SameClient};
 ghost use Rattle.brc_client.specs.Calls.{OfNamed, RefusedOf, Adds, Retained, Releases};
 
@@ -32,6 +32,8 @@ pub struct Client {
     pub(crate) text: String<Global>,
     /// The heap's root as it was seen when the thread forked last.
     pub(crate) seen: Option<Sight>,
+    /// A handle to None, once a scalar went in; it has no number.
+    pub(crate) none: Option<Handle<Global>>,
 }
 
 impl Model for Client {
@@ -46,14 +48,15 @@ impl Model for Client {
       numbers = c.numbers;
       text = string_bytes c.text;
       seen = c.seen;
+      none = c.none;
     } };
 
-    ghost invariant = { λ c. IsClient c.mutator c.handles };
+    ghost invariant = { λ c. IsClient c.mutator c.handles c.none };
 }
 
 /// The handle into its own place, which is empty.
 #[inline(always)]
-fn lay(handles: &mut Handles<Global>, given: Handle<Global>)
+pub(crate) fn lay(handles: &mut Handles<Global>, given: Handle<Global>)
     requires inside { given.place < 65536 }
     requires places { length handles.old ≡ 65536 }
     requires empty { slot handles.old given.place ≡ None }
@@ -93,6 +96,7 @@ pub(crate) fn find<'h>(
 ) -> Result<&'h Handle<Global>, Status>
     requires places { length handles.now ≡ 65536 }
     ensures named { IfOk result (λ handle. NamesIn handles.now numbers.now number handle.now) }
+    ensures stamp { OnOk result (stamp_in number ≡ numbers.now.stamp) }
     ensures refused { IfErr result (NamesNoneIn handles.now numbers.now number) }
 {
     let place = numbers.place(number)?;
@@ -116,21 +120,34 @@ fn release_late(frame: &mut Frame<Shared, Global>, handle: Handle<Global>)
     frame.release(handle);
 }
 
-/// All handles go, by rising place, and their numbers with them.
+/// How many handles that is.
+#[inline(always)]
+fn kept_in(none: &Option<Handle<Global>>) -> usize
+    ensures { result ≡ kept_count none.now }
+{
+    match none {
+        Some(_kept) => 1,
+        None => 0,
+    }
+}
+
+/// All handles go, by rising place, and their numbers with them; but the one that is kept stays.
 #[tactic(auto, using(crate::proofs::Spending::begins, crate::proofs::Spending::passes, crate::proofs::Spending::vacates))]
 fn release_each(
     frame: &mut Frame<Shared, Global>,
     handles: &mut Handles<Global>,
     numbers: &mut Numbers,
+    none: &Option<Handle<Global>>,
 )
-    requires client { IsClient frame.old handles.old }
-    ensures client { IsClient frame.new handles.new }
+    requires client { IsClient frame.old handles.old none.now }
+    ensures client { IsClient frame.new handles.new none.now }
     ensures none { IsBare handles.new }
     ensures spent { SpendsEach handles.old numbers.old numbers.new }
     ensures heap { frame.new.heap ≡ frame.old.heap }
 {
+    let kept = kept_in(none);
     for at in 0..PLACES {
-        if frame.len() == 0 {
+        if frame.len() == kept {
             break;
         }
         if let Some(handle) = handles.take(at) {
@@ -156,6 +173,7 @@ impl Client {
         ensures frame { result.frame ≡ mutator }
         ensures numbers { result.numbers ≡ numbers }
         ensures none { IsBare result.handles }
+        ensures unkept { result.none ≡ None }
     {
         Client {
             mutator,
@@ -163,6 +181,7 @@ impl Client {
             numbers,
             text: String::new(alloc),
             seen: None,
+            none: None,
         }
     }
 
@@ -187,6 +206,7 @@ impl Client {
         ensures place { IfOk result (λ place. place ≡ place_in number) }
         ensures inside { IfOk result (λ place. place < 65536) }
         ensures named { OnOk result (Names self.now number) }
+        ensures stamp { OnOk result (stamp_in number ≡ self.now.numbers.stamp) }
         ensures refused { IfErr result (NamesNone self.now number) }
     {
         let _handle = find(&self.handles, &self.numbers, number)?;
@@ -198,7 +218,7 @@ impl Client {
         ensures count { result ≡ filled self.old.handles }
         ensures same { self.new ≡ self.old }
     {
-        self.mutator.frame().len()
+        self.mutator.frame().len() - kept_in(&self.none)
     }
 
     /// What the thread has made and given back since it was registered.
@@ -335,7 +355,12 @@ impl Client {
         ensures spent { SpendsEach self.old.handles self.old.numbers self.new.numbers }
         ensures heap { self.new.frame.heap ≡ self.old.frame.heap }
     {
-        release_each(self.mutator.frame(), &mut self.handles, &mut self.numbers);
+        release_each(
+            self.mutator.frame(),
+            &mut self.handles,
+            &mut self.numbers,
+            &self.none,
+        );
     }
 
     /// What others asked for is dealt with: the answer is 0 if nobody did since the last poll. It takes no memory.
@@ -387,9 +412,24 @@ impl Client {
         self.mutator.frame().home().again()
     }
 
+    /// The handle to None goes that was kept for scalars, if there is one.
+    pub(crate) fn let_none_go(&mut self)
+        ensures gone { self.new.none ≡ None }
+        ensures goes { KeptGoes self.old.frame self.old.none self.new.frame }
+        ensures heap { self.new.frame.heap ≡ self.old.frame.heap }
+        ensures thread { self.new.frame.seat.thread ≡ self.old.frame.seat.thread }
+        ensures handles { self.new.handles ≡ self.old.handles }
+        ensures numbers { self.new.numbers ≡ self.old.numbers }
+    {
+        if let Some(kept) = self.none.take() {
+            self.mutator.frame().release(kept);
+        }
+    }
+
     /// The thread leaves; or it is as it was, if it has a reference or a dead object.
     #[tactic(auto, using(crate::proofs::Placed::none_counted))]
     pub(crate) fn leave(self) -> Result<Leaving<Shared, Global>, Client>
+        requires unkept { self.none ≡ None }
         ensures heap { IfOk result (λ leaving. leaving.heap ≡ self.frame.heap) }
         ensures thread { IfOk result (λ leaving. leaving.seat.thread ≡ self.frame.seat.thread) }
         ensures goes { IfOk result (λ leaving. GoesOut self.frame leaving) }
@@ -403,7 +443,12 @@ impl Client {
             numbers,
             text,
             seen,
+            none,
         } = self;
+        match none {
+            None => (),
+            Some(_kept) => unreachable!(),
+        }
         match mutator.leave() {
             Ok(leaving) => {
                 handles.spend();
@@ -415,6 +460,7 @@ impl Client {
                 numbers,
                 text,
                 seen,
+                none: None,
             }),
         }
     }
@@ -429,8 +475,12 @@ impl Drop for Client {
             numbers: _numbers,
             text: _text,
             seen: _seen,
+            none,
         } = self;
         let mut mutator = mutator;
+        if let Some(kept) = none {
+            mutator.frame().release(kept);
+        }
         handles.release_all(mutator.frame());
         mutator.abandon();
     }

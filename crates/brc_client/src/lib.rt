@@ -12,6 +12,7 @@
 #![tactic(auto)]
 
 mod client;
+mod data;
 mod looking;
 mod moving;
 mod numbers;
@@ -20,8 +21,9 @@ mod status;
 mod thread;
 
 pub use brc_heap::{Key, KeyRef, Kind, Ledger, RootCounts};
-pub use brc_places::{GiveBy, Make, TakeBy};
+pub use brc_places::{GiveBy, Make, PutBy, TakeBy};
 pub use client::Client;
+pub use data::{Datum, PairDatum};
 pub use owner::{Left, Owner, copy_prefix};
 pub use status::{Status, text_of};
 pub use thread::Thread;

@@ -22,10 +22,12 @@ pub enum Status {
     Gone,
     /// The bytes are no UTF-8.
     NotText,
+    /// It holds neither a scalar nor a reference.
+    NotValue,
 }
 
 impl Status {
-    /// Its number: that of the fault, 1 to 17, or 64 to 68. None has the number 0.
+    /// Its number: that of the fault, 1 to 17, or 64 to 69. None has the number 0.
     #[tactic(auto, using(crate::proofs::Statuses::fault_above))]
     pub fn number(self) -> u32
         ensures number { result ≡ status_number self }
@@ -38,6 +40,7 @@ impl Status {
             Status::Same => 66,
             Status::Gone => 67,
             Status::NotText => 68,
+            Status::NotValue => 69,
         }
     }
 }

@@ -156,6 +156,7 @@ fn leave(client: Client) -> (Stage, Result<(), Status>)
     let Ok(desk) = client.home() else {
         return (Stage::Works(client), Err(Status::Fault(Fault::OutOfMemory)));
     };
+    client.let_none_go();
     match client.leave() {
         Ok(leaving) => LeavingThread { desk, leaving }.finish(),
         Err(client) => (Stage::Works(client), Err(Status::Fault(Fault::Busy))),

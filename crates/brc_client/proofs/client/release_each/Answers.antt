@@ -11,11 +11,11 @@ pub returns-after-loop-at-clause-spent : goal.returns-after-loop-at-clause-spent
 returns-after-loop-at-clause-spent c = spent_whole c.loop-at.at _ _ _ _ c.loop-at.invariant.3
     (omega (arith, c.loop-at-test.false))
 
-pub returns-then-len-eq0-clause-none : goal.returns-then-len-eq0-clause-none
-returns-then-len-eq0-clause-none c = bare_counted c.loop-at.frame c.loop-at.handles c.loop-at.invariant.0
-    (omega (arith, c.if-len-eq0.true, c.len.ensures))
+pub returns-then-len-kept-clause-none : goal.returns-then-len-kept-clause-none
+returns-then-len-kept-clause-none c = bare_counted c.loop-at.frame c.loop-at.handles c.loop-at.invariant.0
+    (omega (arith, c.if-len-kept.true, c.len.ensures, c.kept_in-kept.ensures))
 
-pub returns-then-len-eq0-clause-spent : goal.returns-then-len-eq0-clause-spent
-returns-then-len-eq0-clause-spent c = spent_bare c.loop-at.at _ _ _ _ c.loop-at.invariant.3
+pub returns-then-len-kept-clause-spent : goal.returns-then-len-kept-clause-spent
+returns-then-len-kept-clause-spent c = spent_bare c.loop-at.at _ _ _ _ c.loop-at.invariant.3
     (bare_counted c.loop-at.frame c.loop-at.handles c.loop-at.invariant.0
-    (omega (arith, c.if-len-eq0.true, c.len.ensures)))
+    (omega (arith, c.if-len-kept.true, c.len.ensures, c.kept_in-kept.ensures)))
