@@ -131,7 +131,7 @@ fn are_words(words: &[String], said: &str) -> bool
 pub(crate) fn brc_command<'a>(alloc: Global) -> Result<Command<'a>, AllocError> {
     Command::new(alloc, "brc")
         .about(ABOUT)
-        .version("0.1.0")
+        .version("0.2.0")
         .no_binary_name(true)
         .after_help(MORE)
         .subcommand_required(true)
