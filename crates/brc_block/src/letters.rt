@@ -10,7 +10,7 @@ use std::collections::VecDeque;
 use std::marker::Model;
 
 /// How many entries the first growth makes room for.
-const FEWEST: usize = 4;
+const FEWEST: usize = 8;
 
 /// The entries of a mailbox, as cells with notes: the first put in is the first taken out.
 ///

@@ -125,8 +125,8 @@ fn a_list_without_memory_stays(rt: HostRuntime) {
 fn a_mailbox_without_memory_stays(rt: HostRuntime) {
     let heap = small_heap(&rt, rt.alloc());
     let mut letters = Letters::new(&heap).expect(&rt, "memory");
-    // The first growth of a queue makes room for four.
-    let _filler = stays(&rt, rt.alloc(), &heap, &mut letters, 2);
+    // The first growth of a queue makes room for eight.
+    let _filler = stays(&rt, rt.alloc(), &heap, &mut letters, 4);
     same(&rt, "its front", letters.take(), Some(noted(266)));
     holds(&rt, "in its place", letters.put(noted(268)).is_ok());
 }
