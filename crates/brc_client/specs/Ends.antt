@@ -16,7 +16,7 @@ use Rattle.brc_heap.specs.Lasting.{LastReportSeen}
 use Rattle.brc_heap.specs.declared.shared.RootCounts.{RootCounts}
 use Rattle.brc_heap.specs.declared.shared.NotRegistered.{NotRegistered}
 use Rattle.brc_heap.specs.declared.shared.NotRegistered.TheVariants as refusals
-use Rattle.brc_heap.specs.Shared.{IsOf, CountsOf, RegistersHere, HasRegistered, HasNoNumber, ClosesAs}
+use Rattle.brc_heap.specs.Shared.{IsOf, CountsOf, RegistersHere, ClaimsApart, HasRegistered, HasNoNumber, ClosesAs}
 use Rattle.brc_heap.specs.Shared.{HasGatheredAll, LacksThreads}
 use Rattle.brc_client.specs.declared.status.Status.{Status}
 use Rattle.brc_client.specs.declared.status.Status.TheVariants as statuses
@@ -48,7 +48,8 @@ abbrev pub desk_of : Stage → Option DeskSeen
 desk_of (stages.Works client) = Some (record { heap = client.frame.heap; first = client.numbers.of.first })
 desk_of _ = None
 
--- A thread of this very heap was registered by the heap's root, as that was found. It works, and has no reference yet. The stamp of its numbers is that of its registration.
+-- A thread of this very heap was registered by the heap's root, as that was found. It works, and has no reference yet. The
+-- stamp of its numbers is that of its registration. Its claims begin with its own part of the heap.
 pub record IsRegistered (desk : DeskSeen) (made : Stage) : Type 0 where
   pub client : ClientSeen
   pub works : made ≡ stages.Works client
@@ -58,6 +59,7 @@ pub record IsRegistered (desk : DeskSeen) (made : Stage) : Type 0 where
   pub first : client.numbers.of.first ≡ desk.first
   pub stamp : IsStamped client.numbers.stamp client.numbers.of
   pub registered : RegistersHere desk.heap client.frame client.numbers.of.registration
+  pub claims : ClaimsApart client.frame
 
 -- the same where there is a heap; where there is none, nothing is registered
 abbrev pub RegistersAt : Option DeskSeen → Stage → Type 0

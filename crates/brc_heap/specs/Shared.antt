@@ -1,7 +1,7 @@
 -- What a call on a shared heap says of the root that it found at the desk. Another may have that root at once, so what it
 -- had done is what it had done at one moment. Each `seen` below is a `Sight` that the call hands out: the root as the call
 -- found it and left it, by a seat that the desk's rule speaks of.
-use Rattle.std.specs.Prelude.{◌≡◌, ◌≢◌, ℕ, Option, MatchOption}
+use Rattle.std.specs.Prelude.{◌≡◌, ◌≢◌, ℕ, true, Option, MatchOption}
 use Rattle.std.specs.declared.alloc.Global.{Global}
 use Rattle.brc_words.specs.declared.fault.Fault.{Fault}
 use Rattle.brc_words.specs.declared.fault.Fault.TheVariants as faults
@@ -9,7 +9,8 @@ use Rattle.brc_count.specs.law.declared.rule.view.View.{View}
 use Rattle.brc_count.specs.law.steps.Joining.{next_thread, registering, gathering}
 use Rattle.brc_count.specs.table.Seated.{TableSeen, view_of}
 use Rattle.brc_count.specs.Closing.{BeginsBy}
-use Rattle.brc_count.specs.Frames.{FrameSeen}
+use Rattle.brc_count.specs.Frames.{FrameSeen, word_asked}
+use Rattle.brc_thread.specs.Apart.{first_of_part}
 use Rattle.brc_thread.specs.Counting.{registrations, gatherings, in_u32, Counts}
 use Rattle.brc_thread.specs.Threads.{RefusesThread, RetiredSeen}
 use Rattle.brc_heap.specs.Closing.{IsReportOfEnd}
@@ -50,6 +51,12 @@ pub record RegistersHere (heap : TableSeen) (mutator : FrameSeen Global) (seen :
   pub thread : mutator.seat.thread ≡ next_thread seen.found.view
   pub begins : BeginsBy heap.cells seen.found.view mutator.seat.log
   pub registers : seen.left.view ≡ registering seen.found.view
+
+-- A thread's claims begin with its own part of the heap, and each later one near its last. So threads that make objects at
+-- the same time meet in a free word only once a part is full.
+pub record ClaimsApart (mutator : FrameSeen Global) : Type 0 where
+  pub begins : mutator.from ≡ word_asked mutator.heap.cells (first_of_part mutator.heap.cells mutator.seat.thread)
+  pub near : mutator.near ≡ true
 
 -- the heap's root, as it was seen, has registered a thread as the last that it did
 pub record HasRegistered (heap : TableSeen) (seen : SightSeen) : Type 0 where

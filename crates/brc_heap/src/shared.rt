@@ -3,12 +3,12 @@
 ghost use Rattle.std.specs.Prelude.{◌≡◌, ◌↔◌, ◌⊎◌, [], false, Err, IfOk, IfErr, OnOk, OnErr, IfSome};
 ghost use Rattle.brc_words.specs.declared.fault.Fault.TheVariants as faults;
 ghost use Rattle.brc_count.specs.law.world.Heap.{AreOptions};
-ghost use Rattle.brc_count.specs.Frames.{IsUnlocked, first_word, ledger_seen};
+ghost use Rattle.brc_count.specs.Frames.{IsUnlocked, ledger_seen};
 ghost use Rattle.brc_count.specs.Closing.{BeginsBy};
 ghost use Rattle.brc_count.specs.law.steps.Joining.{next_thread, registering};
 ghost use Rattle.brc_thread.specs.Threads.{RefusesThread};
 ghost use Rattle.brc_heap.specs.Desk.{EachCountOnce};
-ghost use Rattle.brc_heap.specs.Shared.{HasCounted, CountsOf, RegistersHere, HasRegistered, RefusesHere, IsSeenAt};
+ghost use Rattle.brc_heap.specs.Shared.{HasCounted, CountsOf, RegistersHere, ClaimsApart, HasRegistered, RefusesHere, IsSeenAt};
 ghost use Rattle.brc_heap.specs.Shared.{GathersHere, ClosesAs, StaysAs, fault_of};
 
 use crate::NoReport;
@@ -131,7 +131,7 @@ impl Shared {
         }
     }
 
-    /// The mutator of the next thread, by the heap's root.
+    /// The mutator of the next thread, by the heap's root. Its claims begin with a part of the heap of its own.
     fn registered_by(
         &self,
         alloc: Global,
@@ -143,7 +143,7 @@ impl Shared {
         ensures begins { IfOk result (λ made. BeginsBy made.heap.cells root.old.view made.seat.log) }
         ensures idle { IfOk result (λ made. (made.len ≡ 0) × (made.works ≡ [])) }
         ensures unlocked { IfOk result (λ made. IsUnlocked made) }
-        ensures first { IfOk result (λ made. (made.from ≡ first_word) × (made.near ≡ false)) }
+        ensures first { IfOk result ClaimsApart }
         ensures ledger { IfOk result (λ made. ledger_seen made ≡ record { allocs = 0; frees = 0 }) }
         ensures root { OnOk result (root.new.view ≡ registering root.old.view) }
         ensures same_root { root.new.table ≡ root.old.table }
@@ -151,14 +151,15 @@ impl Shared {
         ensures unchanged { OnErr result (root.new ≡ root.old) }
     {
         match self.again() {
-            Ok(shared) => root.register(alloc, shared),
+            Ok(shared) => root.register_apart(alloc, shared),
             Err(_) => Err(Fault::OutOfMemory),
         }
     }
 
     /// The mutator of the next thread, its registration, which says how many were before it, 0 to 65,535, and the root as it
-    /// is then. Busy, looked at first, if another call has the root at this moment; it is to be tried again. Then as
-    /// `Root::register`: TooManyThreads, and OutOfMemory. A refusal registers nobody.
+    /// is then. As by `Root::register_apart`, its claims begin with a part of the heap of its own, and each later one near
+    /// its last. Busy, looked at first, if another call has the root at this moment; it is to be tried again. Then
+    /// TooManyThreads, and OutOfMemory. A refusal registers nobody.
     #[tactic(auto, using(crate::proofs::At_Desk::grows_unchanged))]
     pub fn register(
         &self,
@@ -171,7 +172,7 @@ impl Shared {
         ensures apart { OnOk result (EachCountOnce self.now.heap) }
         ensures idle { IfOk result (λ made. (made.0.len ≡ 0) × (made.0.works ≡ [])) }
         ensures unlocked { IfOk result (λ made. IsUnlocked made.0) }
-        ensures first { IfOk result (λ made. (made.0.from ≡ first_word) × (made.0.near ≡ false)) }
+        ensures first { IfOk result (λ made. ClaimsApart made.0) }
         ensures ledger { IfOk result (λ made. ledger_seen made.0 ≡ record { allocs = 0; frees = 0 }) }
 
         ensures refused { IfErr result (RefusesHere self.now) }
