@@ -216,9 +216,10 @@ size_t brc_count(brc_thread *);
 /* Releases all references of the thread: each of its numbers is STALE then. GONE. */
 brc_status brc_release_all(brc_thread *);
 
-/* A hint: the search for a free cell begins here. Of n threads, give thread i the cell cells * i / n.
- * If `near_last` isn't 0, each later search begins where the thread worked last. Use that in a heap
- * that is nearly full. GONE. */
+/* A hint: the search for a free cell begins here. If `near_last` isn't 0, each later search begins
+ * where the thread worked last. A new thread has both: it begins with its part of the heap, one of 64.
+ * So threads that make objects at the same time don't meet. In a small heap with few threads, give
+ * thread i of n the cell cells * i / n. GONE. */
 brc_status brc_claim(brc_thread *, uint32_t cell, uint32_t near_last);
 
 
