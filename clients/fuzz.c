@@ -39,8 +39,8 @@ enum { MOST_HELD = 200, MOST_OLD = 64, WORKERS = 4, STATUSES = 80, UNWRITTEN = 0
 /* ---- The calls, and the statuses that brc.h names for each */
 
 typedef enum {
-    RELEASE, PUSH, SEND, POLL, WORK, LEN_OF, INT_OF, KIND_OF, TRUTH_OF, SAME, TEXT_OF, SET, LEDGER, CLAIM, LEAVE, RELEASE_ALL,
-    PUSH_VALUE, SEND_VALUE,
+    RELEASE, PUSH, SEND, POLL, WORK, LEN_OF, INT_OF, KIND_OF, TRUTH_OF, SAME, IDENTITY, TEXT_OF, SET, LEDGER, CLAIM, LEAVE,
+    RELEASE_ALL, PUSH_VALUE, SEND_VALUE,
     /* from here on a call hands out a reference more */
     RETAIN, NONE, TRUTH, GLOBALS, NEW_INT, NEW_TEXT, NEW_LIST, NEW_DICT, NEW_MAILBOX, POP, TAKE, GET, RECV, PUT_INT, FIND_INT,
     DEL_INT, PUT_TEXT, FIND_TEXT, DEL_TEXT, PAIR,
@@ -74,6 +74,7 @@ static const struct { int weight, numbers; uint64_t statuses; } ABOUT[CALLS] = {
     [KIND_OF] = {1, 1, LOCKED},
     [TRUTH_OF] = {1, 1, NUMBER | S(BRC_WRONG_KIND)},
     [SAME] = {1, 2, NUMBER},
+    [IDENTITY] = {1, 1, NUMBER},
     [TEXT_OF] = {1, 1, OBJECT | S(BRC_OUT_OF_MEMORY)},
     [SET] = {2, 2, ENTERS | S(BRC_NO_SUCH_PLACE)},
     [LEDGER] = {1, 0, GIVEN},
@@ -132,7 +133,7 @@ typedef struct {
     brc_ref ref;
     brc_value came;
     int64_t value;
-    uint64_t allocs, frees;
+    uint64_t allocs, frees, identity;
     size_t len;
     uint32_t word;
     brc_key key;
@@ -296,6 +297,7 @@ static brc_status make_call(worker_t *w, call_t call, const inputs_t *in, outs_t
     case KIND_OF: return brc_kind_of(t, one, &out->word);
     case TRUTH_OF: return brc_truth_of(t, one, &out->word);
     case SAME: return brc_same(t, one, other, &out->word);
+    case IDENTITY: return brc_identity(t, one, &out->identity);
     case TEXT_OF: return brc_text_of(t, one, out->text, in->room, &out->len);
     case SET: return brc_list_set(t, one, in->index, other, &out->ref);
     case LEDGER: return brc_ledger(t, &out->allocs, &out->frees);

@@ -25,7 +25,7 @@
 #include <time.h>
 #include "brc.h"
 
-enum { REFERENCES = 65536, ENTRIES = 1048576, MOST_THREADS = 64, CALLS = 61 };
+enum { REFERENCES = 65536, ENTRIES = 1048576, MOST_THREADS = 64, CALLS = 62 };
 enum { LABEL = 77, UNWRITTEN = 0xa5, DEAD_ENTRIES = 100000, TRIES = 10000000, SECONDS = 60 };
 
 /* ---- What is said */
@@ -200,7 +200,7 @@ static void hold(hold_t *h, brc_thread *thread, brc_kind kind, brc_ref object) {
 /* ---- Calls by numbers */
 
 typedef enum {
-    RETAIN, RELEASE, SAME, NOTHING, TRUTH, GLOBALS, NEW_INT, NEW_SMALL, NEW_TEXT, NEW_LIST, NEW_DICT, NEW_MAILBOX, KIND_OF,
+    RETAIN, RELEASE, SAME, IDENTITY, NOTHING, TRUTH, GLOBALS, NEW_INT, NEW_SMALL, NEW_TEXT, NEW_LIST, NEW_DICT, NEW_MAILBOX, KIND_OF,
     LEN_OF, INT_OF, TRUTH_OF, TEXT_OF, PUSH, POP, TAKE, GET, SET, SEND, RECV, PUT_INT, PUT_TEXT, FIND_INT, FIND_TEXT, DEL_INT,
     DEL_TEXT, PAIR, LEDGER, RELEASE_ALL, CLAIM, POLL, WORK, COUNT, PUSH_VALUE, POP_VALUE, TAKE_VALUE, GET_VALUE, SET_VALUE,
     PUT_VALUE, SEND_VALUE, RECV_VALUE, PUT_INT_VALUE, PUT_TEXT_VALUE, FIND_INT_VALUE, FIND_TEXT_VALUE, DEL_INT_VALUE,
@@ -220,7 +220,7 @@ typedef struct {
 typedef struct {
     brc_ref ref;
     int64_t value;
-    uint64_t allocs, frees;
+    uint64_t allocs, frees, identity;
     size_t len;
     uint32_t word, pairs;
     brc_value datum;
@@ -237,6 +237,7 @@ static brc_status make_call(call_t call, brc_thread *t, const inputs_t *in, outs
     case RETAIN: return brc_retain(t, one, &out->ref);
     case RELEASE: return brc_release(t, one);
     case SAME: return brc_same(t, one, other, &out->word);
+    case IDENTITY: return brc_identity(t, one, &out->identity);
     case NOTHING: return brc_none(t, &out->ref);
     case TRUTH: return brc_truth(t, 1, &out->ref);
     case GLOBALS: return brc_globals(t, &out->ref);
@@ -563,6 +564,7 @@ static const about_t ABOUT[] = {
     {RETAIN, "brc_retain", ANY, {NUMBER, PLACE}},
     {RELEASE, "brc_release", ANY, {NUMBER}},
     {SAME, "brc_same", ANY, {NUMBERS_OF_TWO}},
+    {IDENTITY, "brc_identity", ANY, {NUMBER}},
     {NOTHING, "brc_none", ANY, {THREAD_LEFT, PLACE}},
     {TRUTH, "brc_truth", ANY, {THREAD_LEFT, PLACE}},
     {GLOBALS, "brc_globals", ANY, {THREAD_LEFT, PLACE}},
@@ -1019,7 +1021,7 @@ static void play_unlocked(void) {
     brc_thread *t = &threads[READY];
     const brc_ref text = held[READY][TEXT];
     brc_ref more;
-    uint64_t allocs, frees;
+    uint64_t allocs, frees, identity, other;
     uint32_t word;
     hold_t h, registers;
     begin_row("brc_retain", "another thread has the object");
@@ -1028,6 +1030,11 @@ static void play_unlocked(void) {
     MUST(brc_retain(t, text, &more));
     MUST(brc_same(t, text, more, &word));
     CHECK(word == 1);
+    MUST(brc_identity(t, text, &identity));
+    MUST(brc_identity(t, more, &other));
+    CHECK(identity == other);
+    MUST(brc_identity(t, held[READY][LIST], &other));
+    CHECK(identity != other);
     settle(brc_truth_of(t, text, &word), BRC_WRONG_KIND);
     MUST(brc_release(t, more));
     settle(brc_release(t, more), BRC_STALE);

@@ -61,6 +61,19 @@
  * brc_work, a bounded number of turns a call. Call it at the same places, with 64 turns, say. The
  * cell of a dead object is free only then. A thread that never works fills the heap: see BRC_MAKE.
  *
+ * Costs. A call on a container, or a look at an object, locks it for the time of the call. Four looks
+ * take no lock: brc_same, brc_truth_of, brc_identity, and those at None, booleans and integers from -5 to
+ * 256. So the looks of many threads at one object come one after the other. brc_text_of copies the
+ * whole text first, whatever `room` is. brc_list_take moves all later entries, and a delete all later
+ * pairs. A client that deletes much puts a scalar of its own beside the key instead, and makes the
+ * dictionary anew at times.
+ *
+ * Traps. What other threads release goes back to the thread that made it, which learns of it by a poll.
+ * So a thread that blocks keeps dead objects: let it wait at most 10 ms at a time, with a poll and work
+ * between. Objects that one thread makes one after the other stand side by side in memory. If two
+ * threads lock such neighbours all the time, they take a line of the cache from each other. So do two
+ * threads whose first objects were made on one thread of the machine: let each make its own.
+ *
  * Limits. A heap has 64 threads at a time, and 65,536 registrations in its life. A thread has 65,536
  * references, of which a kept None is one. A heap has 512 to 65,536 cells, of which 266 are taken. A
  * container has 1,048,576 entries. Integers from -5 to 256, None, False, True and the globals are
@@ -236,6 +249,11 @@ brc_status brc_release(brc_thread *, brc_ref);
  * GONE; of `one` FOREIGN, STALE; of `other` FOREIGN, STALE. */
 brc_status brc_same(brc_thread *, brc_ref one, brc_ref other, uint32_t *same);
 
+/* A number that no other live object has, for tables by identity. Once the object is dead, another may
+ * get it. It takes no lock.
+ * GONE, FOREIGN, STALE. */
+brc_status brc_identity(brc_thread *, brc_ref, uint64_t *identity);
+
 
 /* ---- Objects. Makers are never BUSY. */
 
@@ -262,13 +280,15 @@ brc_status brc_new_mailbox(brc_thread *, brc_ref *made);
 
 /* ---- What an object is */
 
-/* The kind of any object. GONE, FOREIGN, STALE, BUSY. */
+/* The kind of any object. It takes no lock of None, booleans and integers from -5 to 256.
+ * GONE, FOREIGN, STALE, BUSY. */
 brc_status brc_kind_of(brc_thread *, brc_ref, brc_kind *kind);
 
 /* How many entries a list, a dictionary or a mailbox has. GONE, FOREIGN, STALE, BUSY, WRONG_KIND. */
 brc_status brc_len_of(brc_thread *, brc_ref, size_t *len);
 
-/* The number of an integer. GONE, FOREIGN, STALE, BUSY, WRONG_KIND. */
+/* The number of an integer. It takes no lock of None, booleans and integers from -5 to 256.
+ * GONE, FOREIGN, STALE, BUSY, WRONG_KIND. */
 brc_status brc_int_of(brc_thread *, brc_ref, int64_t *value);
 
 /* 1 of True, 0 of False. It takes no lock. GONE, FOREIGN, STALE, WRONG_KIND. */

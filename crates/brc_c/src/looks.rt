@@ -1,8 +1,9 @@
-//! What an object is: its kind, how many entries it has, its number, its truth, its text.
+//! What an object is: its kind, how many entries it has, its number, its truth, its identity, its text.
 
 ghost use Rattle.std.specs.Prelude.{◌≡◌, ◌≢◌};
-ghost use Rattle.brc_things.specs.Looking.{KindOf, LenOf, IntOf};
-ghost use Rattle.brc_client.specs.Answers.{FindsOut, FindsTruth, ReadsOut};
+ghost use Rattle.brc_things.specs.Looking.{LenOf};
+ghost use Rattle.brc_client.specs.Answers.{FindsOut, FindsTruth, FindsIdentity, ReadsOut};
+ghost use Rattle.brc_client.specs.Told.{KindTold, IntTold};
 ghost use Rattle.brc_c.specs.Calls.{WritesText};
 ghost use Rattle.brc_c.specs.Exports.{CarriesOut, Writes, code_of, itself, truth_number, kind_number};
 
@@ -45,7 +46,7 @@ fn write_kind(made: Result<Kind, Status>, to: &mut u32) -> u32
 #[unsafe(no_mangle)]
 pub extern "C" fn brc_kind_of(thread: &mut CThread, held: u64, kind: &mut u32) -> u32
     ensures kept { result ≢ 0 → kind.new ≡ kind.old }
-    ensures does { CarriesOut (FindsOut KindOf held) thread.old.value thread.new.value result
+    ensures does { CarriesOut (FindsOut KindTold held) thread.old.value thread.new.value result
         (Writes kind_number kind.old kind.new) }
 {
     match thread.as_mut().client() {
@@ -69,7 +70,7 @@ pub extern "C" fn brc_len_of(thread: &mut CThread, held: u64, len: &mut usize) -
 #[unsafe(no_mangle)]
 pub extern "C" fn brc_int_of(thread: &mut CThread, held: u64, value: &mut i64) -> u32
     ensures kept { result ≢ 0 → value.new ≡ value.old }
-    ensures does { CarriesOut (FindsOut IntOf held) thread.old.value thread.new.value result
+    ensures does { CarriesOut (FindsOut IntTold held) thread.old.value thread.new.value result
         (Writes itself value.old value.new) }
 {
     match thread.as_mut().client() {
@@ -86,6 +87,18 @@ pub extern "C" fn brc_truth_of(thread: &mut CThread, held: u64, is_true: &mut u3
 {
     match thread.as_mut().client() {
         Some(client) => write_truth(client.truth(held), is_true),
+        None => gone(),
+    }
+}
+
+#[unsafe(no_mangle)]
+pub extern "C" fn brc_identity(thread: &mut CThread, held: u64, identity: &mut u64) -> u32
+    ensures kept { result ≢ 0 → identity.new ≡ identity.old }
+    ensures does { CarriesOut (FindsIdentity held) thread.old.value thread.new.value result
+        (Writes itself identity.old identity.new) }
+{
+    match thread.as_mut().client() {
+        Some(client) => write(client.identity(held), identity),
         None => gone(),
     }
 }

@@ -99,6 +99,12 @@ pub record FindsTruth (number : ℕ) (old new : ClientSeen) (answer : Result Boo
       × (cell_in old.frame k ≢ Some 2)) old new number)
   pub same : new ≡ old
 
+-- the number of the object's cell, which no other live object has
+pub record FindsIdentity (number : ℕ) (old new : ClientSeen) (answer : Result ℕ Status) : Type 0 where
+  pub identity : IfOk answer (λ identity. OfNamed old number (λ object. cell_in old.frame object.place ≡ Some identity))
+  pub refused : IfErr answer (NamesNone old number)
+  pub same : new ≡ old
+
 -- the text in the place, as `Reads` has it
 abbrev pub ReadsOut : FrameSeen Global → FrameSeen Global → ℕ → Result (List ℕ) Fault → Type 0
 ReadsOut old new k (Ok text) = Reads old new text k (Ok tt)

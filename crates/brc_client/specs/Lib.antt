@@ -6,3 +6,4 @@ pub mod Desks
 pub mod Ends
 pub mod Lending
 pub mod Valued
+pub mod Told

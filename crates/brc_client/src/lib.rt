@@ -19,6 +19,7 @@ mod numbers;
 mod owner;
 mod status;
 mod thread;
+mod told;
 
 pub use brc_heap::{Key, KeyRef, Kind, Ledger, RootCounts};
 pub use brc_places::{GiveBy, Make, PutBy, TakeBy};

@@ -4,28 +4,27 @@ ghost use Rattle.std.specs.Prelude.{◌≡◌, ◌≢◌, ◌⊎◌, Some, IfOk,
 ghost use Rattle.brc_words.specs.declared.fault.Fault.TheVariants as faults;
 ghost use Rattle.brc_count.specs.Locking.{cell_in};
 ghost use Rattle.brc_things.specs.Makers.{truth_cell};
-ghost use Rattle.brc_things.specs.Looking.{KindOf, LenOf, IntOf};
+ghost use Rattle.brc_things.specs.Looking.{LenOf};
 ghost use Rattle.brc_client.specs.Clients.{Names, NamesNone, KeepsNumbers};
 ghost use Rattle.brc_client.specs.Calls.{OfNamed, RefusedOf, Looks, Reads, IsOne};
+ghost use Rattle.brc_client.specs.Told.{KindTold, IntTold};
 
-use crate::client::Client;
+use crate::client::{Client, find};
 use crate::status::Status;
+use crate::told::{int_told, kind_told};
 use brc_heap::{same_object, truth_of};
-use brc_things::{try_int_of, try_kind_of, try_len_of, try_text_into};
+use brc_things::{try_len_of, try_text_into};
 use brc_words::Kind;
 
 impl Client {
-    /// What kind of object it is. Foreign, Stale; then Busy.
+    /// What kind of object it is. Foreign, Stale; then Busy. It takes no lock of None, booleans and integers from -5 to 256.
     #[tactic(auto, using(crate::proofs::Placed::keeps))]
     pub fn kind(&mut self, number: u64) -> Result<Kind, Status>
-        ensures looked { Looks (KindOf self.old.frame self.new.frame) self.old self.new number result }
+        ensures looked { Looks (KindTold self.old.frame self.new.frame) self.old self.new number result }
         ensures keeps { KeepsNumbers self.old self.new }
     {
-        let place = self.place_of(number)?;
-        let Some(object) = self.handles.get(place) else {
-            unreachable!()
-        };
-        match try_kind_of(self.mutator.frame(), object) {
+        let object = find(&self.handles, &self.numbers, number)?;
+        match kind_told(self.mutator.frame(), object) {
             Ok(kind) => Ok(kind),
             Err(fault) => Err(Status::Fault(fault)),
         }
@@ -47,18 +46,16 @@ impl Client {
         }
     }
 
-    /// The number that the integer is. Foreign, Stale; then Busy, and WrongKind if it is none.
+    /// The number that the integer is. Foreign, Stale; then Busy, and WrongKind if it is none. It takes no lock of None,
+    /// booleans and integers from -5 to 256.
     #[tactic(auto, using(crate::proofs::Placed::keeps))]
     #[inline]
     pub fn int(&mut self, number: u64) -> Result<i64, Status>
-        ensures looked { Looks (IntOf self.old.frame self.new.frame) self.old self.new number result }
+        ensures looked { Looks (IntTold self.old.frame self.new.frame) self.old self.new number result }
         ensures keeps { KeepsNumbers self.old self.new }
     {
-        let place = self.place_of(number)?;
-        let Some(object) = self.handles.get(place) else {
-            unreachable!()
-        };
-        match try_int_of(self.mutator.frame(), object) {
+        let object = find(&self.handles, &self.numbers, number)?;
+        match int_told(self.mutator.frame(), object) {
             Ok(value) => Ok(value),
             Err(fault) => Err(Status::Fault(fault)),
         }
@@ -80,6 +77,20 @@ impl Client {
             Ok(is_true) => Ok(is_true),
             Err(fault) => Err(Status::Fault(fault)),
         }
+    }
+
+    /// A number that no other live object has; once this one is dead, another may get it. Foreign, Stale. It takes no lock.
+    pub fn identity(&mut self, number: u64) -> Result<u64, Status>
+        ensures identity { IfOk result (λ identity. OfNamed self.old number
+            (λ object. cell_in self.old.frame object.place ≡ Some identity)) }
+        ensures refused { IfErr result (NamesNone self.old number) }
+        ensures same { self.new ≡ self.old }
+    {
+        let place = self.place_of(number)?;
+        let Some(object) = self.handles.get(place) else {
+            unreachable!()
+        };
+        Ok(u64::from(self.mutator.frame().cell(object)))
     }
 
     /// The text is read into the client's own room, from where `shown` shows it. Foreign, Stale; then Busy, WrongKind if
