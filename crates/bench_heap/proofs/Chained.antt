@@ -1,7 +1,7 @@
 -- A new handle goes from turn to turn, and is kept or released.
-use Rattle.std.proofs.Common.{◌≡◌, ◌∙◌, ◌<◌, arith}
+use Rattle.std.proofs.Common.{◌≡◌, ◌∙◌, ◌<◌, sym, arith}
 use Rattle.brc_words.specs.declared.limits.TheConstants.{MOST_PLACES}
-use Rattle.brc_count.specs.Frames.{FrameSeen, HandleSeen}
+use Rattle.brc_count.specs.Frames.{FrameSeen, HandleSeen, Owns}
 use Rattle.brc_count.specs.Owned.{Keeps, Gains, Loses, Trades}
 
 module _ {A : Type 0} (old made passed : FrameSeen A) (first last : HandleSeen) where
@@ -24,4 +24,15 @@ module _ {A : Type 0} (old made passed : FrameSeen A) (first last : HandleSeen) 
     owns = λ h is.
         loses.owns h (trades.owns h (gains.owns h is) (gains.apart h is))
         (trades.apart h (gains.owns h is) (gains.apart h is));
+  }
+
+module _ {A : Type 0} (old mid new : FrameSeen A) (gone after : HandleSeen) where
+  -- a handle came, and another one went
+  pub gone_trades : Gains old mid after → Loses mid new gone → Owns old gone → Trades old new gone after
+  gone_trades gains loses owned = record {
+    heap = loses.heap ∙ gains.heap;
+    len = omega (arith, loses.len, gains.len);
+    owns = λ h is apart. loses.owns h (gains.owns h is) apart;
+    owned = loses.owns after gains.owned (λ same. gains.apart gone owned (sym same));
+    apart = λ h is apart. gains.apart h is;
   }

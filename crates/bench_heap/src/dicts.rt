@@ -42,7 +42,7 @@ impl Keys {
 
     /// The number of the key that is used in this turn: each has its turn.
     #[inline(always)]
-    fn of_turn(self, turn: u64) -> u64
+    pub fn of_turn(self, turn: u64) -> u64
         ensures { result < 256 }
     {
         match self {
@@ -157,6 +157,16 @@ pub enum Sought {
     Name,
 }
 
+impl Sought {
+    #[inline(always)]
+    pub fn key(self) -> KeyRef<'static> {
+        match self {
+            Sought::Number => KeyRef::Int(1),
+            Sought::Name => KeyRef::Text(NAME),
+        }
+    }
+}
+
 /// The reference beside a key of a dictionary with two keys is found, and released.
 #[derive(Drop)]
 pub struct Seek<'r, R> {
@@ -167,11 +177,7 @@ pub struct Seek<'r, R> {
 impl<'r, R: Wait, H: HasTable<A>, A: Allocator> Operation<H, A> for Seek<'r, R> {
     #[inline(always)]
     fn run_on(&self, frame: &mut Frame<H, A>, dict: &Handle<A>, _before: u64) -> Option<()> {
-        let key = match self.sought {
-            Sought::Number => KeyRef::Int(1),
-            Sought::Name => KeyRef::Text(NAME),
-        };
-        let found = dict_find_by(self.rt, frame, dict, key).ok()?;
+        let found = dict_find_by(self.rt, frame, dict, self.sought.key()).ok()?;
         frame.release(found);
         Some(())
     }

@@ -42,7 +42,7 @@ fn gift_of(asked: Asked, number: u64) -> Gift {
     match asked.case {
         Case::PairShared => Gift::References(Kind::Int, asked.threads),
         Case::ListShared => Gift::References(Kind::List, asked.threads),
-        Case::Mail => Gift::References(Kind::Mailbox, asked.threads),
+        Case::Mail | Case::MailValue => Gift::References(Kind::Mailbox, asked.threads),
         _ => Gift::Nothing,
     }
 }

@@ -1,7 +1,8 @@
 //! A mailbox: two threads send integers, and a third receives them.
 
 ghost use Rattle.std.specs.Prelude.{⊤};
-ghost use Rattle.brc_count.specs.Frames.{Owns};
+ghost use Rattle.brc_count.specs.Frames.{IsUnlocked, Owns};
+ghost use Rattle.brc_count.specs.Owned.{Keeps};
 
 use crate::operations::{Integers, Operation};
 use brc_count::biased::HasTable;
@@ -53,6 +54,14 @@ impl Post {
         unreachable!()
     }
 
+    /// So many letters have been received; each 64th is told.
+    #[inline(always)]
+    pub fn tell(&self, received: u64) {
+        if received % 64 == 0 {
+            self.received.store(received, Ordering::Relaxed);
+        }
+    }
+
     /// This thread gives up.
     pub fn give_up(&self) {
         self.is_given_up.store(true, Ordering::Relaxed);
@@ -86,6 +95,26 @@ impl<'p, H: HasTable<A>, A: Allocator> Awaited<H, A> for Received<'p> {
     }
 }
 
+/// Not too many letters are under way, after this thread has sent so many. None will be where another thread gave up.
+#[inline(always)]
+pub fn wait_for_room<R: Wait, H: HasTable<A>, A: Allocator>(
+    rt: &R,
+    frame: &mut Frame<H, A>,
+    post: &Post,
+    before: u64,
+) -> Option<()>
+    requires unlocked { IsUnlocked frame.old }
+    ensures keeps { Keeps frame.old frame.new }
+    ensures unlocked { IsUnlocked frame.new }
+{
+    let sent = before.saturating_mul(SENDERS as u64);
+    let received = Received {
+        post,
+        count: sent.saturating_sub(UNDER_WAY),
+    };
+    wait_for(rt, &received, frame)
+}
+
 /// A new integer is sent; it fails where it can't be had or is refused, or another thread gave up.
 #[derive(Drop)]
 pub struct SendOne<'r, R, A> {
@@ -97,12 +126,7 @@ pub struct SendOne<'r, R, A> {
 impl<'r, R: Wait, H: HasTable<A>, A: Allocator + Copy> Operation<H, A> for SendOne<'r, R, A> {
     #[inline(always)]
     fn run_on(&self, frame: &mut Frame<H, A>, mailbox: &Handle<A>, before: u64) -> Option<()> {
-        let sent = before.saturating_mul(SENDERS as u64);
-        let received = Received {
-            post: self.post,
-            count: sent.saturating_sub(UNDER_WAY),
-        };
-        wait_for(self.rt, &received, frame)?;
+        wait_for_room(self.rt, frame, self.post, before)?;
         let letter = Integers { alloc: self.alloc }.next(frame, before)?;
         if let Err(handed) = send(self.rt, frame, mailbox, letter) {
             frame.release(handed.value);
@@ -156,9 +180,7 @@ pub struct ReceiveOne<'r, R> {
 impl<'r, R: Wait, H: HasTable<A>, A: Allocator> Operation<H, A> for ReceiveOne<'r, R> {
     #[inline(always)]
     fn run_on(&self, frame: &mut Frame<H, A>, mailbox: &Handle<A>, before: u64) -> Option<()> {
-        if before % 64 == 0 {
-            self.post.received.store(before, Ordering::Relaxed);
-        }
+        self.post.tell(before);
         let letter = Letter {
             rt: self.rt,
             mailbox,

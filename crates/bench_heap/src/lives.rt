@@ -7,6 +7,7 @@ ghost use Rattle.brc_handles.specs.Handles.{OwnsEach};
 
 use crate::containers::{Full, Kind, NewList10};
 use crate::deaths::{Chains, life_of};
+use crate::dict_values::{Finds, PutsAndFindsValues};
 use crate::dicts::{Keys, PutsAndFinds, Seek, Sought, TwoKeys};
 use crate::globals::{first_key, take_from_globals};
 use crate::letters::{Post, ReceiveOne, SENDERS, SendOne};
@@ -17,6 +18,8 @@ use crate::operations::{
 };
 use crate::request::Case;
 use crate::timing::{Span, refused, this_moment};
+use crate::value_letters::{ReceiveValue, SendValues};
+use crate::values::{ENTRIES, Gets, PushesAndPopsLabelled, PushesAndPopsValues, Sets};
 use brc_count::biased::HasTable;
 use brc_count::{Frame, Handle};
 use brc_handles::Handles;
@@ -92,6 +95,8 @@ fn handles_for(case: Case) -> u64 {
         Case::PairOwn | Case::PairShared | Case::NewList10 | Case::NewList10Apart => 1,
         Case::List | Case::ListShared | Case::Dict | Case::Dict4 | Case::Mail => 1,
         Case::FindInt | Case::FindText => 1,
+        Case::ListValue | Case::ListLabel | Case::GetValue | Case::SetValue => 1,
+        Case::DictValue | Case::FindIntValue | Case::FindTextValue | Case::MailValue => 1,
         Case::PairOwn8 => 8,
         Case::PairOwn256 => 256,
         Case::PairForeign => FOREIGN as u64,
@@ -119,7 +124,7 @@ impl<'r, R: Wait, H: HasTable<A>, A: Allocator + Copy> Source<H, A> for Worker<'
         let n = self.asked.n;
         let number = frame.thread();
         match self.asked.case {
-            Case::PairShared | Case::ListShared | Case::Mail => {
+            Case::PairShared | Case::ListShared | Case::Mail | Case::MailValue => {
                 take_from_globals(rt, frame, number as i64)
             }
             Case::PairForeign => {
@@ -127,11 +132,17 @@ impl<'r, R: Wait, H: HasTable<A>, A: Allocator + Copy> Source<H, A> for Worker<'
                 let first = first_key(number.saturating_sub(self.asked.threads));
                 take_from_globals(rt, frame, first as i64 + (before % 65_536) as i64)
             }
-            Case::List => Full::new(rt, alloc, Kind::List, 10).next(frame, before),
+            Case::List | Case::ListValue | Case::ListLabel | Case::GetValue | Case::SetValue => {
+                Full::new(rt, alloc, Kind::List, ENTRIES).next(frame, before)
+            }
             Case::Wide => Full::new(rt, alloc, Kind::List, n).next(frame, before),
-            Case::Dict => Full::new(rt, alloc, Kind::Dict, Keys::Many.count()).next(frame, before),
+            Case::Dict | Case::DictValue => {
+                Full::new(rt, alloc, Kind::Dict, Keys::Many.count()).next(frame, before)
+            }
             Case::Dict4 => Full::new(rt, alloc, Kind::Dict, Keys::Few.count()).next(frame, before),
-            Case::FindInt | Case::FindText => TwoKeys { rt, alloc }.next(frame, before),
+            Case::FindInt | Case::FindText | Case::FindIntValue | Case::FindTextValue => {
+                TwoKeys { rt, alloc }.next(frame, before)
+            }
             Case::Chain | Case::MakeChain | Case::MakeChainNear => {
                 let count = n;
                 Chains { rt, alloc, count }.next(frame, before)
@@ -197,6 +208,41 @@ impl<'r, R: Wait + Clock + CpuClock, A: Allocator + Copy> Worker<'r, R, A> {
             Case::FindText => {
                 let sought = Sought::Name;
                 repeat(&On(handle, Seek { rt, sought }), frame, n)
+            }
+            Case::ListValue => PushesAndPopsValues { rt, n }.run_on(frame, handle, 0),
+            Case::ListLabel => PushesAndPopsLabelled { rt, alloc, n }.run_on(frame, handle, 0),
+            Case::GetValue => Gets { rt, n }.run_on(frame, handle, 0),
+            Case::SetValue => Sets { rt, n }.run_on(frame, handle, 0),
+            Case::DictValue => {
+                let keys = Keys::Many;
+                PutsAndFindsValues { rt, alloc, keys, n }.run_on(frame, handle, 0)
+            }
+            Case::FindIntValue => {
+                let sought = Sought::Number;
+                Finds {
+                    rt,
+                    alloc,
+                    sought,
+                    n,
+                }
+                .run_on(frame, handle, 0)
+            }
+            Case::FindTextValue => {
+                let sought = Sought::Name;
+                Finds {
+                    rt,
+                    alloc,
+                    sought,
+                    n,
+                }
+                .run_on(frame, handle, 0)
+            }
+            Case::MailValue => {
+                if frame.thread() > SENDERS {
+                    let receive = On(handle, ReceiveValue { rt, post });
+                    return repeat(&receive, frame, n.saturating_mul(SENDERS as u64));
+                }
+                SendValues { rt, post, n }.run_on(frame, handle, 0)
             }
             Case::Mail => {
                 if frame.thread() > SENDERS {

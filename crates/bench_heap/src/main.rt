@@ -8,6 +8,7 @@
 
 mod containers;
 mod deaths;
+mod dict_values;
 mod dicts;
 mod globals;
 mod leavers;
@@ -18,6 +19,8 @@ mod operations;
 mod request;
 mod runs;
 mod timing;
+mod value_letters;
+mod values;
 
 use request::{CASES, Request, read_request};
 use runs::run_case;

@@ -41,6 +41,22 @@ pub enum Case {
     FindText,
     /// A send of a new integer by each of two threads, and its receiving by a third.
     Mail,
+    /// As `List`, of a scalar.
+    ListValue,
+    /// As `List`, of a reference with a label.
+    ListLabel,
+    /// A look at an entry of a list of ten scalars.
+    GetValue,
+    /// A scalar goes into an entry of such a list.
+    SetValue,
+    /// As `Dict`, of scalars.
+    DictValue,
+    /// As `FindInt`, of a scalar.
+    FindIntValue,
+    /// As `FindText`, of a scalar.
+    FindTextValue,
+    /// As `Mail`, of scalars.
+    MailValue,
     /// One of so many lists, of which each holds the next, is taken apart.
     Chain,
     /// Such a chain is made.
@@ -64,7 +80,7 @@ const FEW_CELLS: u32 = 512;
 
 /// The names of the cases.
 pub const CASES: &str =
-    "pair_own pair_own8 pair_own256 pair_shared pair_foreign new_int new_text16 new_list10 new_int_apart new_text16_apart new_list10_apart list list_shared dict dict4 find_int find_text mail chain make_chain make_chain_near wide claim_full claim_full_near thread_life0 thread_life1 thread_life200 thread_life0_large thread_life1_large thread_life1000_large leave10000";
+    "pair_own pair_own8 pair_own256 pair_shared pair_foreign new_int new_text16 new_list10 new_int_apart new_text16_apart new_list10_apart list list_shared dict dict4 find_int find_text mail list_value list_label get_value set_value dict_value find_int_value find_text_value mail_value chain make_chain make_chain_near wide claim_full claim_full_near thread_life0 thread_life1 thread_life200 thread_life0_large thread_life1_large thread_life1000_large leave10000";
 
 /// What a line asks for.
 #[derive(Clone, Copy)]
@@ -103,6 +119,14 @@ fn case_of(name: &str) -> Option<Case> {
         "find_int" => Some(Case::FindInt),
         "find_text" => Some(Case::FindText),
         "mail" => Some(Case::Mail),
+        "list_value" => Some(Case::ListValue),
+        "list_label" => Some(Case::ListLabel),
+        "get_value" => Some(Case::GetValue),
+        "set_value" => Some(Case::SetValue),
+        "dict_value" => Some(Case::DictValue),
+        "find_int_value" => Some(Case::FindIntValue),
+        "find_text_value" => Some(Case::FindTextValue),
+        "mail_value" => Some(Case::MailValue),
         "chain" => Some(Case::Chain),
         "make_chain" => Some(Case::MakeChain),
         "make_chain_near" => Some(Case::MakeChainNear),

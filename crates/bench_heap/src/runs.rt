@@ -167,7 +167,7 @@ fn answer_on<R: Threads + Wait + Clock + CpuClock + Sync>(
 /// How many threads a case has.
 fn threads_of(case: Case, threads: u32) -> u32 {
     match case {
-        Case::Mail => SENDERS + 1,
+        Case::Mail | Case::MailValue => SENDERS + 1,
         Case::Chain | Case::MakeChain | Case::MakeChainNear | Case::Wide => 1,
         Case::ClaimFull | Case::ClaimFullNear => 1,
         Case::ThreadLife { .. } | Case::Leave { .. } => 1,
