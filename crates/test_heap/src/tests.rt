@@ -14,6 +14,7 @@ mod places;
 mod player;
 mod playing;
 mod steps;
+mod valued;
 mod worlds;
 
 // The cases.
@@ -27,6 +28,7 @@ mod making;
 mod refusals;
 mod stack;
 mod starving;
+mod values;
 
 // What is no row: numbers of threads, memory too small to begin with, two heaps, and a key's copy.
 mod departing;

@@ -89,6 +89,25 @@ pub(super) enum OnObject {
     GuardSwap,
 }
 
+/// A call by values on one object, by its handle.
+#[derive(Clone, Copy)]
+pub(super) enum OnValue {
+    // What takes a value.
+    ListPush,
+    ListSet,
+    ListPut,
+    Send,
+    DictSet,
+    // What gives one.
+    ListPop,
+    ListGet,
+    ListTake,
+    Recv,
+    DictFind,
+    DictDel,
+    DictPair,
+}
+
 /// A call of a step.
 #[derive(Clone, Copy)]
 pub(super) enum Call {
@@ -96,6 +115,7 @@ pub(super) enum Call {
     Frame(OnFrame),
     Places(OnPlaces),
     Object(OnObject),
+    Value(OnValue),
 }
 
 /// The call on one object that bears this name.
@@ -113,6 +133,25 @@ fn on_object(name: &str) -> Option<OnObject> {
         "guard_entry" => Some(OnObject::GuardEntry),
         "guard_take" => Some(OnObject::GuardTake),
         "guard_swap" => Some(OnObject::GuardSwap),
+        _ => None,
+    }
+}
+
+/// The call by values that bears this name.
+fn on_value(name: &str) -> Option<OnValue> {
+    match name {
+        "list_push_value" => Some(OnValue::ListPush),
+        "list_set_value" => Some(OnValue::ListSet),
+        "list_put_value" => Some(OnValue::ListPut),
+        "send_value" => Some(OnValue::Send),
+        "dict_set_value" => Some(OnValue::DictSet),
+        "list_pop_value" => Some(OnValue::ListPop),
+        "list_get_value" => Some(OnValue::ListGet),
+        "list_take_value" => Some(OnValue::ListTake),
+        "recv_value" => Some(OnValue::Recv),
+        "dict_find_value" => Some(OnValue::DictFind),
+        "dict_del_value" => Some(OnValue::DictDel),
+        "dict_pair_value" => Some(OnValue::DictPair),
         _ => None,
     }
 }
@@ -195,6 +234,9 @@ impl Call {
         }
         if let Some(call) = on_object(name) {
             return Some(Call::Object(call));
+        }
+        if let Some(call) = on_value(name) {
+            return Some(Call::Value(call));
         }
         if let Some(call) = on_frame(name) {
             return Some(Call::Frame(call));

@@ -1,6 +1,6 @@
 //! What comes of a step, and whether it is what the row says.
 
-use brc_words::{Fault, Kind};
+use brc_words::{Fault, Kind, Note};
 use std::process::Abort;
 
 /// What a step came to.
@@ -17,6 +17,12 @@ pub(super) enum Came {
     Int(i64),
     /// An object of this kind.
     Of(Kind),
+    /// A scalar with this note.
+    Scalar(Note),
+    /// An integer with this number, and a note.
+    IntWith(i64, Note),
+    /// An object of this kind, and a note.
+    With(Kind, Note),
     /// So many births and frees.
     Ledger(u64, u64),
     /// Yes or no.
@@ -58,6 +64,25 @@ fn says_number(text: &str, number: u64, count: u32) -> bool {
     }
 }
 
+/// Whether the text says this note: its label, and its bits behind a `/`.
+fn says_note(text: &str, note: Note) -> bool {
+    match text.split_once("/") {
+        Some((label, bits)) => {
+            label.parse::<u32>().ok() == Some(note.label)
+                && bits.parse::<u64>().ok() == Some(note.bits)
+        }
+        None => false,
+    }
+}
+
+/// What the text says in front of ` with ` this note; nothing, where it says another note or none.
+fn said_with(text: &str, note: Note) -> Option<&str> {
+    match text.split_once(" with ") {
+        Some((said, noted)) if says_note(noted, note) => Some(said),
+        _ => None,
+    }
+}
+
 /// Whether the text says so many births and frees.
 fn says_ledger(text: &str, births: u64, frees: u64) -> bool {
     match text.split_once(" born, ") {
@@ -81,6 +106,12 @@ impl Came {
             Came::Count(found) => says_number(answer, found, count),
             Came::Int(found) => answer.parse::<i64>().ok() == Some(found),
             Came::Of(kind) => answer == name_of(kind),
+            Came::Scalar(note) => says_note(answer, note),
+            Came::IntWith(found, note) => match said_with(answer, note) {
+                Some(said) => said.parse::<i64>().ok() == Some(found),
+                None => false,
+            },
+            Came::With(kind, note) => said_with(answer, note) == Some(name_of(kind)),
             Came::Ledger(births, frees) => says_ledger(answer, births, frees),
             Came::Said(same) => same,
             Came::Is(yes) => answer == if yes { "yes" } else { "no" },

@@ -13,6 +13,7 @@ use crate::tests::objects::on_object;
 use crate::tests::places::on_places;
 use crate::tests::playing::{Playing, Seen};
 use crate::tests::steps::{Asked, Growths, How, Step};
+use crate::tests::valued::on_value;
 use brc_count::Frame;
 use brc_count::biased::HasTable;
 use brc_count::block::Payload;
@@ -77,6 +78,11 @@ pub(super) fn calls<R: Abort + Wait, H: HasTable<A>, A: Allocator + Copy>(
             let place = asked.given.object(rt);
             let object = handles.get(place).expect(rt, "no object is there");
             on_object(rt, asked, frame, object, call)
+        }
+        Call::Value(call) => {
+            let place = asked.given.object(rt);
+            let object = handles.get(place).expect(rt, "no object is there");
+            on_value(rt, asked, frame, object, call)
         }
         Call::Thread(_) => panic!(rt; "no other thread's call"),
     }

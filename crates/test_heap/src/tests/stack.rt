@@ -109,7 +109,7 @@ fn once<'h, R: Abort + Wait, H: HasTable<&'h LocalHeap>>(
             let asked = playing.asked(step);
             on_stack(rt, &asked, thread.frame(), stack, call)
         }
-        Call::Object(_) => panic!(rt; "no call of a stack"),
+        Call::Object(_) | Call::Value(_) => panic!(rt; "no call of a stack"),
     }
 }
 

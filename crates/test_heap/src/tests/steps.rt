@@ -18,6 +18,9 @@
 //! place, or is made for it, as `int 7` and `none` are: then what comes out for it goes again. `try_` in front of a call
 //! is its form that never waits. The calls bear the library's own names, and a few others (`calls.rt`).
 //!
+//! Calls by values bear a note: `3/7` is the scalar with the label 3 and the bits 7, and `int 300 with 3/7` an object that
+//! is made for the call, with that note. So it comes out, but an integer without its kind: `300 with 3/7`.
+//!
 //! Of an object that comes out of a container its number is seen, or its kind; where it is kept, its cell. A step's
 //! number, which a failing case tells, counts from the first one of its world.
 
