@@ -74,7 +74,6 @@ impl<'h, R: Wait, H: HasTable<A>, A: Allocator + Copy> Passing<H, A>
     ghost ready = { λ it frame. Owns frame it.dict.now × (it.none.place ≢ it.dict.now.place) };
 
     #[inline(always)]
-    #[tactic(auto, using(crate::proofs::Chained::gone_trades))]
     fn pass(self, frame: &mut Frame<H, A>, before: u64) -> Option<Self> {
         let PuttingAndFinding {
             rt,
@@ -188,28 +187,24 @@ fn put_first<R: Wait, H: HasTable<A>, A: Allocator + Copy>(
     ensures keeps { Keeps frame.old frame.new }
     ensures unlocked { IsUnlocked frame.new }
 {
-    let mut none = none(frame).ok()?;
+    let Ok(mut none) = none(frame) else {
+        return None;
+    };
     let scalar = Value::Scalar(noted(0));
-    match dict_set_value(rt, alloc, frame, &mut none, dict, key, scalar) {
-        Ok(None) => {
-            frame.release(none);
-            Some(())
-        }
-        Ok(Some(Value::Scalar(_old))) => {
-            frame.release(none);
-            Some(())
-        }
-        Ok(Some(Value::Object(object, _old))) => {
+    let put = match dict_set_value(rt, alloc, frame, &mut none, dict, key, scalar) {
+        Ok(None) => Some(()),
+        Ok(Some(Value::Scalar(_old))) => Some(()),
+        Ok(Some(Value::Object(object, _note))) => {
             frame.release(object);
-            frame.release(none);
             Some(())
         }
-        Err(handed) => {
-            let_go(frame, handed.value);
-            frame.release(none);
-            None
-        }
-    }
+        Err(handed) => match handed.value {
+            Value::Scalar(_scalar) => None,
+            Value::Object(_object, _note) => unreachable!(),
+        },
+    };
+    frame.release(none);
+    put
 }
 
 /// So many finds of the scalar beside a key of a dictionary with two keys, where it is put first.

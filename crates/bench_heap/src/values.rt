@@ -147,7 +147,6 @@ impl<'h, R: Wait, H: HasTable<A>, A: Allocator> Passing<H, A>
 /// So many pushes of a reference with a label, each with a pop: first of an integer of the thread's own, then of what came
 /// out before.
 #[inline(always)]
-#[tactic(auto, using(crate::proofs::Chained::chained_keeps))]
 fn pass_labelled<R: Wait, H: HasTable<A>, A: Allocator + Copy>(
     rt: &R,
     alloc: A,
@@ -163,21 +162,29 @@ fn pass_labelled<R: Wait, H: HasTable<A>, A: Allocator + Copy>(
     ensures keeps { Keeps frame.old frame.new }
     ensures unlocked { IsUnlocked frame.new }
 {
-    let object = new_int(alloc, frame, 1_000).ok()?;
+    let Ok(object) = new_int(alloc, frame, 1_000) else {
+        return None;
+    };
     let turning = PushingAndPoppingLabelled {
         rt,
         list,
         none,
         object,
     };
-    let PushingAndPoppingLabelled {
-        rt: _rt,
-        list: _list,
-        none: _none,
-        object,
-    } = pass_on(turning, frame, n)?;
-    frame.release(object);
-    Some(())
+    match pass_on(turning, frame, n) {
+        Some(
+            PushingAndPoppingLabelled {
+                rt: _rt,
+                list: _list,
+                none: _none,
+                object,
+            },
+        ) => {
+            frame.release(object);
+            Some(())
+        }
+        None => None,
+    }
 }
 
 /// So many pushes of a reference with a label, each with a pop.
