@@ -40,7 +40,7 @@ pub fn try_list_push<H: HasTable<A>, A: Allocator>(
 
 /// The reference of the list's last entry is the answer's now. The faults come in this order: Busy where another thread
 /// has the object locked, WrongKind where it is no list, NoSuchPlace where it has no entry, FrameFull, OutOfMemory.
-#[inline(always)]
+#[inline]
 pub fn try_list_pop<H: HasTable<A>, A: Allocator>(
     frame: &mut Frame<H, A>,
     list: &Handle<A>,
@@ -62,7 +62,7 @@ pub fn try_list_pop<H: HasTable<A>, A: Allocator>(
 /// The reference of an entry of the list is the answer's now; later entries close up. The faults come in this order:
 /// Busy where another thread has the object locked, WrongKind where it is no list, NoSuchPlace past its end, FrameFull,
 /// OutOfMemory.
-#[inline(always)]
+#[inline]
 pub fn try_list_take<H: HasTable<A>, A: Allocator>(
     frame: &mut Frame<H, A>,
     list: &Handle<A>,
@@ -83,7 +83,7 @@ pub fn try_list_take<H: HasTable<A>, A: Allocator>(
 
 /// A handle more to an entry of the list. The faults come in this order: Busy where another thread has the object
 /// locked, WrongKind where it is no list, NoSuchPlace past its end, FrameFull, OutOfMemory.
-#[inline(always)]
+#[inline]
 pub fn try_list_get<H: HasTable<A>, A: Allocator>(
     frame: &mut Frame<H, A>,
     list: &Handle<A>,
