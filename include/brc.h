@@ -61,12 +61,12 @@
  * brc_work, a bounded number of turns a call. Call it at the same places, with 64 turns, say. The
  * cell of a dead object is free only then. A thread that never works fills the heap: see BRC_MAKE.
  *
- * Costs. A call on a container, or a look at an object, locks it for the time of the call. Four looks
- * take no lock: brc_same, brc_truth_of, brc_identity, and those at None, booleans and integers from -5 to
- * 256. So the looks of many threads at one object come one after the other. brc_text_of copies the
- * whole text first, whatever `room` is. brc_list_take moves all later entries, and a delete all later
- * pairs. A client that deletes much puts a scalar of its own beside the key instead, and makes the
- * dictionary anew at times.
+ * Costs. A call on a container, or a look at an object, locks it for the time of the call. So the looks
+ * of many threads at one object come one after the other. No lock is taken by brc_same, brc_truth_of
+ * and brc_identity, nor by brc_kind_of and brc_int_of of None, booleans and integers from -5 to 256.
+ * brc_text_of copies the whole text first, whatever `room` is. brc_list_take moves all later entries,
+ * and a delete all later pairs. A client that deletes much puts a scalar of its own beside the key
+ * instead, and makes the dictionary anew at times.
  *
  * Traps. What other threads release goes back to the thread that made it, which learns of it by a poll.
  * So a thread that blocks keeps dead objects: let it wait at most 10 ms at a time, with a poll and work

@@ -1,6 +1,6 @@
 //! The heap by a count.
 
-ghost use Rattle.std.specs.Prelude.{◌≡◌, ◌↔◌, ◌⊎◌, [], false, Err, IfOk, IfErr, OnOk, OnErr, IfSome};
+ghost use Rattle.std.specs.Prelude.{◌≡◌, ◌↔◌, ◌⊎◌, [], Err, IfOk, IfErr, OnOk, OnErr, IfSome};
 ghost use Rattle.brc_words.specs.declared.fault.Fault.TheVariants as faults;
 ghost use Rattle.brc_count.specs.law.world.Heap.{AreOptions};
 ghost use Rattle.brc_count.specs.Frames.{IsUnlocked, ledger_seen};
