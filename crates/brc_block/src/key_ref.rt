@@ -1,6 +1,7 @@
 //! Keys that are lent.
 
 ghost use Rattle.std.specs.Prelude.{◌≡◌, IfOk};
+ghost use Rattle.std.specs.Str.{bytes_eq};
 ghost use Rattle.std.specs.Cmp.Rules.{comparing, hashing};
 ghost use Rattle.std.proofs.Common.{rules};
 ghost use Rattle.brc_words.specs.Keys.{same_key, same_key-equiv};
@@ -67,8 +68,16 @@ impl<'k, A: Allocator> Equivalent<Key<A>> for KeyRef<'k> {
     fn equivalent(&self, key: &Key<A>) -> bool {
         match (self, key) {
             (KeyRef::Int(number), Key::Int(other)) => number == other,
-            (KeyRef::Text(text), Key::Text(other)) => *text == other.as_str(),
+            (KeyRef::Text(text), Key::Text(other)) => is_text(text, other),
             _ => false,
         }
     }
+}
+
+/// Whether it is this text. It is a function of its own, so that a search for a number doesn't carry its code.
+#[inline(never)]
+fn is_text<A: Allocator>(text: &str, other: &Text<A>) -> bool
+    ensures { result ≡ bytes_eq text.now other.now }
+{
+    text == other.as_str()
 }

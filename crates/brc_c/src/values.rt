@@ -15,7 +15,11 @@ ghost use Rattle.brc_c.specs.Exports.{code_of, holds_in};
 use crate::dicts::{CKey, write_key};
 use crate::outs::{gone, status_of_taking};
 use crate::slots::CThread;
-use brc_client::{Datum, GiveBy, KeyRef, PairDatum, PutBy, Status, text_of};
+use brc_client::{
+    Datum, DeletingByInt, DeletingByText, FindingByInt, FindingByText, Getting, PairDatum, Popping,
+    Pushing, PutsValue, PuttingAt, PuttingByInt, PuttingByText, Receiving, Sending, Setting,
+    Status, TakesOutValue, Taking, text_of,
+};
 use brc_words::Note;
 use std::alloc::Global;
 
@@ -74,11 +78,13 @@ fn datum_of(bits: u64, noted: u64) -> Result<Datum, Status>
 {
     let label = (noted % 4_294_967_296) as u32;
     let holds = (noted / 4_294_967_296) as u32;
-    match holds {
-        NO_VALUE | SCALAR => Ok(Datum::Scalar(Note { label, bits })),
-        REFERENCE => Ok(Datum::Object(bits, Note { label, bits: 0 })),
-        _ => Err(Status::NotValue),
+    if holds <= SCALAR {
+        return Ok(Datum::Scalar(Note { label, bits }));
     }
+    if holds == REFERENCE {
+        return Ok(Datum::Object(bits, Note { label, bits: 0 }));
+    }
+    Err(Status::NotValue)
 }
 
 /// What a container gives is written.
@@ -118,14 +124,14 @@ fn write_came(made: Result<Option<Datum>, Status>, old: &mut CValue) -> u32
 }
 
 #[inline(always)]
-fn take_out_value_by(
+fn take_out_value_by<B: TakesOutValue>(
     thread: &mut CThread,
     container: u64,
-    by: GiveBy<'_>,
+    by: B,
     value: &mut CValue,
 ) -> u32
     ensures kept { result ≢ 0 → value.new ≡ value.old }
-    ensures does { CarriesOut (GivesDatum (TookOutValueBy by.entry) container)
+    ensures does { CarriesOut (GivesDatum (TookOutValueBy (B.call by)) container)
         thread.old.value thread.new.value result (Writes value_of value.old value.new) }
 {
     match thread.as_mut().client() {
@@ -136,15 +142,15 @@ fn take_out_value_by(
 
 /// A value goes in, and nothing comes out for it.
 #[inline(always)]
-fn put_value_by(
+fn put_value_by<B: PutsValue>(
     alloc: Global,
     thread: &mut CThread,
     container: u64,
-    by: PutBy<'_>,
+    by: B,
     bits: u64,
     noted: u64,
 ) -> u32
-    ensures does { CarriesOut (OrNotValue bits noted (TakesDatum (PutValueBy by.entry) container))
+    ensures does { CarriesOut (OrNotValue bits noted (TakesDatum (PutValueBy (B.call by)) container))
         thread.old.value thread.new.value result (WritesNothing) }
 {
     match thread.as_mut().client() {
@@ -157,17 +163,17 @@ fn put_value_by(
 }
 
 #[inline(always)]
-fn exchange_value_by(
+fn exchange_value_by<B: PutsValue>(
     alloc: Global,
     thread: &mut CThread,
     container: u64,
-    by: PutBy<'_>,
+    by: B,
     bits: u64,
     noted: u64,
     old: &mut CValue,
 ) -> u32
     ensures kept { result ≢ 0 → old.new ≡ old.old }
-    ensures does { CarriesOut (OrNotValue bits noted (TakesDatum (PutValueBy by.entry) container))
+    ensures does { CarriesOut (OrNotValue bits noted (TakesDatum (PutValueBy (B.call by)) container))
         thread.old.value thread.new.value result (Writes came_of old.old old.new) }
 {
     match thread.as_mut().client() {
@@ -190,7 +196,7 @@ pub extern "C" fn brc_list_push_value(
     ensures does { CarriesOut (OrNotValue bits noted (TakesDatum (PutValueBy putting.Push) list))
         thread.old.value thread.new.value result (WritesNothing) }
 {
-    put_value_by(alloc, thread, list, PutBy::Push, bits, noted)
+    put_value_by(alloc, thread, list, Pushing, bits, noted)
 }
 
 #[unsafe(no_mangle)]
@@ -199,7 +205,7 @@ pub extern "C" fn brc_list_pop_value(thread: &mut CThread, list: u64, value: &mu
     ensures does { CarriesOut (GivesDatum (TookOutValueBy giving.Pop) list)
         thread.old.value thread.new.value result (Writes value_of value.old value.new) }
 {
-    take_out_value_by(thread, list, GiveBy::Pop, value)
+    take_out_value_by(thread, list, Popping, value)
 }
 
 #[unsafe(no_mangle)]
@@ -213,7 +219,7 @@ pub extern "C" fn brc_list_take_value(
     ensures does { CarriesOut (GivesDatum (TookOutValueBy (giving.Take index)) list)
         thread.old.value thread.new.value result (Writes value_of value.old value.new) }
 {
-    take_out_value_by(thread, list, GiveBy::Take(index), value)
+    take_out_value_by(thread, list, Taking(index), value)
 }
 
 #[unsafe(no_mangle)]
@@ -227,7 +233,7 @@ pub extern "C" fn brc_list_get_value(
     ensures does { CarriesOut (GivesDatum (TookOutValueBy (giving.Get index)) list)
         thread.old.value thread.new.value result (Writes value_of value.old value.new) }
 {
-    take_out_value_by(thread, list, GiveBy::Get(index), value)
+    take_out_value_by(thread, list, Getting(index), value)
 }
 
 #[unsafe(no_mangle)]
@@ -244,7 +250,7 @@ pub extern "C" fn brc_list_set_value(
     ensures does { CarriesOut (OrNotValue bits noted (TakesDatum (PutValueBy (putting.Set index)) list))
         thread.old.value thread.new.value result (Writes came_of old.old old.new) }
 {
-    exchange_value_by(alloc, thread, list, PutBy::Set(index), bits, noted, old)
+    exchange_value_by(alloc, thread, list, Setting(index), bits, noted, old)
 }
 
 #[unsafe(no_mangle)]
@@ -261,7 +267,7 @@ pub extern "C" fn brc_list_put_value(
     ensures does { CarriesOut (OrNotValue bits noted (TakesDatum (PutValueBy (putting.PutAt index)) list))
         thread.old.value thread.new.value result (Writes came_of old.old old.new) }
 {
-    exchange_value_by(alloc, thread, list, PutBy::PutAt(index), bits, noted, old)
+    exchange_value_by(alloc, thread, list, PuttingAt(index), bits, noted, old)
 }
 
 #[unsafe(no_mangle)]
@@ -275,7 +281,7 @@ pub extern "C" fn brc_send_value(
     ensures does { CarriesOut (OrNotValue bits noted (TakesDatum (PutValueBy putting.Send) mailbox))
         thread.old.value thread.new.value result (WritesNothing) }
 {
-    put_value_by(alloc, thread, mailbox, PutBy::Send, bits, noted)
+    put_value_by(alloc, thread, mailbox, Sending, bits, noted)
 }
 
 #[unsafe(no_mangle)]
@@ -284,7 +290,7 @@ pub extern "C" fn brc_recv_value(thread: &mut CThread, mailbox: u64, value: &mut
     ensures does { CarriesOut (GivesDatum (TookOutValueBy giving.Receive) mailbox)
         thread.old.value thread.new.value result (Writes value_of value.old value.new) }
 {
-    take_out_value_by(thread, mailbox, GiveBy::Receive, value)
+    take_out_value_by(thread, mailbox, Receiving, value)
 }
 
 #[unsafe(no_mangle)]
@@ -301,15 +307,7 @@ pub extern "C" fn brc_dict_put_int_value(
     ensures does { CarriesOut (OrNotValue bits noted (TakesDatum (PutValueBy (putting.Put (lent.Int key))) dict))
         thread.old.value thread.new.value result (Writes came_of old.old old.new) }
 {
-    exchange_value_by(
-        alloc,
-        thread,
-        dict,
-        PutBy::Put(KeyRef::Int(key)),
-        bits,
-        noted,
-        old,
-    )
+    exchange_value_by(alloc, thread, dict, PuttingByInt(key), bits, noted, old)
 }
 
 #[unsafe(no_mangle)]
@@ -323,7 +321,7 @@ pub extern "C" fn brc_dict_find_int_value(
     ensures does { CarriesOut (GivesDatum (TookOutValueBy (giving.Find (lent.Int key))) dict)
         thread.old.value thread.new.value result (Writes value_of value.old value.new) }
 {
-    take_out_value_by(thread, dict, GiveBy::Find(KeyRef::Int(key)), value)
+    take_out_value_by(thread, dict, FindingByInt(key), value)
 }
 
 #[unsafe(no_mangle)]
@@ -337,7 +335,7 @@ pub extern "C" fn brc_dict_del_int_value(
     ensures does { CarriesOut (GivesDatum (TookOutValueBy (giving.Delete (lent.Int key))) dict)
         thread.old.value thread.new.value result (Writes value_of value.old value.new) }
 {
-    take_out_value_by(thread, dict, GiveBy::Delete(KeyRef::Int(key)), value)
+    take_out_value_by(thread, dict, DeletingByInt(key), value)
 }
 
 #[unsafe(no_mangle)]
@@ -353,10 +351,7 @@ pub extern "C" fn brc_dict_find_text_value(
 {
     match thread.as_mut().client() {
         Some(client) => match text_of(key) {
-            Ok(key) => write_value(
-                client.take_out_value(dict, GiveBy::Find(KeyRef::Text(key))),
-                value,
-            ),
+            Ok(key) => write_value(client.take_out_value(dict, FindingByText(key)), value),
             Err(status) => status.number(),
         },
         None => gone(),
@@ -376,10 +371,7 @@ pub extern "C" fn brc_dict_del_text_value(
 {
     match thread.as_mut().client() {
         Some(client) => match text_of(key) {
-            Ok(key) => write_value(
-                client.take_out_value(dict, GiveBy::Delete(KeyRef::Text(key))),
-                value,
-            ),
+            Ok(key) => write_value(client.take_out_value(dict, DeletingByText(key)), value),
             Err(status) => status.number(),
         },
         None => gone(),
@@ -404,7 +396,7 @@ pub extern "C" fn brc_dict_put_text_value(
         Some(client) => match text_of(key) {
             Ok(key) => match datum_of(bits, noted) {
                 Ok(datum) => write_came(
-                    client.put_value(alloc, dict, PutBy::Put(KeyRef::Text(key)), datum),
+                    client.put_value(alloc, dict, PuttingByText(key), datum),
                     old,
                 ),
                 Err(status) => status.number(),

@@ -1,7 +1,7 @@
 -- The handle to None that a client keeps beside its places: made, gone, and where an object comes under it; and a handle
 -- that is out of its place, on its way into a container.
 use Rattle.std.proofs.Common.{arith, ◌≡◌, ◌≢◌, ◌<◌, ℕ, List, Option, Some, None, length, slice_set}
-use Rattle.std.proofs.Common.{refl, sym, ap, ◌∙◌, ◌+◌, inl, inr, subst, Ok}
+use Rattle.std.proofs.Common.{sym, ap, ◌∙◌, ◌+◌, inl, inr, subst, Ok}
 use Rattle.std.proofs.lemmas.List.{set-set, set-get_or}
 use Rattle.std.specs.declared.alloc.Global.{Global}
 use Rattle.brc_words.specs.declared.note.Note.{Note}

@@ -1,7 +1,6 @@
 -- Values that go into a container by numbers: what was done, and why it wasn't, by the steps of the call.
 use Rattle.std.proofs.Common.{◌≡◌, ◌≢◌, ◌⊎◌, ℕ, List, Option, Some, None, Result, Ok, Err, slice_set}
 use Rattle.std.proofs.Common.{refl, sym, ap, ◌∙◌, inl, inr, subst}
-use Rattle.std.specs.Prelude.{get_or}
 use Rattle.std.specs.declared.alloc.Global.{Global}
 use Rattle.brc_words.specs.declared.note.Note.{Note}
 use Rattle.brc_count.specs.declared.handed.HandedBack.{HandedBack}
@@ -14,7 +13,7 @@ use Rattle.brc_client.specs.declared.data.Datum.{Datum}
 use Rattle.brc_client.specs.declared.data.Datum.TheVariants.{Scalar, Object}
 use Rattle.brc_client.specs.declared.status.Status.{Status}
 use Rattle.brc_client.specs.declared.status.Status.TheVariants as statuses
-use Rattle.brc_client.specs.Numbers.{NumbersSeen, number_at, place_in, stamp_in, once_more}
+use Rattle.brc_client.specs.Numbers.{NumbersSeen, number_at, place_in}
 use Rattle.brc_client.specs.Clients.{ClientSeen, IsClient, Names, NamesAs, NamesIn, NamesNone, NamesNoneIn, SpendsName}
 use Rattle.brc_client.specs.Valued.{NoneMade, NoneRefused, Nameless, Placeless, ReadiesNone, IsFound, StandsFor}
 use Rattle.brc_client.specs.Valued.{ComesBack, SpendsPlace, PutsDatum, PutsNoDatum, ContainerNameless, NoneWanting, HeapRefused}

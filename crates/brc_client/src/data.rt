@@ -15,10 +15,11 @@ ghost use Rattle.brc_client.specs.declared.data.Datum.TheVariants as datums;
 
 use crate::client::{Client, find, insert, lay};
 use crate::numbers::Numbers;
+use crate::put_value::PutsValue;
 use crate::status::Status;
+use crate::take_out_value::TakesOutValue;
 use brc_count::HandedBack;
 use brc_handles::Handles;
-use brc_places::{GiveBy, PutBy, try_put_value_by, try_take_out_value_by};
 use brc_things::{Pair, Value, try_dict_pair_value};
 use brc_words::{Key, Note};
 use std::alloc::Global;
@@ -62,14 +63,18 @@ fn number_came(
 
 impl Client {
     /// The value that the container gives by this call; an object's has a number. Foreign, Stale; then as the call is
-    /// refused (`try_take_out_value_by` of `brc_places`), Busy first.
+    /// refused (`try_take_out_value` of `by`), Busy first.
     #[tactic(auto, using(crate::proofs::Placed::owned, crate::proofs::Placed::vacant, crate::proofs::Placed::apart, crate::proofs::Placed::gained, crate::proofs::Placed::keeps, crate::proofs::Named::names_kept, crate::proofs::Named::names_given))]
     #[inline(always)]
-    pub fn take_out_value(&mut self, container: u64, by: GiveBy<'_>) -> Result<Datum, Status>
+    pub fn take_out_value<B: TakesOutValue>(
+        &mut self,
+        container: u64,
+        by: B,
+    ) -> Result<Datum, Status>
         ensures gave { IfOk result (λ datum. OfNamed self.old container
-            (λ object. AddsDatum (λ new. TookOutValueBy by.entry self.old.frame new object.place) self.old self.new datum)) }
+            (λ object. AddsDatum (λ new. TookOutValueBy (B.call by) self.old.frame new object.place) self.old self.new datum)) }
         ensures refused { IfErr result
-            (RefusedOf (λ k fault. TookOutValueBy by.entry self.old.frame self.new.frame k (Err fault))
+            (RefusedOf (λ k fault. TookOutValueBy (B.call by) self.old.frame self.new.frame k (Err fault))
             self.old self.new container) }
         ensures names { IfOk result (NamesDatum self.new) }
         ensures keeps { KeepsNames self.old self.new }
@@ -77,7 +82,7 @@ impl Client {
         ensures none { self.new.none ≡ self.old.none }
     {
         let object = find(&self.handles, &self.numbers, container)?;
-        match try_take_out_value_by(self.mutator.frame(), object, by) {
+        match by.try_take_out_value(self.mutator.frame(), object) {
             Ok(Value::Scalar(note)) => Ok(Datum::Scalar(note)),
             Ok(Value::Object(given, note)) => {
                 let number = insert(&mut self.handles, &self.numbers, given);
@@ -125,17 +130,17 @@ impl Client {
     /// The value goes into the container by this call, and an object's number names nothing any more. The answer is what
     /// came out for it, if anything did. Foreign, Stale for the container, then for the value; Same; FrameFull and
     /// OutOfMemory for a handle to None, which the first such call makes; then as the call is refused
-    /// (`try_put_value_by` of `brc_places`), Busy first: then an object has its number still.
+    /// (`try_put_value` of `by`), Busy first: then an object has its number still.
     #[inline(always)]
-    pub fn put_value(
+    pub fn put_value<B: PutsValue>(
         &mut self,
         alloc: Global,
         container: u64,
-        by: PutBy<'_>,
+        by: B,
         datum: Datum,
     ) -> Result<Option<Datum>, Status>
-        ensures took { IfOk result (PutsDatum (PutValueBy by.entry) self.old self.new container datum) }
-        ensures refused { IfErr result (PutsNoDatum (PutValueBy by.entry) self.old self.new container datum) }
+        ensures took { IfOk result (PutsDatum (PutValueBy (B.call by)) self.old self.new container datum) }
+        ensures refused { IfErr result (PutsNoDatum (PutValueBy (B.call by)) self.old self.new container datum) }
         ensures spent { OnOk result (SpendsDatumName self.old self.new datum) }
         ensures came { IfOk result (λ came. IfSome came (NamesDatum self.new)) }
         ensures handles { OnErr result (self.new.handles ≡ self.old.handles) }
@@ -205,16 +210,16 @@ impl Client {
 
     /// As `put_value`, of a scalar.
     #[inline(always)]
-    fn put_scalar(
+    fn put_scalar<B: PutsValue>(
         &mut self,
         alloc: Global,
         container: u64,
-        by: PutBy<'_>,
+        by: B,
         note: Note,
     ) -> Result<Option<Datum>, Status>
-        ensures took { IfOk result (PutsDatum (PutValueBy by.entry) self.old self.new container (datums.Scalar note)) }
+        ensures took { IfOk result (PutsDatum (PutValueBy (B.call by)) self.old self.new container (datums.Scalar note)) }
         ensures refused { IfErr result
-            (PutsNoDatum (PutValueBy by.entry) self.old self.new container (datums.Scalar note)) }
+            (PutsNoDatum (PutValueBy (B.call by)) self.old self.new container (datums.Scalar note)) }
         ensures spent { OnOk result (KeepsNames self.old self.new) }
         ensures came { IfOk result (λ came. IfSome came (NamesDatum self.new)) }
         ensures handles { OnErr result (self.new.handles ≡ self.old.handles) }
@@ -226,7 +231,7 @@ impl Client {
             unreachable!()
         };
         let value = Value::Scalar(note);
-        match try_put_value_by(alloc, self.mutator.frame(), none, object, by, value) {
+        match by.try_put_value(alloc, self.mutator.frame(), none, object, value) {
             Ok(came) => Ok(number_came(&mut self.handles, &self.numbers, came)),
             Err(
                 HandedBack {
@@ -240,18 +245,18 @@ impl Client {
 
     /// As `put_value`, of an object.
     #[inline(always)]
-    fn put_object(
+    fn put_object<B: PutsValue>(
         &mut self,
         alloc: Global,
         container: u64,
-        by: PutBy<'_>,
+        by: B,
         value: u64,
         note: Note,
     ) -> Result<Option<Datum>, Status>
         ensures took { IfOk result
-            (PutsDatum (PutValueBy by.entry) self.old self.new container (datums.Object value note)) }
+            (PutsDatum (PutValueBy (B.call by)) self.old self.new container (datums.Object value note)) }
         ensures refused { IfErr result
-            (PutsNoDatum (PutValueBy by.entry) self.old self.new container (datums.Object value note)) }
+            (PutsNoDatum (PutValueBy (B.call by)) self.old self.new container (datums.Object value note)) }
         ensures spent { OnOk result (SpendsName self.old self.new value) }
         ensures came { IfOk result (λ came. IfSome came (NamesDatum self.new)) }
         ensures handles { OnErr result (self.new.handles ≡ self.old.handles) }
@@ -273,7 +278,7 @@ impl Client {
             unreachable!()
         };
         let given = Value::Object(given, note);
-        match try_put_value_by(alloc, self.mutator.frame(), none, object, by, given) {
+        match by.try_put_value(alloc, self.mutator.frame(), none, object, given) {
             Ok(came) => {
                 self.numbers.spend(from);
                 Ok(number_came(&mut self.handles, &self.numbers, came))

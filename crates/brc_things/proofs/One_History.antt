@@ -1,8 +1,8 @@
 -- The calls on one object are one history.
-use Rattle.std.proofs.Common.{◌≡◌, ◌≢◌, ℕ, zero, suc, ◌<◌, ◌≤◌, ◌==◌, nat_le, Bool, true, false, if◌then◌else◌, List}
-use Rattle.std.proofs.Common.{[], ◌∷◌, ◌++◌, length, Option, Some, None, refl, sym, ◌∙◌, ap, subst, append_assoc, inl}
+use Rattle.std.proofs.Common.{◌≡◌, ◌≢◌, ℕ, zero, suc, ◌<◌, ◌==◌, Bool, true, false, if◌then◌else◌, List}
+use Rattle.std.proofs.Common.{[], ◌∷◌, ◌++◌, Option, Some, None, refl, sym, ◌∙◌, ap, subst, append_assoc, inl}
 use Rattle.std.proofs.Common.{inr, arith}
-use Rattle.std.proofs.lemmas.Bool.{cases_eq, cases_Bool, eq-eqb, ne_eqb, eqb-true, true≢false, and_parts}
+use Rattle.std.proofs.lemmas.Bool.{cases_eq, cases_Bool, eq-eqb, ne_eqb, eqb-true, true≢false}
 use Rattle.brc_count.specs.law.declared.world.event.Change.{Change}
 use Rattle.brc_count.specs.law.declared.world.event.Step.{Step}
 use Rattle.brc_count.specs.law.declared.world.event.Step.TheVariants.{Birth, Unlock, Lock, Register}
@@ -10,11 +10,10 @@ use Rattle.brc_count.specs.law.world.Heap.{Heap, AreOptions}
 use Rattle.brc_count.specs.law.world.Steps.{enabled}
 use Rattle.brc_count.specs.law.known.Items.{is_start, is_used}
 use Rattle.brc_count.specs.law.declared.rule.contents.Contents.{Contents}
-use Rattle.brc_count.specs.law.declared.rule.told.Moved.{Moved}
 use Rattle.brc_count.specs.law.declared.rule.told.Moved.TheVariants as moves
 use Rattle.brc_count.specs.law.declared.rule.told.LogItem.{LogItem}
 use Rattle.brc_count.specs.law.declared.rule.told.LogItem.TheVariants.{Stepped, Loaded, Lost}
-use Rattle.brc_count.specs.law.rule.Logs.{Run, item_of, items_of, own_of, all_of, begins, world, contents_at, puts, MovesWith}
+use Rattle.brc_count.specs.law.rule.Logs.{Run, item_of, items_of, own_of, all_of, begins, world, contents_at, puts}
 use Rattle.brc_count.specs.law.rule.Logs.{IsMoved, IsLegal}
 use Rattle.brc_count.specs.law.rule.Seen.{contents_on, contents_locked}
 use Rattle.brc_count.proofs.law.rule.Locked_Contents.{locked_contents}

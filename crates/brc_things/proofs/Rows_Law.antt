@@ -1,5 +1,5 @@
 -- What the plain calls on lists and mailboxes come to, from an object's kind and entries.
-use Rattle.std.proofs.Common.{suc, ◌≡◌, ◌≢◌, ◌<◌, ◌-◌, ℕ, true, false, List, [], ◌∷◌, ◌++◌, Some, Result, Ok, Err}
+use Rattle.std.proofs.Common.{suc, ◌≡◌, ◌≢◌, ◌<◌, ◌-◌, inl, inr, ℕ, true, false, List, [], ◌∷◌, ◌++◌, Some, Result, Ok, Err}
 use Rattle.std.proofs.Common.{length, take, map, remove, slice_get, if◌then◌else◌, refl, sym, ◌∙◌, ap, arith}
 use Rattle.std.proofs.lemmas.Bool.{lt-ltb, true≢false}
 use Rattle.std.proofs.lemmas.List.{append-nil}
@@ -21,7 +21,7 @@ use Rattle.brc_count.specs.law.declared.rule.contents.Contents.TheVariants as co
 use Rattle.brc_count.specs.law.rule.Logs.{kind_in, noted_in}
 use Rattle.brc_count.specs.table.Shown.{contents_of, plain_key}
 use Rattle.brc_things.specs.Plain_Lists.{left_in, plain_pop}
-use Rattle.brc_things.specs.Rows.{is_row, on_row, plain_put, plain_at, plain_take}
+use Rattle.brc_things.specs.Rows.{is_row, EndsAt, on_row, plain_put, plain_at, plain_take}
 
 -- ---- a payload as contents
 
@@ -148,3 +148,23 @@ pop_at found payload last is at_end =
     pop_is_take found ∙ ap (λ es. plain_take kinds.«List» (length es - 1) found) (ap noted_in is
     ∙ noted_shown payload)
     ∙ ap (λ i. plain_take kinds.«List» i found) (ap (λ n. n - 1) (sym (cells_long (noted_of payload))) ∙ sym at_end)
+
+-- no place of an empty list has an entry
+none_there : (cells : List Entry) (index : ℕ) → length cells ≡ 0
+    → plain_take kinds.«List» 0 (contents.«List» cells) ≡ plain_take kinds.«List» index (contents.«List» cells)
+none_there [] index short = refl
+none_there (cell ∷ cells) index short = absurd (let f : ⊥ = cc in f)
+
+-- so of each number that is the last place, if there is one
+pub pop_before : {A : Type 0} (found : Contents) (payload : Payload A) (last : ℕ) → found ≡ contents_of payload
+    → (kind_of payload ≡ kinds.«List» → EndsAt last (length (entries_of payload)))
+    → plain_pop found ≡ plain_take kinds.«List» last found
+pop_before (contents.«List» cells) payload last is before =
+    let long : length (entries_of payload) ≡ length cells = cells_long (noted_of payload)
+    ∙ ap (λ (es : List Entry). length es) (sym (noted_shown payload) ∙ ap noted_in (sym is)) in
+    elim (before (sym (kind_shown payload) ∙ ap kind_in (sym is))) [
+      | inl short ↦ pop_at (contents.«List» cells) payload 0 is (ap (λ n. n - 1) (sym short))
+          ∙ none_there cells last (sym long ∙ short)
+      | inr at_end ↦ pop_at (contents.«List» cells) payload last is (omega (arith, at_end))
+    ]
+pop_before _ payload last is before = refl

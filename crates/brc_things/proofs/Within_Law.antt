@@ -1,6 +1,6 @@
 -- What is done within a lock, from what its steps say.
 use Rattle.std.proofs.Common.{◌≡◌, ◌<◌, ◌≤◌, ◌+◌, ◌++◌, ◌∷◌, [], ℕ, List, Some, None, true, length, remove, slice_get}
-use Rattle.std.proofs.Common.{slice_set, Ok, refl, sym, ◌∙◌, ap, subst}
+use Rattle.std.proofs.Common.{slice_set, refl, sym, ◌∙◌, ap, subst}
 use Rattle.brc_words.specs.declared.entry.Entry.{Entry}
 use Rattle.brc_words.specs.declared.note.Note.{Note}
 use Rattle.brc_words.specs.Notes.{noted, cells_of}
@@ -12,8 +12,7 @@ use Rattle.brc_words.specs.declared.limits.TheConstants.{MOST_ENTRIES}
 use Rattle.brc_count.specs.block.declared.payload.Payload.{Payload}
 use Rattle.brc_count.specs.block.Payload.{kind_of, noted_of, entries_of}
 use Rattle.brc_count.specs.law.declared.world.event.Change.{Change}
-use Rattle.brc_count.specs.law.declared.world.event.Change.TheVariants.{Keep, Put, Take, Swap}
-use Rattle.brc_count.specs.law.declared.world.event.Source.TheVariants as sources
+use Rattle.brc_count.specs.law.declared.world.event.Change.TheVariants.{Put, Take, Swap}
 use Rattle.brc_count.specs.law.declared.world.event.Step.TheVariants.{Unlock}
 use Rattle.brc_count.specs.law.declared.rule.contents.Contents.{Contents}
 use Rattle.brc_count.specs.law.declared.rule.told.Moved.TheVariants as moves
@@ -21,11 +20,11 @@ use Rattle.brc_count.specs.law.declared.rule.told.LogItem.TheVariants.{Stepped}
 use Rattle.brc_count.specs.law.rule.Logs.{kind_in, noted_in}
 use Rattle.brc_count.specs.law.rule.Seen.{part_seen}
 use Rattle.brc_count.specs.table.Shown.{contents_of}
-use Rattle.brc_count.specs.Frames.{FrameSeen, HandleSeen, GivenHandle, IsAsBefore, popped_seen}
-use Rattle.brc_count.specs.Locking.{UnlockedBy, KeepsFrame, KeepsLock, ChangesPlace, cell_in, cell_locked, contents_found}
-use Rattle.brc_things.specs.Plain_Lists.{plain_get, plain_set}
+use Rattle.brc_count.specs.Frames.{FrameSeen, HandleSeen, IsAsBefore, popped_seen}
+use Rattle.brc_count.specs.Locking.{UnlockedBy, ChangesPlace, cell_in, cell_locked, contents_found}
+use Rattle.brc_things.specs.Plain_Lists.{plain_set}
 use Rattle.brc_things.specs.Rows.{is_row, plain_put, plain_at, plain_take}
-use Rattle.brc_things.specs.Within.{HasLockedList, PutsIn, SwapsIn, TakesOut, SharesOut, RefusesPlace}
+use Rattle.brc_things.specs.Within.{HasLockedList, PutsIn, SwapsIn, TakesOut, RefusesPlace}
 use Rattle.brc_things.proofs.Rows_Law.{kind_shown, noted_shown, put_gives, at_gives}
 
 module _ {A : Type 0} where

@@ -5,7 +5,6 @@ use Rattle.std.specs.Prelude.{◌≡◌, ℕ, ◌+◌, ◌∷◌, Some, None, Re
 use Rattle.brc_words.specs.declared.entry.Entry.{Entry}
 use Rattle.brc_words.specs.declared.fault.Fault.{Fault}
 use Rattle.brc_words.specs.declared.fault.Fault.TheVariants as faults
-use Rattle.brc_count.specs.law.declared.world.event.Change.{Change}
 use Rattle.brc_count.specs.law.declared.world.event.Change.TheVariants.{Keep, Put, Take, Swap}
 use Rattle.brc_count.specs.law.declared.world.event.Source.TheVariants as sources
 use Rattle.brc_count.specs.law.declared.world.event.Step.TheVariants.{Lock, Unlock}

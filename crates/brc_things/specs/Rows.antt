@@ -1,5 +1,5 @@
 -- What the calls of lists and of mailboxes have in common: those on a row of entries, of either kind.
-use Rattle.std.specs.Prelude.{◌≡◌, ◌≢◌, ◌<◌, ◌≤◌, ℕ, Bool, true, false, List, length, None, Result, slice_get, remove}
+use Rattle.std.specs.Prelude.{◌≡◌, ◌≢◌, ◌<◌, ◌≤◌, ◌+◌, ◌⊎◌, ℕ, Bool, true, false, List, length, None, Result, slice_get, remove}
 use Rattle.brc_words.specs.declared.entry.Entry.{Entry}
 use Rattle.brc_words.specs.declared.fault.Fault.{Fault}
 use Rattle.brc_words.specs.declared.fault.Fault.TheVariants as faults
@@ -33,6 +33,10 @@ plain_at kind index left = on_row kind (λ cells. leaving (left cells) (lists.ge
 -- the entry at a place, which goes
 abbrev pub plain_take : Kind → ℕ → PlainCall Entry
 plain_take kind index = plain_at kind index (λ cells. remove cells index)
+
+-- the last place of so many entries; where there are none it is any number
+abbrev pub EndsAt : ℕ → ℕ → Type 0
+EndsAt last long = (long ≡ 0) ⊎ (last + 1 ≡ long)
 
 -- why an object of the kind `has`, with these entries, has no room for one more
 abbrev pub NoRoom : Kind → Kind → List ℕ → Fault → Type 0

@@ -5,6 +5,7 @@ ghost use Rattle.brc_count.specs.Frames.{IsUnlocked, Owns};
 ghost use Rattle.brc_count.specs.Owned.{Keeps, Gains, Loses};
 ghost use Rattle.brc_things.specs.List_Calls.{ListPush, ListPop, ListTake, ListGet, ListSet};
 
+use crate::rows::last_place;
 use crate::within::{put_locked, share_locked, swap_locked, take_locked};
 use brc_count::biased::HasTable;
 use brc_count::{Frame, HandedBack, Handle};
@@ -55,7 +56,7 @@ pub fn try_list_pop<H: HasTable<A>, A: Allocator>(
     let Some(block) = frame.begin(list) else {
         return Err(Fault::Busy);
     };
-    let last = block.payload().len().saturating_sub(1);
+    let last = last_place(block.payload());
     take_locked(frame, Kind::List, block, last)
 }
 

@@ -3,7 +3,8 @@
 ghost use Rattle.std.specs.Prelude.{◌≡◌, ◌<◌, length, true, Some, IfOk, IfErr, OnOk, OnErr, slice_get};
 ghost use Rattle.brc_words.specs.declared.limits.TheConstants.{MOST_ENTRIES};
 ghost use Rattle.brc_count.specs.block.Payload.{kind_of, noted_of, entries_of, spare_of};
-ghost use Rattle.brc_things.specs.Rows.{is_row, NoRoom, NoEntry};
+ghost use Rattle.brc_words.specs.declared.kind.Kind.TheVariants as kinds;
+ghost use Rattle.brc_things.specs.Rows.{is_row, EndsAt, NoRoom, NoEntry};
 
 use brc_count::block::{Entries, Payload};
 use brc_words::{Entry, Fault, Kind, MOST_ENTRIES};
@@ -37,6 +38,17 @@ pub(crate) fn make_room<A: Allocator>(payload: &mut Payload<A>, kind: Kind) -> R
     match made {
         Ok(()) => Ok(()),
         Err(_) => Err(Fault::OutOfMemory),
+    }
+}
+
+/// A list's last place: the number before its length. An empty list has none, and of another object it is any number.
+#[inline(always)]
+pub(crate) fn last_place<A: Allocator>(payload: &Payload<A>) -> usize
+    ensures { kind_of payload.now ≡ kinds.«List» → EndsAt result (length (entries_of payload.now)) }
+{
+    match payload {
+        Payload::List(cells) => cells.len().wrapping_sub(1),
+        _ => 0,
     }
 }
 

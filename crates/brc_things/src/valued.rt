@@ -18,7 +18,7 @@ ghost use Rattle.brc_things.specs.Values.{PutsValueIn, SwapsValueIn, HasPutValue
 ghost use Rattle.brc_things.specs.Within.{HasLockedList};
 
 use crate::Value;
-use crate::rows::{entry_in, make_room};
+use crate::rows::{entry_in, last_place, make_room};
 use crate::valued_entries::{look_entry, set_entry, take_entry};
 use brc_count::biased::HasTable;
 use brc_count::block::Block;
@@ -296,7 +296,7 @@ pub fn try_list_pop_value<H: HasTable<A>, A: Allocator>(
     let Some(block) = frame.begin(list) else {
         return Err(Fault::Busy);
     };
-    let last = block.payload().len().saturating_sub(1);
+    let last = last_place(block.payload());
     take_out_value(frame, Kind::List, block, last)
 }
 

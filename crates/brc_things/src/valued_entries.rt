@@ -7,6 +7,7 @@
 ghost use Rattle.std.specs.Prelude.{◌≡◌, ◌≢◌, ◌<◌, ℕ, true, Some, IfOk, IfErr, OnErr, length, slice_get, slice_set};
 ghost use Rattle.brc_words.specs.declared.fault.Fault.TheVariants as faults;
 ghost use Rattle.brc_words.specs.declared.entry.Entry.{Entry as EntrySeen};
+ghost use Rattle.brc_words.specs.declared.note.Note.{Note};
 ghost use Rattle.brc_words.specs.Kinds.{is_container};
 ghost use Rattle.brc_count.specs.block.Payload.{kind_of, noted_of, entries_of, keys_of};
 ghost use Rattle.brc_count.specs.Frames.{IsUnlocked, Owns};
@@ -16,6 +17,7 @@ ghost use Rattle.brc_things.specs.Plain_Values.{PutCall, SetsAt, TakesAt, FindsA
 ghost use Rattle.brc_things.specs.Since.{Since};
 ghost use Rattle.brc_things.specs.Values.{OwnsValue, StandsApart, GainsValue, HasNone, LooksAtValue, TakesOutValue};
 ghost use Rattle.brc_things.specs.Values.{SwapsValueIn, RefusedPutting, OwnsSwapped, CameOut};
+ghost use Rattle.brc_things.specs.declared.value.Value.TheVariants as values;
 ghost use Rattle.brc_things.specs.Within.{HasLockedList};
 
 use crate::Value;
@@ -135,6 +137,72 @@ fn came<H: HasTable<A>, A: Allocator>(
     Value::Object(old, entry.note())
 }
 
+/// An object goes into the entry, or a scalar for one, and what stood there comes out. A scalar wants a place of the frame:
+/// FrameFull, OutOfMemory. It is a function of its own, so that a scalar for a scalar doesn't carry its code.
+fn swap_counted<H: HasTable<A>, A: Allocator>(
+    frame: &mut Frame<H, A>,
+    kind: Kind,
+    mut block: Block<A>,
+    index: u32,
+    entry: Entry,
+    none: &mut Handle<A>,
+    value: Value<A>,
+) -> Result<Value<A>, HandedBack<Value<A>>>
+    requires has { HasLockedList frame.old block }
+    requires of_kind { kind_of block.1 ≡ kind }
+    requires container { is_container kind ≡ true }
+    requires there { slice_get (noted_of block.1) index ≡ Some entry }
+    requires none { HasNone frame.old none.old }
+    requires apart_none { place_locked frame.old ≢ Some none.old.place }
+    requires owned { OwnsValue frame.old value }
+    requires apart { (k : ℕ) → place_locked frame.old ≡ Some k → StandsApart k value }
+    requires other { StandsApart none.old.place value }
+    requires counted { (note : Note) → value ≡ values.Scalar note → entry.cell ≢ 0 }
+    ensures thread { KeepsThread frame.old frame.new }
+    ensures unlocked { IsUnlocked frame.new }
+    ensures swapped { IfOk result (λ came. (call : PutCall) → SetsAt block.1 index entry call →
+        Since frame.old block (λ before k. SwapsValueIn before frame.new k none.old none.new value call came)) }
+    ensures owns { IfOk result (OwnsSwapped frame.old frame.new none.new value) }
+    ensures none { HasNone frame.new none.new }
+    ensures back { IfErr result (λ handed. handed.value ≡ value) }
+    ensures places { OnErr result (KeepsAllPlaces frame.old frame.new) }
+    ensures same { OnErr result (none.new ≡ none.old) }
+    ensures refused { IfErr result (λ handed. (call : PutCall) → SetsAt block.1 index entry call →
+        Since frame.old block (λ before k. RefusedPutting before frame.new k value call handed.fault)) }
+    ensures waits { IfErr result (λ handed. handed.fault ≢ faults.Busy) }
+{
+    match value {
+        Value::Scalar(note) => {
+            if let Err(fault) = frame.place() {
+                frame.end_keep(block);
+                return Err(HandedBack {
+                    fault,
+                    value: Value::Scalar(note),
+                });
+            }
+            set_in(
+                block.payload_mut(),
+                kind,
+                index as usize,
+                Entry::new(0, note),
+            );
+            let old = frame.end_swap_fresh(block, index, entry.cell, none);
+            Ok(Value::Object(old, entry.note()))
+        }
+        Value::Object(handle, note) => {
+            let cell = frame.cell(&handle);
+            set_in(
+                block.payload_mut(),
+                kind,
+                index as usize,
+                Entry::new(cell, note),
+            );
+            let old = frame.end_swap(block, index, entry.cell, handle);
+            Ok(came(frame, old, entry))
+        }
+    }
+}
+
 /// The value goes into the entry, and what stood there comes out. A scalar wants a place of the frame where an object
 /// comes out: FrameFull, OutOfMemory.
 #[inline(always)]
@@ -169,44 +237,19 @@ pub(crate) fn set_entry<H: HasTable<A>, A: Allocator>(
         Since frame.old block (λ before k. RefusedPutting before frame.new k value call handed.fault)) }
     ensures waits { IfErr result (λ handed. handed.fault ≢ faults.Busy) }
 {
-    match value {
-        Value::Scalar(note) => {
-            if entry.cell == 0 {
-                set_in(
-                    block.payload_mut(),
-                    kind,
-                    index as usize,
-                    Entry::new(0, note),
-                );
-                frame.end_swap_none(block, index, none);
-                return Ok(Value::Scalar(entry.note()));
-            }
-            if let Err(fault) = frame.place() {
-                frame.end_keep(block);
-                return Err(HandedBack {
-                    fault,
-                    value: Value::Scalar(note),
-                });
-            }
-            set_in(
-                block.payload_mut(),
-                kind,
-                index as usize,
-                Entry::new(0, note),
-            );
-            let old = frame.end_swap_fresh(block, index, entry.cell, none);
-            Ok(Value::Object(old, entry.note()))
-        }
-        Value::Object(handle, note) => {
-            let cell = frame.cell(&handle);
-            set_in(
-                block.payload_mut(),
-                kind,
-                index as usize,
-                Entry::new(cell, note),
-            );
-            let old = frame.end_swap(block, index, entry.cell, handle);
-            Ok(came(frame, old, entry))
-        }
+    let Value::Scalar(note) = value else {
+        return swap_counted(frame, kind, block, index, entry, none, value);
+    };
+    if entry.cell == 0 {
+        set_in(
+            block.payload_mut(),
+            kind,
+            index as usize,
+            Entry::new(0, note),
+        );
+        frame.end_swap_none(block, index, none);
+        return Ok(Value::Scalar(entry.note()));
     }
+    let value = Value::Scalar(note);
+    swap_counted(frame, kind, block, index, entry, none, value)
 }

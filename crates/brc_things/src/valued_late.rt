@@ -12,6 +12,7 @@ ghost use Rattle.brc_things.specs.Values.{OwnsSwapped, OwnsPutValue};
 
 use crate::Value;
 use crate::late::begin_late;
+use crate::rows::last_place;
 use crate::valued::{look_at_value, put_value, put_value_at, set_value, take_out_value};
 use brc_count::biased::HasTable;
 use brc_count::{Frame, HandedBack, Handle};
@@ -91,7 +92,7 @@ pub fn list_pop_value<H: HasTable<A>, A: Allocator>(
     ensures waited { IfErr result (λ fault. fault ≢ faults.Busy) }
 {
     let block = begin_late(rt, frame, list);
-    let last = block.payload().len().saturating_sub(1);
+    let last = last_place(block.payload());
     take_out_value(frame, Kind::List, block, last)
 }
 

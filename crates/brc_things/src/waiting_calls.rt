@@ -9,6 +9,7 @@ ghost use Rattle.brc_things.specs.Called.{Late};
 ghost use Rattle.brc_things.specs.List_Calls.{ListPush, ListPop, ListTake, ListGet, ListSet, MailboxSend, MailboxReceive};
 
 use crate::late::begin_late;
+use crate::rows::last_place;
 use crate::within::{put_locked, share_locked, swap_locked, take_locked};
 use brc_count::biased::HasTable;
 use brc_count::{Frame, HandedBack, Handle};
@@ -57,7 +58,7 @@ pub fn list_pop<H: HasTable<A>, A: Allocator>(
     ensures waited { IfErr result (λ fault. fault ≢ faults.Busy) }
 {
     let block = begin_late(rt, frame, list);
-    let last = block.payload().len().saturating_sub(1);
+    let last = last_place(block.payload());
     take_locked(frame, Kind::List, block, last)
 }
 

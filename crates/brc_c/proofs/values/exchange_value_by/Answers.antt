@@ -8,7 +8,7 @@ use Rattle.brc_c.proofs.Made.{works_at, left_at, same_at}
 use Rattle.brc_c.proofs.values.exchange_value_by.Goals as goal
 
 pub returns-in-Ok-clause-does : goal.returns-in-Ok-clause-does
-returns-in-Ok-clause-does c = record {
+returns-in-Ok-clause-does g c = record {
   answer = c.put_value.result;
   made = IsMade c.in-Some.client.now c.put_value.new.self
       (works_at _ _ _ c.in-Some.ensures.value c.as_mut.ensures.value) refl
@@ -29,7 +29,7 @@ returns-in-Ok-clause-does c = record {
 }
 
 pub returns-in-Err-clause-does : goal.returns-in-Err-clause-does
-returns-in-Err-clause-does c = record {
+returns-in-Err-clause-does g c = record {
   answer = Err statuses.NotValue;
   made = IsMade c.in-Some.client.now c.in-Some.client.now
       (works_at _ _ _ c.in-Some.ensures.value c.as_mut.ensures.value) refl
@@ -39,7 +39,7 @@ returns-in-Err-clause-does c = record {
 }
 
 pub returns-in-None-clause-does : goal.returns-in-None-clause-does
-returns-in-None-clause-does c = record {
+returns-in-None-clause-does g c = record {
   answer = Err statuses.Gone;
   made = HasLeft (left_at _ _ c.in-None.ensures.value c.as_mut.ensures.value) (same_at _ _ c.as_mut.ensures.value) refl;
   told = c.gone.ensures;

@@ -8,7 +8,7 @@ use Rattle.brc_c.proofs.Made.{works_at, left_at, same_at}
 use Rattle.brc_c.proofs.values.put_value_by.Goals as goal
 
 pub returns-in-Ok : goal.returns-in-Ok
-returns-in-Ok c = record {
+returns-in-Ok g c = record {
   does = record {
     answer = c.put_value.result;
     made = IsMade c.in-Some.client.now c.put_value.new.self
@@ -31,7 +31,7 @@ returns-in-Ok c = record {
 }
 
 pub returns-in-Err : goal.returns-in-Err
-returns-in-Err c = record {
+returns-in-Err g c = record {
   does = record {
     answer = Err statuses.NotValue;
     made = IsMade c.in-Some.client.now c.in-Some.client.now
@@ -43,7 +43,7 @@ returns-in-Err c = record {
 }
 
 pub returns-in-None : goal.returns-in-None
-returns-in-None c = record {
+returns-in-None g c = record {
   does = record {
     answer = Err statuses.Gone;
     made = HasLeft (left_at _ _ c.in-None.ensures.value c.as_mut.ensures.value) (same_at _ _ c.as_mut.ensures.value) refl;

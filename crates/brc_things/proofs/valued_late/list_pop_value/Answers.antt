@@ -1,11 +1,8 @@
-use Rattle.std.proofs.Common.{◌-◌, length, ◌∙◌, ap}
-use Rattle.brc_count.specs.block.declared.payload.Payload.{Payload}
-use Rattle.brc_count.specs.block.Payload.{entries_of}
 use Rattle.brc_count.specs.Locking.{contents_found}
 use Rattle.brc_things.specs.Changing.{RefusedPlace}
 use Rattle.brc_things.specs.Plain_Lists.{plain_pop}
 use Rattle.brc_things.specs.Values.{TakesOutValue}
-use Rattle.brc_things.proofs.Rows_Law.{pop_at}
+use Rattle.brc_things.proofs.Rows_Law.{pop_before}
 use Rattle.brc_things.proofs.Since_Law.{err_by, hands_out, locked_late, ok_by}
 use Rattle.brc_things.proofs.valued_late.list_pop_value.Goals as goal
 
@@ -13,10 +10,9 @@ pub returns-clause-takes : goal.returns-clause-takes
 returns-clause-takes g c =
     let late = c.begin_late-block.ensures in
     let locked = c.begin_late-block.new.frame in
-    let same = pop_at (contents_found c.begin_late-block.new.frame) c.begin_late-block.result.1 c.saturating_sub-last.result
+    let same = pop_before (contents_found c.begin_late-block.new.frame) c.begin_late-block.result.1 c.last_place-last.result
     late.began.found
-    (c.saturating_sub-last.ensures ∙ ap (λ n. n - 1) c.len.ensures
-    ∙ ap (λ (p : Payload g.row.A.Denot). length (entries_of p) - 1) c.payload.ensures) in
+    (rw c.payload.ensures at c.last_place-last.ensures) in
     let up = c.take_out_value.ensures in (
       late.mid,
       late.waits,

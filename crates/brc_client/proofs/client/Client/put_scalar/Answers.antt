@@ -3,64 +3,71 @@ use Rattle.std.proofs.lemmas.Result.{err_from_is_err_and}
 use Rattle.brc_places.specs.Value_Calls.{PutValueBy}
 use Rattle.brc_client.specs.Clients.{ClientSeen}
 use Rattle.brc_client.specs.Valued.{NoneMade}
-use Rattle.brc_client.proofs.Beside.{came_under, scalar_put}
+use Rattle.brc_client.proofs.Beside.{came_under, scalar_loose, scalar_put}
 use Rattle.brc_client.proofs.Putting.{none_wanting, none_found, heap_refused, scalar_puts, scalar_keeps}
 use Rattle.brc_client.proofs.client.Client.put_scalar.Goals as goal
 
 pub returns-in_err-ready_none-clause-refused : goal.returns-in_err-ready_none-clause-refused
-returns-in_err-ready_none-clause-refused c =
+returns-in_err-ready_none-clause-refused g c =
     let p = err_from_is_err_and c.from_residual.result c.from_residual.ensures.1 in
-    rw (p.1, p.2) (none_wanting (PutValueBy c.args.by) _ _ c.args.container _ _ c.in_err-ready_none.ensures.refused)
+    rw (p.1, p.2) (none_wanting (PutValueBy (g.B.PutsValue.call c.args.by)) _ _ c.args.container _ _ c.in_err-ready_none.ensures.refused)
 
 pub returns-in_err-object-clause-refused : goal.returns-in_err-object-clause-refused
-returns-in_err-object-clause-refused c =
+returns-in_err-object-clause-refused g c =
     let p = err_from_is_err_and c.from_residual-in_err-object.result c.from_residual-in_err-object.ensures.1 in
     let handles = ap (λ (s : ClientSeen). s.handles) c.self.view_is ∙ c.ready_none.ensures.handles in
     let numbers = ap (λ (s : ClientSeen). s.numbers) c.self.view_is ∙ c.ready_none.ensures.numbers in
-    rw (p.1, p.2) (none_found (PutValueBy c.args.by) c.args.self.now c.ready_none.new.self c.self.inside.handles
+    rw (p.1, p.2) (none_found (PutValueBy (g.B.PutsValue.call c.args.by)) c.args.self.now c.ready_none.new.self c.self.inside.handles
     c.self.inside.numbers c.args.container _ _ c.in_ok-ready_none.ensures.named handles numbers
     c.in_err-object.ensures.refused)
 
+pub number_came-requires-clause-loose : goal.number_came-requires-clause-loose
+number_came-requires-clause-loose g c =
+    let did = rw c.frame.ensures.frame at c.in-Ok.ensures.did in
+    let client = rw c.in-Some.is at c.self.invariant in
+    scalar_loose _ c.self.inside.handles c.in-Some.none c.try_put_value.new.none c.args.note c.in-Ok.came client
+    (came_under (g.B.PutsValue.call c.args.by) _ _ _ _ _ _ c.in-Ok.came did)
+
 pub invariant_of-self : goal.invariant_of-self
-invariant_of-self c =
+invariant_of-self g c =
     let did = rw c.frame.ensures.frame at c.in-Ok.ensures.did in
     let owns = rw c.frame.ensures.frame at c.in-Ok.ensures.owns in
     let client = rw c.in-Some.is at c.self.invariant in
     scalar_put _ _ c.self.inside.handles c.number_came.new.handles c.self.inside.numbers c.in-Some.none
-    c.try_put_value_by.new.none c.args.note c.in-Ok.came c.number_came.result client
-    (came_under c.args.by _ _ _ _ _ _ c.in-Ok.came did) owns c.in-Ok.ensures.unlocked c.number_came.ensures.back
+    c.try_put_value.new.none c.args.note c.in-Ok.came c.number_came.result client
+    (came_under (g.B.PutsValue.call c.args.by) _ _ _ _ _ _ c.in-Ok.came did) owns c.in-Ok.ensures.unlocked c.number_came.ensures.back
     c.number_came.ensures.lies
 
 pub returns-in-Ok-clause-took : goal.returns-in-Ok-clause-took
-returns-in-Ok-clause-took c =
+returns-in-Ok-clause-took g c =
     let made = subst (λ (s : ClientSeen). NoneMade c.args.self.now s) (sym c.self.view_is)
     c.in_ok-ready_none.ensures.made in
     let handles = ap (λ (s : ClientSeen). s.handles) c.self.view_is ∙ c.ready_none.ensures.handles in
     let numbers = ap (λ (s : ClientSeen). s.numbers) c.self.view_is ∙ c.ready_none.ensures.numbers in
     let did = rw c.frame.ensures.frame at c.in-Ok.ensures.did in
-    scalar_puts (PutValueBy c.args.by) c.args.self.now _ _ c.args.container c.in_ok-object.object.now c.in-Some.none
-    c.try_put_value_by.new.none c.args.note c.in-Ok.came c.number_came.result made c.in-Some.is handles numbers
+    scalar_puts (PutValueBy (g.B.PutsValue.call c.args.by)) c.args.self.now _ _ c.args.container c.in_ok-object.object.now c.in-Some.none
+    c.try_put_value.new.none c.args.note c.in-Ok.came c.number_came.result made c.in-Some.is handles numbers
     c.in_ok-object.ensures.named refl refl did c.number_came.ensures.back
 
 pub returns-in-Ok-clause-spent : goal.returns-in-Ok-clause-spent
-returns-in-Ok-clause-spent c =
+returns-in-Ok-clause-spent g c =
     let handles = ap (λ (s : ClientSeen). s.handles) c.self.view_is ∙ c.ready_none.ensures.handles in
     let numbers = ap (λ (s : ClientSeen). s.numbers) c.self.view_is ∙ c.ready_none.ensures.numbers in
     let did = rw c.frame.ensures.frame at c.in-Ok.ensures.did in
     let client = rw c.in-Some.is at c.self.invariant in
     scalar_keeps _ c.args.self.now c.self.inside.handles c.number_came.new.handles c.self.inside.numbers
-    c.self.inside.numbers c.in-Some.none c.try_put_value_by.new.none c.args.note c.in-Ok.came
-    c.number_came.result client (came_under c.args.by _ _ _ _ _ _ c.in-Ok.came did) c.number_came.ensures.back handles
+    c.self.inside.numbers c.in-Some.none c.try_put_value.new.none c.args.note c.in-Ok.came
+    c.number_came.result client (came_under (g.B.PutsValue.call c.args.by) _ _ _ _ _ _ c.in-Ok.came did) c.number_came.ensures.back handles
     numbers refl
 
 pub returns-in-Err-Scalar-clause-refused : goal.returns-in-Err-Scalar-clause-refused
-returns-in-Err-Scalar-clause-refused c =
+returns-in-Err-Scalar-clause-refused g c =
     let made = subst (λ (s : ClientSeen). NoneMade c.args.self.now s) (sym c.self.view_is)
     c.in_ok-ready_none.ensures.made in
     let handles = ap (λ (s : ClientSeen). s.handles) c.self.view_is ∙ c.ready_none.ensures.handles in
     let numbers = ap (λ (s : ClientSeen). s.numbers) c.self.view_is ∙ c.ready_none.ensures.numbers in
     let names = rw (handles, numbers) at c.in_ok-object.ensures.named in
     let did = rw c.frame.ensures.frame at c.in-Err-Scalar.ensures.did in
-    heap_refused (PutValueBy c.args.by) c.args.self.now _ _ c.args.container _ c.in_ok-object.object.now c.in-Some.none
-    c.try_put_value_by.new.none _ c.in-Err-Scalar.field-0 made c.in-Some.is names refl c.in-Err-Scalar.ensures.same refl
+    heap_refused (PutValueBy (g.B.PutsValue.call c.args.by)) c.args.self.now _ _ c.args.container _ c.in_ok-object.object.now c.in-Some.none
+    c.try_put_value.new.none _ c.in-Err-Scalar.field-0 made c.in-Some.is names refl c.in-Err-Scalar.ensures.same refl
     c.in-Err-Scalar.ensures.back did

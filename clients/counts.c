@@ -1,0 +1,72 @@
+/* counts: makes one kind of call TURNS times, for a program that counts instructions.
+ *
+ *     counts NAME TURNS
+ *
+ * What a turn takes is the difference of two runs by that of their TURNS; `.ci/c` counts so, by callgrind, over the library
+ * that is proved and over the one that isn't, and holds each against `clients/counts`. The containers have 16 entries and 9
+ * pairs, and what goes in and comes out are scalars, where the name doesn't say else. */
+#include <stdio.h>
+#include <stdlib.h>
+#include <string.h>
+#include "brc.h"
+
+#define MUST(call)                                                                                    \
+    do {                                                                                              \
+        brc_status s_ = (call);                                                                       \
+        if (s_ != BRC_OK) {                                                                           \
+            fprintf(stderr, "counts: line %d: %s\n", __LINE__, brc_status_name(s_));                  \
+            exit(1);                                                                                  \
+        }                                                                                             \
+    } while (0)
+
+#define TURN(name, body)                                                                              \
+    if (strcmp(what, name) == 0) {                                                                    \
+        for (unsigned long i_ = 0; i_ < turns; i_++) { body; }                                        \
+        return 1;                                                                                     \
+    }
+
+static const uint8_t key[8] = "eight by";
+
+typedef struct {
+    brc_thread *t;
+    brc_ref list, dict, box, ref;
+} Made;
+
+static int turn(const char *what, unsigned long turns, Made *made) {
+    brc_thread *t = made->t;
+    brc_ref list = made->list, dict = made->dict, box = made->box, ref = made->ref;
+    brc_value scalar = brc_of_int(1, 1000), old;
+    TURN("nothing", __asm__ volatile("" ::: "memory"))
+    TURN("get", MUST(brc_list_get_value(t, list, 7, &old)))
+    TURN("set", MUST(brc_list_set_value(t, list, 7, scalar, &old)))
+    TURN("put", MUST(brc_list_put_value(t, list, 7, scalar, &old)))
+    TURN("push-pop", MUST(brc_list_push_value(t, list, scalar)); MUST(brc_list_pop_value(t, list, &old)))
+    TURN("send-recv", MUST(brc_send_value(t, box, scalar)); MUST(brc_recv_value(t, box, &old)))
+    TURN("find-int", MUST(brc_dict_find_int_value(t, dict, 5, &old)))
+    TURN("find-text", MUST(brc_dict_find_text_value(t, dict, key, sizeof key, &old)))
+    TURN("put-int", MUST(brc_dict_put_int_value(t, dict, 5, scalar, &old)))
+    TURN("push-pop-reference", MUST(brc_list_push(t, list, ref)); MUST(brc_list_pop(t, list, &ref)))
+    TURN("send-recv-reference", MUST(brc_send(t, box, ref)); MUST(brc_recv(t, box, &ref)))
+    return 0;
+}
+
+int main(int argc, char **argv) {
+    brc_heap heap;
+    brc_thread thread;
+    Made made = {.t = &thread};
+    brc_value scalar = brc_of_int(1, 1000), old;
+    if (argc != 3) return 2;
+    MUST(brc_heap_open(&heap, 512));
+    MUST(brc_thread_open(&heap, &thread));
+    MUST(brc_new_list(&thread, &made.list));
+    MUST(brc_new_dict(&thread, &made.dict));
+    MUST(brc_new_mailbox(&thread, &made.box));
+    MUST(brc_new_list(&thread, &made.ref));
+    for (int i = 0; i < 16; i++) MUST(brc_list_push_value(&thread, made.list, scalar));
+    for (int i = 0; i < 8; i++) MUST(brc_dict_put_int_value(&thread, made.dict, i, scalar, &old));
+    MUST(brc_dict_put_text_value(&thread, made.dict, key, sizeof key, scalar, &old));
+    if (!turn(argv[1], strtoul(argv[2], NULL, 10), &made)) return 2;
+    brc_thread_drop(thread);
+    brc_heap_drop(heap);
+    return 0;
+}
