@@ -7,7 +7,7 @@ ghost use Rattle.brc_c.specs.Exports.{CarriesOut, Writes, WritesNothing, itself,
 
 use crate::outs::{gone, status_of_taking, write, write_old};
 use crate::slots::CThread;
-use brc_client::{GiveBy, Make, TakeBy};
+use brc_client::{Make, TakeBy, TakesOut};
 use std::alloc::Global;
 
 /// What is made has a number, which is written.
@@ -25,9 +25,14 @@ pub(crate) fn make_by(alloc: Global, thread: &mut CThread, by: Make<'_>, made: &
 
 /// What a container gives has a number, which is written.
 #[inline(always)]
-pub(crate) fn give_by(thread: &mut CThread, container: u64, by: GiveBy<'_>, given: &mut u64) -> u32
+pub(crate) fn give_by<B: TakesOut>(
+    thread: &mut CThread,
+    container: u64,
+    by: B,
+    given: &mut u64,
+) -> u32
     ensures kept { result ≢ 0 → given.new ≡ given.old }
-    ensures does { CarriesOut (Gives (GaveBy by.entry) container) thread.old.value thread.new.value result
+    ensures does { CarriesOut (Gives (GaveBy (B.call by)) container) thread.old.value thread.new.value result
         (Writes itself given.old given.new) }
 {
     match thread.as_mut().client() {

@@ -12,7 +12,9 @@ ghost use Rattle.brc_c.specs.Exports.{CarriesOut, OrNotText, Writes, itself, old
 use crate::calls::{exchange_by, give_by};
 use crate::outs::{gone, write, write_old};
 use crate::slots::CThread;
-use brc_client::{GiveBy, KeyRef, TakeBy, copy_prefix, text_of};
+use brc_client::{
+    DeletingByInt, DeletingByText, FindingByInt, FindingByText, KeyRef, TakeBy, copy_prefix, text_of,
+};
 use brc_words::Key;
 use std::alloc::Global;
 
@@ -84,7 +86,7 @@ pub extern "C" fn brc_dict_find_int(
     ensures does { CarriesOut (Gives (GaveBy (giving.Find (lent.Int key))) dict)
         thread.old.value thread.new.value result (Writes itself value.old value.new) }
 {
-    give_by(thread, dict, GiveBy::Find(KeyRef::Int(key)), value)
+    give_by(thread, dict, FindingByInt(key), value)
 }
 
 #[unsafe(no_mangle)]
@@ -100,7 +102,7 @@ pub extern "C" fn brc_dict_find_text(
 {
     match thread.as_mut().client() {
         Some(client) => match text_of(key) {
-            Ok(key) => write(client.give(dict, GiveBy::Find(KeyRef::Text(key))), value),
+            Ok(key) => write(client.give(dict, FindingByText(key)), value),
             Err(status) => status.number(),
         },
         None => gone(),
@@ -118,7 +120,7 @@ pub extern "C" fn brc_dict_del_int(
     ensures does { CarriesOut (Gives (GaveBy (giving.Delete (lent.Int key))) dict)
         thread.old.value thread.new.value result (Writes itself value.old value.new) }
 {
-    give_by(thread, dict, GiveBy::Delete(KeyRef::Int(key)), value)
+    give_by(thread, dict, DeletingByInt(key), value)
 }
 
 #[unsafe(no_mangle)]
@@ -134,7 +136,7 @@ pub extern "C" fn brc_dict_del_text(
 {
     match thread.as_mut().client() {
         Some(client) => match text_of(key) {
-            Ok(key) => write(client.give(dict, GiveBy::Delete(KeyRef::Text(key))), value),
+            Ok(key) => write(client.give(dict, DeletingByText(key)), value),
             Err(status) => status.number(),
         },
         None => gone(),

@@ -9,7 +9,7 @@ ghost use Rattle.brc_c.specs.Exports.{CarriesOut, Writes, WritesNothing, itself,
 
 use crate::calls::{exchange_by, give_by, put_by};
 use crate::slots::CThread;
-use brc_client::{GiveBy, TakeBy};
+use brc_client::{Getting, Popping, Receiving, TakeBy, Taking};
 use std::alloc::Global;
 
 #[unsafe(no_mangle)]
@@ -26,7 +26,7 @@ pub extern "C" fn brc_list_pop(thread: &mut CThread, list: u64, value: &mut u64)
     ensures does { CarriesOut (Gives (GaveBy giving.Pop) list) thread.old.value thread.new.value result
         (Writes itself value.old value.new) }
 {
-    give_by(thread, list, GiveBy::Pop, value)
+    give_by(thread, list, Popping, value)
 }
 
 #[unsafe(no_mangle)]
@@ -35,7 +35,7 @@ pub extern "C" fn brc_list_take(thread: &mut CThread, list: u64, index: u32, val
     ensures does { CarriesOut (Gives (GaveBy (giving.Take index)) list) thread.old.value thread.new.value result
         (Writes itself value.old value.new) }
 {
-    give_by(thread, list, GiveBy::Take(index), value)
+    give_by(thread, list, Taking(index), value)
 }
 
 #[unsafe(no_mangle)]
@@ -44,7 +44,7 @@ pub extern "C" fn brc_list_get(thread: &mut CThread, list: u64, index: u32, valu
     ensures does { CarriesOut (Gives (GaveBy (giving.Get index)) list) thread.old.value thread.new.value result
         (Writes itself value.old value.new) }
 {
-    give_by(thread, list, GiveBy::Get(index), value)
+    give_by(thread, list, Getting(index), value)
 }
 
 #[unsafe(no_mangle)]
@@ -77,5 +77,5 @@ pub extern "C" fn brc_recv(thread: &mut CThread, mailbox: u64, value: &mut u64) 
     ensures does { CarriesOut (Gives (GaveBy giving.Receive) mailbox) thread.old.value thread.new.value result
         (Writes itself value.old value.new) }
 {
-    give_by(thread, mailbox, GiveBy::Receive, value)
+    give_by(thread, mailbox, Receiving, value)
 }

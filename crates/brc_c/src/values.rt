@@ -18,7 +18,7 @@ use crate::slots::CThread;
 use brc_client::{
     Datum, DeletingByInt, DeletingByText, FindingByInt, FindingByText, Getting, PairDatum, Popping,
     Pushing, PutsValue, PuttingAt, PuttingByInt, PuttingByText, Receiving, Sending, Setting,
-    Status, TakesOutValue, Taking, text_of,
+    Status, TakesOut, Taking, text_of,
 };
 use brc_words::Note;
 use std::alloc::Global;
@@ -124,7 +124,7 @@ fn write_came(made: Result<Option<Datum>, Status>, old: &mut CValue) -> u32
 }
 
 #[inline(always)]
-fn take_out_value_by<B: TakesOutValue>(
+fn take_out_value_by<B: TakesOut>(
     thread: &mut CThread,
     container: u64,
     by: B,

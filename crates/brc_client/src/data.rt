@@ -17,7 +17,7 @@ use crate::client::{Client, find, insert, lay};
 use crate::numbers::Numbers;
 use crate::put_value::PutsValue;
 use crate::status::Status;
-use crate::take_out_value::TakesOutValue;
+use crate::take_out::TakesOut;
 use brc_count::HandedBack;
 use brc_handles::Handles;
 use brc_things::{Pair, Value, try_dict_pair_value};
@@ -66,11 +66,7 @@ impl Client {
     /// refused (`try_take_out_value` of `by`), Busy first.
     #[tactic(auto, using(crate::proofs::Placed::owned, crate::proofs::Placed::vacant, crate::proofs::Placed::apart, crate::proofs::Placed::gained, crate::proofs::Placed::keeps, crate::proofs::Named::names_kept, crate::proofs::Named::names_given))]
     #[inline(always)]
-    pub fn take_out_value<B: TakesOutValue>(
-        &mut self,
-        container: u64,
-        by: B,
-    ) -> Result<Datum, Status>
+    pub fn take_out_value<B: TakesOut>(&mut self, container: u64, by: B) -> Result<Datum, Status>
         ensures gave { IfOk result (λ datum. OfNamed self.old container
             (λ object. AddsDatum (λ new. TookOutValueBy (B.call by) self.old.frame new object.place) self.old self.new datum)) }
         ensures refused { IfErr result

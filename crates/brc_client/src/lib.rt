@@ -19,19 +19,19 @@ mod numbers;
 mod owner;
 mod put_value;
 mod status;
-mod take_out_value;
+mod take_out;
 mod thread;
 mod told;
 
 pub use brc_heap::{Key, KeyRef, Kind, Ledger, RootCounts};
-pub use brc_places::{GiveBy, Make, TakeBy};
+pub use brc_places::{Make, TakeBy};
 pub use client::Client;
 pub use data::{Datum, PairDatum};
 pub use owner::{Left, Owner, copy_prefix};
 pub use put_value::{Pushing, PutsValue, PuttingAt, PuttingByInt, PuttingByText, Sending, Setting};
 pub use status::{Status, text_of};
-pub use take_out_value::{
+pub use take_out::{
     DeletingByInt, DeletingByText, FindingByInt, FindingByText, Getting, Popping, Receiving,
-    TakesOutValue, Taking,
+    TakesOut, Taking,
 };
 pub use thread::Thread;

@@ -11,8 +11,9 @@ ghost use Rattle.brc_client.specs.Calls.{OfNamed, ByHeap, RefusedOf, Adds, WithK
 use crate::client::{Client, find, insert};
 use crate::numbers::Numbers;
 use crate::status::Status;
+use crate::take_out::TakesOut;
 use brc_handles::Handles;
-use brc_places::{GiveBy, Make, TakeBy, make_by, try_give_by, try_take_at};
+use brc_places::{Make, TakeBy, make_by, try_take_at};
 use brc_things::try_dict_pair;
 use brc_words::Key;
 use std::alloc::Global;
@@ -48,21 +49,21 @@ impl Client {
     }
 
     /// The reference that the container gives by this call, under a number. Foreign, Stale; then as the call is refused
-    /// (`try_give_by` of `brc_places`), Busy first.
+    /// (`try_take_out` of `by`), Busy first.
     #[tactic(auto, using(crate::proofs::Placed::owned, crate::proofs::Placed::vacant, crate::proofs::Placed::apart, crate::proofs::Placed::gained, crate::proofs::Placed::keeps, crate::proofs::Named::names_kept, crate::proofs::Named::names_given))]
     #[inline(always)]
-    pub fn give(&mut self, container: u64, by: GiveBy<'_>) -> Result<u64, Status>
+    pub fn give<B: TakesOut>(&mut self, container: u64, by: B) -> Result<u64, Status>
         ensures gave { IfOk result (λ more. OfNamed self.old container
-            (λ object. Adds (λ new. GaveBy by.entry self.old.frame new object.place) self.old self.new more)) }
+            (λ object. Adds (λ new. GaveBy (B.call by) self.old.frame new object.place) self.old self.new more)) }
         ensures refused { IfErr result
-            (RefusedOf (λ k fault. GaveBy by.entry self.old.frame self.new.frame k (Err fault))
+            (RefusedOf (λ k fault. GaveBy (B.call by) self.old.frame self.new.frame k (Err fault))
             self.old self.new container) }
         ensures names { IfOk result (Names self.new) }
         ensures keeps { KeepsNames self.old self.new }
         ensures unchanged { OnErr result (KeepsNumbers self.old self.new) }
     {
         let object = find(&self.handles, &self.numbers, container)?;
-        match try_give_by(self.mutator.frame(), object, by) {
+        match by.try_take_out(self.mutator.frame(), object) {
             Ok(given) => Ok(insert(&mut self.handles, &self.numbers, given)),
             Err(fault) => Err(Status::Fault(fault)),
         }

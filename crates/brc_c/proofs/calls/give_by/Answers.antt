@@ -6,7 +6,7 @@ use Rattle.brc_c.proofs.Made.{works_at, left_at, same_at}
 use Rattle.brc_c.proofs.calls.give_by.Goals as goal
 
 pub returns-in-Some-clause-does : goal.returns-in-Some-clause-does
-returns-in-Some-clause-does c = record {
+returns-in-Some-clause-does g c = record {
   answer = c.give.result;
   made = IsMade c.in-Some.client.now c.give.new.self
       (works_at _ _ _ c.in-Some.ensures.value c.as_mut.ensures.value) refl
@@ -22,7 +22,7 @@ returns-in-Some-clause-does c = record {
 }
 
 pub returns-in-None-clause-does : goal.returns-in-None-clause-does
-returns-in-None-clause-does c = record {
+returns-in-None-clause-does g c = record {
   answer = Err statuses.Gone;
   made = HasLeft (left_at _ _ c.in-None.ensures.value c.as_mut.ensures.value) (same_at _ _ c.as_mut.ensures.value) refl;
   told = c.gone.ensures;

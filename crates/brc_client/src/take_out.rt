@@ -1,10 +1,11 @@
-//! What comes out of a container by value: as `put_value`, each call is a type.
+//! What comes out of a container, by value or as a reference: as in `put_value`, each call is a type.
 
 ghost use Rattle.std.specs.Prelude.{IfOk, IfErr, OnErr};
 ghost use Rattle.brc_count.specs.block.declared.key_ref.KeyRef.TheVariants as lent;
 ghost use Rattle.brc_count.specs.Frames.{IsUnlocked, Owns};
-ghost use Rattle.brc_count.specs.Owned.{Keeps};
+ghost use Rattle.brc_count.specs.Owned.{Keeps, Gains};
 ghost use Rattle.brc_things.specs.Values.{GainsValue};
+ghost use Rattle.brc_places.specs.Calls.{GaveBy};
 ghost use Rattle.brc_places.specs.Value_Calls.{TookOutValueBy};
 ghost use Rattle.brc_places.specs.declared.giving.GiveBy.{GiveBy};
 ghost use Rattle.brc_places.specs.declared.giving.GiveBy.TheVariants as gives;
@@ -13,19 +14,33 @@ use brc_count::block::KeyRef;
 use brc_count::{Frame, Handle};
 use brc_heap::Shared;
 use brc_things::{
-    Value, try_dict_del_value, try_dict_find_value, try_list_get_value, try_list_pop_value,
-    try_list_take_value, try_recv_value,
+    Value, try_dict_del_by, try_dict_del_value, try_dict_find_by, try_dict_find_value,
+    try_list_get, try_list_get_value, try_list_pop, try_list_pop_value, try_list_take,
+    try_list_take_value, try_recv, try_recv_value,
 };
 use brc_words::Fault;
 use std::alloc::Global;
 
-/// A call by which a container gives a value.
-pub trait TakesOutValue: Copy {
+/// A call by which a container gives what an entry has.
+pub trait TakesOut: Copy {
     // which call it is
     ghost call: { Self → GiveBy };
 
-    /// The value that the object gives by the call. It never waits: Busy, where another thread has the object locked, comes
-    /// first.
+    /// The reference that the object gives by the call. It never waits: Busy, where another thread has the object locked,
+    /// comes first.
+    fn try_take_out(
+        self,
+        frame: &mut Frame<Shared, Global>,
+        object: &Handle<Global>,
+    ) -> Result<Handle<Global>, Fault>
+        requires owned { Owns frame.old object.now }
+        requires unlocked { IsUnlocked frame.old }
+        ensures did { GaveBy (call self) frame.old frame.new object.now.place result }
+        ensures gains { IfOk result (Gains frame.old frame.new) }
+        ensures keeps { OnErr result (Keeps frame.old frame.new) }
+        ensures unlocked { IsUnlocked frame.new };
+
+    /// The value that the object gives so.
     fn try_take_out_value(
         self,
         frame: &mut Frame<Shared, Global>,
@@ -39,12 +54,21 @@ pub trait TakesOutValue: Copy {
         ensures unlocked { IsUnlocked frame.new };
 }
 
-/// `list_pop_value`: a list's last entry comes out.
+/// `list_pop`: a list's last entry comes out.
 #[derive(Clone, Copy, Debug, PartialEq, Eq)]
 pub struct Popping;
 
-impl TakesOutValue for Popping {
+impl TakesOut for Popping {
     ghost call = { λ _. gives.Pop };
+
+    #[inline(always)]
+    fn try_take_out(
+        self,
+        frame: &mut Frame<Shared, Global>,
+        object: &Handle<Global>,
+    ) -> Result<Handle<Global>, Fault> {
+        try_list_pop(frame, object)
+    }
 
     #[inline(always)]
     fn try_take_out_value(
@@ -56,12 +80,21 @@ impl TakesOutValue for Popping {
     }
 }
 
-/// `list_get_value`: the entry of a list at this index stays.
+/// `list_get`: the entry of a list at this index stays.
 #[derive(Clone, Copy, Debug, PartialEq, Eq)]
 pub struct Getting(pub u32);
 
-impl TakesOutValue for Getting {
+impl TakesOut for Getting {
     ghost call = { λ by. gives.Get by.0 };
+
+    #[inline(always)]
+    fn try_take_out(
+        self,
+        frame: &mut Frame<Shared, Global>,
+        object: &Handle<Global>,
+    ) -> Result<Handle<Global>, Fault> {
+        try_list_get(frame, object, self.0)
+    }
 
     #[inline(always)]
     fn try_take_out_value(
@@ -73,12 +106,21 @@ impl TakesOutValue for Getting {
     }
 }
 
-/// `list_take_value`: it comes out, and later ones close up.
+/// `list_take`: it comes out, and later ones close up.
 #[derive(Clone, Copy, Debug, PartialEq, Eq)]
 pub struct Taking(pub u32);
 
-impl TakesOutValue for Taking {
+impl TakesOut for Taking {
     ghost call = { λ by. gives.Take by.0 };
+
+    #[inline(always)]
+    fn try_take_out(
+        self,
+        frame: &mut Frame<Shared, Global>,
+        object: &Handle<Global>,
+    ) -> Result<Handle<Global>, Fault> {
+        try_list_take(frame, object, self.0)
+    }
 
     #[inline(always)]
     fn try_take_out_value(
@@ -90,12 +132,21 @@ impl TakesOutValue for Taking {
     }
 }
 
-/// `recv_value`: a mailbox's first letter comes out.
+/// `recv`: a mailbox's first letter comes out.
 #[derive(Clone, Copy, Debug, PartialEq, Eq)]
 pub struct Receiving;
 
-impl TakesOutValue for Receiving {
+impl TakesOut for Receiving {
     ghost call = { λ _. gives.Receive };
+
+    #[inline(always)]
+    fn try_take_out(
+        self,
+        frame: &mut Frame<Shared, Global>,
+        object: &Handle<Global>,
+    ) -> Result<Handle<Global>, Fault> {
+        try_recv(frame, object)
+    }
 
     #[inline(always)]
     fn try_take_out_value(
@@ -107,12 +158,21 @@ impl TakesOutValue for Receiving {
     }
 }
 
-/// `dict_find_value`: a dictionary's value beside this integer stays.
+/// `dict_find`: a dictionary's value beside this integer stays.
 #[derive(Clone, Copy, Debug, PartialEq, Eq)]
 pub struct FindingByInt(pub i64);
 
-impl TakesOutValue for FindingByInt {
+impl TakesOut for FindingByInt {
     ghost call = { λ by. gives.Find (lent.Int by.0) };
+
+    #[inline(always)]
+    fn try_take_out(
+        self,
+        frame: &mut Frame<Shared, Global>,
+        object: &Handle<Global>,
+    ) -> Result<Handle<Global>, Fault> {
+        try_dict_find_by(frame, object, KeyRef::Int(self.0))
+    }
 
     #[inline(always)]
     fn try_take_out_value(
@@ -128,8 +188,17 @@ impl TakesOutValue for FindingByInt {
 #[derive(Clone, Copy, Debug, PartialEq, Eq)]
 pub struct FindingByText<'k>(pub &'k str);
 
-impl<'k> TakesOutValue for FindingByText<'k> {
+impl<'k> TakesOut for FindingByText<'k> {
     ghost call = { λ by. gives.Find (lent.Text by.0) };
+
+    #[inline(always)]
+    fn try_take_out(
+        self,
+        frame: &mut Frame<Shared, Global>,
+        object: &Handle<Global>,
+    ) -> Result<Handle<Global>, Fault> {
+        try_dict_find_by(frame, object, KeyRef::Text(self.0))
+    }
 
     #[inline(always)]
     fn try_take_out_value(
@@ -141,12 +210,21 @@ impl<'k> TakesOutValue for FindingByText<'k> {
     }
 }
 
-/// `dict_del_value`: a dictionary's value beside this integer comes out, and its pair goes.
+/// `dict_del`: a dictionary's value beside this integer comes out, and its pair goes.
 #[derive(Clone, Copy, Debug, PartialEq, Eq)]
 pub struct DeletingByInt(pub i64);
 
-impl TakesOutValue for DeletingByInt {
+impl TakesOut for DeletingByInt {
     ghost call = { λ by. gives.Delete (lent.Int by.0) };
+
+    #[inline(always)]
+    fn try_take_out(
+        self,
+        frame: &mut Frame<Shared, Global>,
+        object: &Handle<Global>,
+    ) -> Result<Handle<Global>, Fault> {
+        try_dict_del_by(frame, object, KeyRef::Int(self.0))
+    }
 
     #[inline(always)]
     fn try_take_out_value(
@@ -162,8 +240,17 @@ impl TakesOutValue for DeletingByInt {
 #[derive(Clone, Copy, Debug, PartialEq, Eq)]
 pub struct DeletingByText<'k>(pub &'k str);
 
-impl<'k> TakesOutValue for DeletingByText<'k> {
+impl<'k> TakesOut for DeletingByText<'k> {
     ghost call = { λ by. gives.Delete (lent.Text by.0) };
+
+    #[inline(always)]
+    fn try_take_out(
+        self,
+        frame: &mut Frame<Shared, Global>,
+        object: &Handle<Global>,
+    ) -> Result<Handle<Global>, Fault> {
+        try_dict_del_by(frame, object, KeyRef::Text(self.0))
+    }
 
     #[inline(always)]
     fn try_take_out_value(
