@@ -7,7 +7,7 @@ ghost use Rattle.brc_c.specs.Exports.{CarriesOut, Writes, WritesNothing, itself,
 
 use crate::outs::{gone, status_of_taking, write, write_old};
 use crate::slots::CThread;
-use brc_client::{Make, TakeBy, TakesOut};
+use brc_client::{Make, Outward, TakeBy};
 use std::alloc::Global;
 
 /// What is made has a number, which is written.
@@ -25,7 +25,7 @@ pub(crate) fn make_by(alloc: Global, thread: &mut CThread, by: Make<'_>, made: &
 
 /// What a container gives has a number, which is written.
 #[inline(always)]
-pub(crate) fn give_by<B: TakesOut>(
+pub(crate) fn give_by<B: Outward>(
     thread: &mut CThread,
     container: u64,
     by: B,

@@ -13,7 +13,8 @@ use crate::calls::{exchange_by, give_by};
 use crate::outs::{gone, write, write_old};
 use crate::slots::CThread;
 use brc_client::{
-    DeletingByInt, DeletingByText, FindingByInt, FindingByText, KeyRef, TakeBy, copy_prefix, text_of,
+    DeletingByInt, DeletingByText, FindingByInt, FindingByText, KeyRef, TakeBy, copy_prefix,
+    text_of,
 };
 use brc_words::Key;
 use std::alloc::Global;

@@ -16,9 +16,9 @@ use crate::dicts::{CKey, write_key};
 use crate::outs::{gone, status_of_taking};
 use crate::slots::CThread;
 use brc_client::{
-    Datum, DeletingByInt, DeletingByText, FindingByInt, FindingByText, Getting, PairDatum, Popping,
-    Pushing, PutsValue, PuttingAt, PuttingByInt, PuttingByText, Receiving, Sending, Setting,
-    Status, TakesOut, Taking, text_of,
+    Datum, DeletingByInt, DeletingByText, FindingByInt, FindingByText, Getting, Inward, Outward,
+    PairDatum, Popping, Pushing, PuttingAt, PuttingByInt, PuttingByText, Receiving, Sending,
+    Setting, Status, Taking, text_of,
 };
 use brc_words::Note;
 use std::alloc::Global;
@@ -124,7 +124,7 @@ fn write_came(made: Result<Option<Datum>, Status>, old: &mut CValue) -> u32
 }
 
 #[inline(always)]
-fn take_out_value_by<B: TakesOut>(
+fn take_out_value_by<B: Outward>(
     thread: &mut CThread,
     container: u64,
     by: B,
@@ -142,7 +142,7 @@ fn take_out_value_by<B: TakesOut>(
 
 /// A value goes in, and nothing comes out for it.
 #[inline(always)]
-fn put_value_by<B: PutsValue>(
+fn put_value_by<B: Inward>(
     alloc: Global,
     thread: &mut CThread,
     container: u64,
@@ -163,7 +163,7 @@ fn put_value_by<B: PutsValue>(
 }
 
 #[inline(always)]
-fn exchange_value_by<B: PutsValue>(
+fn exchange_value_by<B: Inward>(
     alloc: Global,
     thread: &mut CThread,
     container: u64,

@@ -15,9 +15,9 @@ ghost use Rattle.brc_client.specs.declared.data.Datum.TheVariants as datums;
 
 use crate::client::{Client, find, insert, lay};
 use crate::numbers::Numbers;
-use crate::put_value::PutsValue;
+use crate::put_value::Inward;
 use crate::status::Status;
-use crate::take_out::TakesOut;
+use crate::take_out::Outward;
 use brc_count::HandedBack;
 use brc_handles::Handles;
 use brc_things::{Pair, Value, try_dict_pair_value};
@@ -66,7 +66,7 @@ impl Client {
     /// refused (`try_take_out_value` of `by`), Busy first.
     #[tactic(auto, using(crate::proofs::Placed::owned, crate::proofs::Placed::vacant, crate::proofs::Placed::apart, crate::proofs::Placed::gained, crate::proofs::Placed::keeps, crate::proofs::Named::names_kept, crate::proofs::Named::names_given))]
     #[inline(always)]
-    pub fn take_out_value<B: TakesOut>(&mut self, container: u64, by: B) -> Result<Datum, Status>
+    pub fn take_out_value<B: Outward>(&mut self, container: u64, by: B) -> Result<Datum, Status>
         ensures gave { IfOk result (λ datum. OfNamed self.old container
             (λ object. AddsDatum (λ new. TookOutValueBy (B.call by) self.old.frame new object.place) self.old self.new datum)) }
         ensures refused { IfErr result
@@ -128,7 +128,7 @@ impl Client {
     /// OutOfMemory for a handle to None, which the first such call makes; then as the call is refused
     /// (`try_put_value` of `by`), Busy first: then an object has its number still.
     #[inline(always)]
-    pub fn put_value<B: PutsValue>(
+    pub fn put_value<B: Inward>(
         &mut self,
         alloc: Global,
         container: u64,
@@ -206,7 +206,7 @@ impl Client {
 
     /// As `put_value`, of a scalar.
     #[inline(always)]
-    fn put_scalar<B: PutsValue>(
+    fn put_scalar<B: Inward>(
         &mut self,
         alloc: Global,
         container: u64,
@@ -241,7 +241,7 @@ impl Client {
 
     /// As `put_value`, of an object.
     #[inline(always)]
-    fn put_object<B: PutsValue>(
+    fn put_object<B: Inward>(
         &mut self,
         alloc: Global,
         container: u64,

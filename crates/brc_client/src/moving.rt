@@ -11,7 +11,7 @@ ghost use Rattle.brc_client.specs.Calls.{OfNamed, ByHeap, RefusedOf, Adds, WithK
 use crate::client::{Client, find, insert};
 use crate::numbers::Numbers;
 use crate::status::Status;
-use crate::take_out::TakesOut;
+use crate::take_out::Outward;
 use brc_handles::Handles;
 use brc_places::{Make, TakeBy, make_by, try_take_at};
 use brc_things::try_dict_pair;
@@ -52,7 +52,7 @@ impl Client {
     /// (`try_take_out` of `by`), Busy first.
     #[tactic(auto, using(crate::proofs::Placed::owned, crate::proofs::Placed::vacant, crate::proofs::Placed::apart, crate::proofs::Placed::gained, crate::proofs::Placed::keeps, crate::proofs::Named::names_kept, crate::proofs::Named::names_given))]
     #[inline(always)]
-    pub fn give<B: TakesOut>(&mut self, container: u64, by: B) -> Result<u64, Status>
+    pub fn give<B: Outward>(&mut self, container: u64, by: B) -> Result<u64, Status>
         ensures gave { IfOk result (λ more. OfNamed self.old container
             (λ object. Adds (λ new. GaveBy (B.call by) self.old.frame new object.place) self.old self.new more)) }
         ensures refused { IfErr result

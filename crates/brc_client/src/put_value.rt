@@ -20,7 +20,7 @@ use brc_things::{
 use std::alloc::Global;
 
 /// A call by which a container takes a value, and gives what was there, if anything was.
-pub trait PutsValue: Copy {
+pub trait Inward: Copy {
     // which call it is
     ghost call: { Self → PutBy };
 
@@ -54,7 +54,7 @@ pub trait PutsValue: Copy {
 #[derive(Clone, Copy, Debug, PartialEq, Eq)]
 pub struct Pushing;
 
-impl PutsValue for Pushing {
+impl Inward for Pushing {
     ghost call = { λ _. puts.Push };
 
     #[inline(always)]
@@ -77,7 +77,7 @@ impl PutsValue for Pushing {
 #[derive(Clone, Copy, Debug, PartialEq, Eq)]
 pub struct Setting(pub u32);
 
-impl PutsValue for Setting {
+impl Inward for Setting {
     ghost call = { λ by. puts.Set by.0 };
 
     #[inline(always)]
@@ -100,7 +100,7 @@ impl PutsValue for Setting {
 #[derive(Clone, Copy, Debug, PartialEq, Eq)]
 pub struct PuttingAt(pub u32);
 
-impl PutsValue for PuttingAt {
+impl Inward for PuttingAt {
     ghost call = { λ by. puts.PutAt by.0 };
 
     #[inline(always)]
@@ -120,7 +120,7 @@ impl PutsValue for PuttingAt {
 #[derive(Clone, Copy, Debug, PartialEq, Eq)]
 pub struct Sending;
 
-impl PutsValue for Sending {
+impl Inward for Sending {
     ghost call = { λ _. puts.Send };
 
     #[inline(always)]
@@ -143,7 +143,7 @@ impl PutsValue for Sending {
 #[derive(Clone, Copy, Debug, PartialEq, Eq)]
 pub struct PuttingByInt(pub i64);
 
-impl PutsValue for PuttingByInt {
+impl Inward for PuttingByInt {
     ghost call = { λ by. puts.Put (lent.Int by.0) };
 
     #[inline(always)]
@@ -163,7 +163,7 @@ impl PutsValue for PuttingByInt {
 #[derive(Clone, Copy, Debug, PartialEq, Eq)]
 pub struct PuttingByText<'k>(pub &'k str);
 
-impl<'k> PutsValue for PuttingByText<'k> {
+impl<'k> Inward for PuttingByText<'k> {
     ghost call = { λ by. puts.Put (lent.Text by.0) };
 
     #[inline(always)]

@@ -22,7 +22,7 @@ use brc_words::Fault;
 use std::alloc::Global;
 
 /// A call by which a container gives what an entry has.
-pub trait TakesOut: Copy {
+pub trait Outward: Copy {
     // which call it is
     ghost call: { Self → GiveBy };
 
@@ -58,7 +58,7 @@ pub trait TakesOut: Copy {
 #[derive(Clone, Copy, Debug, PartialEq, Eq)]
 pub struct Popping;
 
-impl TakesOut for Popping {
+impl Outward for Popping {
     ghost call = { λ _. gives.Pop };
 
     #[inline(always)]
@@ -84,7 +84,7 @@ impl TakesOut for Popping {
 #[derive(Clone, Copy, Debug, PartialEq, Eq)]
 pub struct Getting(pub u32);
 
-impl TakesOut for Getting {
+impl Outward for Getting {
     ghost call = { λ by. gives.Get by.0 };
 
     #[inline(always)]
@@ -110,7 +110,7 @@ impl TakesOut for Getting {
 #[derive(Clone, Copy, Debug, PartialEq, Eq)]
 pub struct Taking(pub u32);
 
-impl TakesOut for Taking {
+impl Outward for Taking {
     ghost call = { λ by. gives.Take by.0 };
 
     #[inline(always)]
@@ -136,7 +136,7 @@ impl TakesOut for Taking {
 #[derive(Clone, Copy, Debug, PartialEq, Eq)]
 pub struct Receiving;
 
-impl TakesOut for Receiving {
+impl Outward for Receiving {
     ghost call = { λ _. gives.Receive };
 
     #[inline(always)]
@@ -162,7 +162,7 @@ impl TakesOut for Receiving {
 #[derive(Clone, Copy, Debug, PartialEq, Eq)]
 pub struct FindingByInt(pub i64);
 
-impl TakesOut for FindingByInt {
+impl Outward for FindingByInt {
     ghost call = { λ by. gives.Find (lent.Int by.0) };
 
     #[inline(always)]
@@ -188,7 +188,7 @@ impl TakesOut for FindingByInt {
 #[derive(Clone, Copy, Debug, PartialEq, Eq)]
 pub struct FindingByText<'k>(pub &'k str);
 
-impl<'k> TakesOut for FindingByText<'k> {
+impl<'k> Outward for FindingByText<'k> {
     ghost call = { λ by. gives.Find (lent.Text by.0) };
 
     #[inline(always)]
@@ -214,7 +214,7 @@ impl<'k> TakesOut for FindingByText<'k> {
 #[derive(Clone, Copy, Debug, PartialEq, Eq)]
 pub struct DeletingByInt(pub i64);
 
-impl TakesOut for DeletingByInt {
+impl Outward for DeletingByInt {
     ghost call = { λ by. gives.Delete (lent.Int by.0) };
 
     #[inline(always)]
@@ -240,7 +240,7 @@ impl TakesOut for DeletingByInt {
 #[derive(Clone, Copy, Debug, PartialEq, Eq)]
 pub struct DeletingByText<'k>(pub &'k str);
 
-impl<'k> TakesOut for DeletingByText<'k> {
+impl<'k> Outward for DeletingByText<'k> {
     ghost call = { λ by. gives.Delete (lent.Text by.0) };
 
     #[inline(always)]

@@ -29,7 +29,7 @@ returns-then-into-from-clause-refused g c =
 pub returns-in_err-ready_none-clause-refused : goal.returns-in_err-ready_none-clause-refused
 returns-in_err-ready_none-clause-refused g c =
     let p = err_from_is_err_and c.from_residual-in_err-ready_none.result c.from_residual-in_err-ready_none.ensures.1 in
-    rw (p.1, p.2) (none_wanting (PutValueBy (g.B.PutsValue.call c.args.by)) _ _ c.args.container _ _ c.in_err-ready_none.ensures.refused)
+    rw (p.1, p.2) (none_wanting (PutValueBy (g.B.Inward.call c.args.by)) _ _ c.args.container _ _ c.in_err-ready_none.ensures.refused)
 
 pub number_came-requires-clause-loose : goal.number_came-requires-clause-loose
 number_came-requires-clause-loose g c =
@@ -38,7 +38,7 @@ number_came-requires-clause-loose g c =
     (sym c.in-Some.ensures.taken) c.take.ensures.set c.in-Some.ensures.comes in
     let did = rw c.frame.ensures.frame at c.in-Ok.ensures.did in
     object_loose _ c.take.new.self c.in-Some-none.none c.try_put_value.new.none c.in-Some.given c.args.note c.in-Ok.came
-    has (came_under (g.B.PutsValue.call c.args.by) _ _ _ _ _ _ c.in-Ok.came did)
+    has (came_under (g.B.Inward.call c.args.by) _ _ _ _ _ _ c.in-Ok.came did)
 
 pub invariant_of-self : goal.invariant_of-self
 invariant_of-self g c =
@@ -49,7 +49,7 @@ invariant_of-self g c =
     let owns = rw c.frame.ensures.frame at c.in-Ok.ensures.owns in
     object_put _ _ c.take.new.self c.number_came.new.handles c.spend.new.self c.in-Some-none.none
     c.try_put_value.new.none c.in-Some.given c.args.note c.in-Ok.came c.number_came.result has
-    (came_under (g.B.PutsValue.call c.args.by) _ _ _ _ _ _ c.in-Ok.came did) owns c.in-Ok.ensures.unlocked c.number_came.ensures.back
+    (came_under (g.B.Inward.call c.args.by) _ _ _ _ _ _ c.in-Ok.came did) owns c.in-Ok.ensures.unlocked c.number_came.ensures.back
     c.number_came.ensures.lies
 
 pub invariant_of-self-in-Err-Object : goal.invariant_of-self-in-Err-Object
@@ -82,7 +82,7 @@ returns-in-Ok-clause-took g c =
     c.in_ok-from.ensures.named there in
     let apart = λ (one : c.args.container ≡ c.args.value). c.if-into-from.false
     (c.in_ok-into.ensures.place ∙ ap place_in one ∙ sym c.in_ok-from.ensures.place) in
-    object_puts (PutValueBy (g.B.PutsValue.call c.args.by)) c.args.self.now _ _ c.args.container c.args.value c.in_ok-from.from
+    object_puts (PutValueBy (g.B.Inward.call c.args.by)) c.args.self.now _ _ c.args.container c.args.value c.in_ok-from.from
     c.in-Some-at.object.now c.in-Some.given c.in-Some-none.none c.try_put_value.new.none c.args.note c.in-Ok.came
     c.number_came.result made c.in-Some-none.is handles numbers object given apart c.in_ok-from.ensures.place refl
     (record { uses = c.spend.ensures.uses; stamp = c.spend.ensures.stamp; of = c.spend.ensures.of }) did
@@ -96,7 +96,7 @@ returns-in-Ok-clause-spent g c =
     let home = c.self.invariant.lies c.in_ok-from.from c.in-Some.given (sym c.in-Some.ensures.taken) in
     object_spends c.args.self.now _ c.self.inside.handles c.self.inside.numbers c.args.value c.in_ok-from.from c.in-Some-none.none c.try_put_value.new.none
     c.in-Some.given c.args.note c.in-Ok.came c.number_came.result c.in_ok-from.ensures.place c.in_ok-from.ensures.named home
-    (came_under (g.B.PutsValue.call c.args.by) _ _ _ _ _ _ c.in-Ok.came did) (rw c.take.ensures.set at c.number_came.ensures.back) handles numbers
+    (came_under (g.B.Inward.call c.args.by) _ _ _ _ _ _ c.in-Ok.came did) (rw c.take.ensures.set at c.number_came.ensures.back) handles numbers
     c.spend.ensures.spent c.spend.ensures.others
 
 pub returns-in-Err-Object-clause-refused : goal.returns-in-Err-Object-clause-refused
@@ -115,7 +115,7 @@ returns-in-Err-Object-clause-refused g c =
     c.in_ok-from.ensures.named there in
     let apart = λ (one : c.args.container ≡ c.args.value). c.if-into-from.false
     (c.in_ok-into.ensures.place ∙ ap place_in one ∙ sym c.in_ok-from.ensures.place) in
-    heap_refused (PutValueBy (g.B.PutsValue.call c.args.by)) c.args.self.now _ _ c.args.container _ c.in-Some-at.object.now c.in-Some-none.none
+    heap_refused (PutValueBy (g.B.Inward.call c.args.by)) c.args.self.now _ _ c.args.container _ c.in-Some-at.object.now c.in-Some-none.none
     c.try_put_value.new.none _ c.in-Err-Object.field-0 made c.in-Some-none.is object refl c.in-Err-Object.ensures.same
     (c.in-Some.given, given, apart, refl) c.in-Err-Object.ensures.back did
 

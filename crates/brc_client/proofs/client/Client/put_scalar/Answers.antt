@@ -10,14 +10,14 @@ use Rattle.brc_client.proofs.client.Client.put_scalar.Goals as goal
 pub returns-in_err-ready_none-clause-refused : goal.returns-in_err-ready_none-clause-refused
 returns-in_err-ready_none-clause-refused g c =
     let p = err_from_is_err_and c.from_residual.result c.from_residual.ensures.1 in
-    rw (p.1, p.2) (none_wanting (PutValueBy (g.B.PutsValue.call c.args.by)) _ _ c.args.container _ _ c.in_err-ready_none.ensures.refused)
+    rw (p.1, p.2) (none_wanting (PutValueBy (g.B.Inward.call c.args.by)) _ _ c.args.container _ _ c.in_err-ready_none.ensures.refused)
 
 pub returns-in_err-object-clause-refused : goal.returns-in_err-object-clause-refused
 returns-in_err-object-clause-refused g c =
     let p = err_from_is_err_and c.from_residual-in_err-object.result c.from_residual-in_err-object.ensures.1 in
     let handles = ap (λ (s : ClientSeen). s.handles) c.self.view_is ∙ c.ready_none.ensures.handles in
     let numbers = ap (λ (s : ClientSeen). s.numbers) c.self.view_is ∙ c.ready_none.ensures.numbers in
-    rw (p.1, p.2) (none_found (PutValueBy (g.B.PutsValue.call c.args.by)) c.args.self.now c.ready_none.new.self c.self.inside.handles
+    rw (p.1, p.2) (none_found (PutValueBy (g.B.Inward.call c.args.by)) c.args.self.now c.ready_none.new.self c.self.inside.handles
     c.self.inside.numbers c.args.container _ _ c.in_ok-ready_none.ensures.named handles numbers
     c.in_err-object.ensures.refused)
 
@@ -26,7 +26,7 @@ number_came-requires-clause-loose g c =
     let did = rw c.frame.ensures.frame at c.in-Ok.ensures.did in
     let client = rw c.in-Some.is at c.self.invariant in
     scalar_loose _ c.self.inside.handles c.in-Some.none c.try_put_value.new.none c.args.note c.in-Ok.came client
-    (came_under (g.B.PutsValue.call c.args.by) _ _ _ _ _ _ c.in-Ok.came did)
+    (came_under (g.B.Inward.call c.args.by) _ _ _ _ _ _ c.in-Ok.came did)
 
 pub invariant_of-self : goal.invariant_of-self
 invariant_of-self g c =
@@ -35,7 +35,7 @@ invariant_of-self g c =
     let client = rw c.in-Some.is at c.self.invariant in
     scalar_put _ _ c.self.inside.handles c.number_came.new.handles c.self.inside.numbers c.in-Some.none
     c.try_put_value.new.none c.args.note c.in-Ok.came c.number_came.result client
-    (came_under (g.B.PutsValue.call c.args.by) _ _ _ _ _ _ c.in-Ok.came did) owns c.in-Ok.ensures.unlocked c.number_came.ensures.back
+    (came_under (g.B.Inward.call c.args.by) _ _ _ _ _ _ c.in-Ok.came did) owns c.in-Ok.ensures.unlocked c.number_came.ensures.back
     c.number_came.ensures.lies
 
 pub returns-in-Ok-clause-took : goal.returns-in-Ok-clause-took
@@ -45,7 +45,7 @@ returns-in-Ok-clause-took g c =
     let handles = ap (λ (s : ClientSeen). s.handles) c.self.view_is ∙ c.ready_none.ensures.handles in
     let numbers = ap (λ (s : ClientSeen). s.numbers) c.self.view_is ∙ c.ready_none.ensures.numbers in
     let did = rw c.frame.ensures.frame at c.in-Ok.ensures.did in
-    scalar_puts (PutValueBy (g.B.PutsValue.call c.args.by)) c.args.self.now _ _ c.args.container c.in_ok-object.object.now c.in-Some.none
+    scalar_puts (PutValueBy (g.B.Inward.call c.args.by)) c.args.self.now _ _ c.args.container c.in_ok-object.object.now c.in-Some.none
     c.try_put_value.new.none c.args.note c.in-Ok.came c.number_came.result made c.in-Some.is handles numbers
     c.in_ok-object.ensures.named refl refl did c.number_came.ensures.back
 
@@ -57,7 +57,7 @@ returns-in-Ok-clause-spent g c =
     let client = rw c.in-Some.is at c.self.invariant in
     scalar_keeps _ c.args.self.now c.self.inside.handles c.number_came.new.handles c.self.inside.numbers
     c.self.inside.numbers c.in-Some.none c.try_put_value.new.none c.args.note c.in-Ok.came
-    c.number_came.result client (came_under (g.B.PutsValue.call c.args.by) _ _ _ _ _ _ c.in-Ok.came did) c.number_came.ensures.back handles
+    c.number_came.result client (came_under (g.B.Inward.call c.args.by) _ _ _ _ _ _ c.in-Ok.came did) c.number_came.ensures.back handles
     numbers refl
 
 pub returns-in-Err-Scalar-clause-refused : goal.returns-in-Err-Scalar-clause-refused
@@ -68,6 +68,6 @@ returns-in-Err-Scalar-clause-refused g c =
     let numbers = ap (λ (s : ClientSeen). s.numbers) c.self.view_is ∙ c.ready_none.ensures.numbers in
     let names = rw (handles, numbers) at c.in_ok-object.ensures.named in
     let did = rw c.frame.ensures.frame at c.in-Err-Scalar.ensures.did in
-    heap_refused (PutValueBy (g.B.PutsValue.call c.args.by)) c.args.self.now _ _ c.args.container _ c.in_ok-object.object.now c.in-Some.none
+    heap_refused (PutValueBy (g.B.Inward.call c.args.by)) c.args.self.now _ _ c.args.container _ c.in_ok-object.object.now c.in-Some.none
     c.try_put_value.new.none _ c.in-Err-Scalar.field-0 made c.in-Some.is names refl c.in-Err-Scalar.ensures.same refl
     c.in-Err-Scalar.ensures.back did

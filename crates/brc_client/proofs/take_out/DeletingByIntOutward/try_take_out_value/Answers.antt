@@ -3,7 +3,7 @@ use Rattle.std.proofs.lemmas.Int.{to_z-of_z}
 use Rattle.brc_count.specs.block.declared.key_ref.KeyRef.TheVariants as lent
 use Rattle.brc_places.specs.Value_Calls.{TookOutValueBy}
 use Rattle.brc_places.specs.declared.giving.GiveBy.TheVariants as gives
-use Rattle.brc_client.proofs.take_out.DeletingByIntTakesOut.try_take_out_value.Goals as goal
+use Rattle.brc_client.proofs.take_out.DeletingByIntOutward.try_take_out_value.Goals as goal
 
 pub returns-clause-did : goal.returns-clause-did
 returns-clause-did c =
