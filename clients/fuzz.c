@@ -40,7 +40,7 @@ enum { MOST_HELD = 200, MOST_OLD = 64, WORKERS = 4, STATUSES = 80, UNWRITTEN = 0
 
 typedef enum {
     RELEASE, PUSH, SEND, POLL, WORK, LEN_OF, INT_OF, KIND_OF, TRUTH_OF, SAME, IDENTITY, TEXT_OF, SET, LEDGER, CLAIM, LEAVE,
-    RELEASE_ALL, PUSH_VALUE, SEND_VALUE,
+    RELEASE_ALL, HAS_INT, HAS_TEXT, PLACE_INT, PLACE_TEXT, PUSH_VALUE, SEND_VALUE,
     /* from here on a call hands out a reference more */
     RETAIN, NONE, TRUTH, GLOBALS, NEW_INT, NEW_TEXT, NEW_LIST, NEW_DICT, NEW_MAILBOX, POP, TAKE, GET, RECV, PUT_INT, FIND_INT,
     DEL_INT, PUT_TEXT, FIND_TEXT, DEL_TEXT, PAIR,
@@ -81,6 +81,10 @@ static const struct { int weight, numbers; uint64_t statuses; } ABOUT[CALLS] = {
     [CLAIM] = {1, 0, GIVEN},
     [LEAVE] = {1, 0, GIVEN | S(BRC_NOT_IDLE) | S(BRC_BUSY) | S(BRC_OUT_OF_MEMORY)},
     [RELEASE_ALL] = {1, 0, GIVEN},
+    [HAS_INT] = {1, 1, OBJECT},
+    [HAS_TEXT] = {1, 1, OBJECT | S(BRC_NOT_TEXT)},
+    [PLACE_INT] = {1, 1, OBJECT | S(BRC_NO_SUCH_KEY)},
+    [PLACE_TEXT] = {1, 1, OBJECT | S(BRC_NOT_TEXT) | S(BRC_NO_SUCH_KEY)},
     [PUSH_VALUE] = {4, 2, VALUE | S(BRC_FULL)},
     [SEND_VALUE] = {4, 2, VALUE | S(BRC_FULL)},
     [RETAIN] = {2, 1, NUMBER | PLACE},
@@ -251,6 +255,7 @@ static brc_kind kind_for(call_t call) {
     case PUSH_VALUE: case POP_VALUE: case TAKE_VALUE: case GET_VALUE: case SET_VALUE: case PUT_VALUE: return BRC_LIST;
     case SEND: case RECV: case SEND_VALUE: case RECV_VALUE: return BRC_MAILBOX;
     case PUT_INT: case FIND_INT: case DEL_INT: case PUT_TEXT: case FIND_TEXT: case DEL_TEXT: case PAIR:
+    case HAS_INT: case HAS_TEXT: case PLACE_INT: case PLACE_TEXT:
     case PUT_INT_VALUE: case FIND_INT_VALUE: case DEL_INT_VALUE: case PUT_TEXT_VALUE: case FIND_TEXT_VALUE:
     case DEL_TEXT_VALUE: case PAIR_VALUE: return BRC_DICT;
     default: return 0;
@@ -323,6 +328,10 @@ static brc_status make_call(worker_t *w, call_t call, const inputs_t *in, outs_t
     case FIND_TEXT: return brc_dict_find_text(t, one, in->bytes, in->len, &out->ref);
     case DEL_TEXT: return brc_dict_del_text(t, one, in->bytes, in->len, &out->ref);
     case PAIR: return brc_dict_pair(t, one, in->index, &out->key, out->text, in->room, &out->ref);
+    case HAS_INT: return brc_dict_has_int(t, one, in->key, &out->word);
+    case HAS_TEXT: return brc_dict_has_text(t, one, in->bytes, in->len, &out->word);
+    case PLACE_INT: return brc_dict_place_int(t, one, in->key, &out->word);
+    case PLACE_TEXT: return brc_dict_place_text(t, one, in->bytes, in->len, &out->word);
     case RELEASE_ALL: return brc_release_all(t);
     case PUSH_VALUE: return brc_list_push_value(t, one, in->put);
     case SEND_VALUE: return brc_send_value(t, one, in->put);
@@ -346,7 +355,7 @@ static brc_status make_call(worker_t *w, call_t call, const inputs_t *in, outs_t
 
 static int has_bytes(call_t call) {
     return call == NEW_TEXT || call == PUT_TEXT || call == FIND_TEXT || call == DEL_TEXT || call == PUT_TEXT_VALUE ||
-           call == FIND_TEXT_VALUE || call == DEL_TEXT_VALUE;
+           call == FIND_TEXT_VALUE || call == DEL_TEXT_VALUE || call == HAS_TEXT || call == PLACE_TEXT;
 }
 
 static int puts_a_value(call_t call) {

@@ -25,7 +25,7 @@
 #include <time.h>
 #include "brc.h"
 
-enum { REFERENCES = 65536, ENTRIES = 1048576, MOST_THREADS = 64, CALLS = 62 };
+enum { REFERENCES = 65536, ENTRIES = 1048576, MOST_THREADS = 64, CALLS = 66 };
 enum { LABEL = 77, UNWRITTEN = 0xa5, DEAD_ENTRIES = 100000, TRIES = 10000000, SECONDS = 60 };
 
 /* ---- What is said */
@@ -202,7 +202,7 @@ static void hold(hold_t *h, brc_thread *thread, brc_kind kind, brc_ref object) {
 typedef enum {
     RETAIN, RELEASE, SAME, IDENTITY, NOTHING, TRUTH, GLOBALS, NEW_INT, NEW_SMALL, NEW_TEXT, NEW_LIST, NEW_DICT, NEW_MAILBOX,
     KIND_OF, LEN_OF, INT_OF, TRUTH_OF, TEXT_OF, PUSH, POP, TAKE, GET, SET, SEND, RECV, PUT_INT, PUT_TEXT, FIND_INT, FIND_TEXT, DEL_INT,
-    DEL_TEXT, PAIR, LEDGER, RELEASE_ALL, CLAIM, POLL, WORK, COUNT, PUSH_VALUE, POP_VALUE, TAKE_VALUE, GET_VALUE, SET_VALUE,
+    DEL_TEXT, PAIR, HAS_INT, HAS_TEXT, PLACE_INT, PLACE_TEXT, LEDGER, RELEASE_ALL, CLAIM, POLL, WORK, COUNT, PUSH_VALUE, POP_VALUE, TAKE_VALUE, GET_VALUE, SET_VALUE,
     PUT_VALUE, SEND_VALUE, RECV_VALUE, PUT_INT_VALUE, PUT_TEXT_VALUE, FIND_INT_VALUE, FIND_TEXT_VALUE, DEL_INT_VALUE,
     DEL_TEXT_VALUE, PAIR_VALUE
 } call_t;
@@ -266,6 +266,10 @@ static brc_status make_call(call_t call, brc_thread *t, const inputs_t *in, outs
     case DEL_INT: return brc_dict_del_int(t, one, in->key, &out->ref);
     case DEL_TEXT: return brc_dict_del_text(t, one, in->bytes, in->len, &out->ref);
     case PAIR: return brc_dict_pair(t, one, in->index, &out->key, out->text, sizeof out->text, &out->ref);
+    case HAS_INT: return brc_dict_has_int(t, one, in->key, &out->word);
+    case HAS_TEXT: return brc_dict_has_text(t, one, in->bytes, in->len, &out->word);
+    case PLACE_INT: return brc_dict_place_int(t, one, in->key, &out->word);
+    case PLACE_TEXT: return brc_dict_place_text(t, one, in->bytes, in->len, &out->word);
     case LEDGER: return brc_ledger(t, &out->allocs, &out->frees);
     case RELEASE_ALL: return brc_release_all(t);
     case CLAIM: return brc_claim(t, 300, 1);
@@ -537,6 +541,25 @@ static const row_t COPIED_KEY[] = {
     {"memory for the key, and none for a place", TIGHT, SOME, VALUE, FIRST, 1, BRC_OUT_OF_MEMORY, 0},
     {0}};
 
+/* Whether and where a key is there: no reference is made, so nothing is wanting. */
+static const row_t HAS[] = {
+    {"another thread has the dictionary, and the key isn't there", FULL, SOME, VALUE, ABSENT, NONE, BRC_BUSY, BRC_OK},
+    {"another thread has the dictionary, and the key is there", FULL, SOME, VALUE, FIRST, NONE, BRC_BUSY, BRC_OK},
+    {"the dictionary is empty", FULL, EMPTY, VALUE, FIRST, NONE, BRC_OK, 0},
+    {"the key isn't there", FULL, SOME, VALUE, ABSENT, NONE, BRC_OK, 0},
+    {"the key is there, and the thread has 65,536 references", FULL, SOME, VALUE, FIRST, NONE, BRC_OK, 0},
+    {"the key is there, and there is no memory for a place", BARE, SOME, VALUE, FIRST, NONE, BRC_OK, 0},
+    {0}};
+static const row_t PLACES[] = {
+    {"another thread has the dictionary, and the key isn't there", FULL, SOME, VALUE, ABSENT, NONE, BRC_BUSY,
+     BRC_NO_SUCH_KEY},
+    {"another thread has the dictionary, and the key is there", FULL, SOME, VALUE, FIRST, NONE, BRC_BUSY, BRC_OK},
+    {"the dictionary is empty", FULL, EMPTY, VALUE, FIRST, NONE, BRC_NO_SUCH_KEY, 0},
+    {"the key isn't there", FULL, SOME, VALUE, ABSENT, NONE, BRC_NO_SUCH_KEY, 0},
+    {"the key is there, and the thread has 65,536 references", FULL, SOME, VALUE, FIRST, NONE, BRC_OK, 0},
+    {"the key is there, and there is no memory for a place", BARE, SOME, VALUE, FIRST, NONE, BRC_OK, 0},
+    {0}};
+
 /* A call, its objects from WRONG to OTHER_MOST, and its rows in the order of brc.h. */
 typedef struct {
     call_t call;
@@ -593,6 +616,10 @@ static const about_t ABOUT[] = {
     {DEL_INT, "brc_dict_del_int", DICTS, {NUMBER, OTHER_KIND, OTHER_CONTAINER, FINDS}},
     {DEL_TEXT, "brc_dict_del_text", DICTS, {KEY, NUMBER, OTHER_KIND, OTHER_CONTAINER, FINDS}},
     {PAIR, "brc_dict_pair", DICTS, {NUMBER, OTHER_KIND, OTHER_CONTAINER, INDEXES, GIVES, KEY_COPY}},
+    {HAS_INT, "brc_dict_has_int", DICTS, {NUMBER, OTHER_KIND, OTHER_CONTAINER, HAS}},
+    {HAS_TEXT, "brc_dict_has_text", DICTS, {KEY, NUMBER, OTHER_KIND, OTHER_CONTAINER, HAS}},
+    {PLACE_INT, "brc_dict_place_int", DICTS, {NUMBER, OTHER_KIND, OTHER_CONTAINER, PLACES}},
+    {PLACE_TEXT, "brc_dict_place_text", DICTS, {KEY, NUMBER, OTHER_KIND, OTHER_CONTAINER, PLACES}},
     {POP_VALUE, "brc_list_pop_value", LISTS, {NUMBER, OTHER_KIND, OTHER_CONTAINER, GIVES}},
     {POP_VALUE, "brc_list_pop_value", SCALAR_LISTS, {GIVES_SCALAR}},
     {TAKE_VALUE, "brc_list_take_value", LISTS, {NUMBER, OTHER_KIND, OTHER_CONTAINER, INDEXES, GIVES}},

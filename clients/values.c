@@ -240,6 +240,24 @@ static brc_status del_by(worker *w, brc_ref dict, int key, brc_value *v) {
     return brc_dict_del_text_value(&w->t, dict, (const uint8_t *)text, strlen(text), v);
 }
 
+/* Whether and where the key is there is the model's; of -1 it isn't. No memory is wanted. */
+static void look_for_key(worker *w, brc_ref dict, int key, int i) {
+    uint32_t has = 7, place = 7;
+    char text[32];
+    brc_status s;
+    if (key % 2) {
+        MUST(brc_dict_has_int(&w->t, dict, key - 12, &has));
+        s = brc_dict_place_int(&w->t, dict, key - 12, &place);
+    } else {
+        snprintf(text, sizeof text, "key %d", key);
+        MUST(brc_dict_has_text(&w->t, dict, (const uint8_t *)text, strlen(text), &has));
+        s = brc_dict_place_text(&w->t, dict, (const uint8_t *)text, strlen(text), &place);
+    }
+    CHECK(has == (i >= 0));
+    if (i < 0) CHECK(s == BRC_NO_SUCH_KEY && place == 7);
+    else CHECK(s == BRC_OK && place == (uint32_t)i);
+}
+
 /* The pair at the index is the model's. */
 static void look_at_pair(worker *w, brc_ref dict, pairs *d, int i) {
     brc_key key;
@@ -265,7 +283,7 @@ static void on_dict(worker *w) {
     plain p = some_value(w);
     brc_status s;
     for (i = 0; i < d->len && d->key[i] != key; i++) { }
-    switch (draw(w, 5)) {
+    switch (draw(w, 6)) {
     case 0:
     case 1:
         v = given(w, p);
@@ -294,6 +312,7 @@ static void on_dict(worker *w) {
         memmove(d->at + i, d->at + i + 1, sizeof(plain) * (size_t)(d->len - i - 1));
         d->len--;
         return;
+    case 4: look_for_key(w, dict, key, i < d->len ? i : -1); return;
     default:
         if (d->len) look_at_pair(w, dict, d, (int)draw(w, (uint64_t)d->len));
     }

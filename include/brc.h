@@ -356,6 +356,16 @@ brc_status brc_dict_del_text(brc_thread *, brc_ref dict, const uint8_t *key, siz
 brc_status brc_dict_pair(brc_thread *, brc_ref dict, uint32_t index, brc_key *key, uint8_t *to, size_t room,
                          brc_ref *value);
 
+/* Whether the dictionary has the key: 1 or 0. No reference is made.
+ * GONE, NOT_TEXT of a text, FOREIGN, STALE, BUSY, WRONG_KIND. */
+brc_status brc_dict_has_int(brc_thread *, brc_ref dict, int64_t key, uint32_t *has);
+brc_status brc_dict_has_text(brc_thread *, brc_ref dict, const uint8_t *key, size_t len, uint32_t *has);
+
+/* At which index the key's pair stands, for brc_dict_pair. It stands there until the next delete by any
+ * thread. GONE, NOT_TEXT of a text, FOREIGN, STALE, BUSY, WRONG_KIND, NO_SUCH_KEY. */
+brc_status brc_dict_place_int(brc_thread *, brc_ref dict, int64_t key, uint32_t *index);
+brc_status brc_dict_place_text(brc_thread *, brc_ref dict, const uint8_t *key, size_t len, uint32_t *index);
+
 
 /* ---- Values. The same containers by values. A call of this part and one without `_value` may be mixed
  * on one object. What a call without `_value` puts has the label 0. What it takes or finds is the

@@ -13,6 +13,7 @@ mod calls;
 mod dicts;
 mod heaps;
 mod held;
+mod keyed;
 mod lists;
 mod looks;
 mod makers;

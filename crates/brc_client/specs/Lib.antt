@@ -6,4 +6,5 @@ pub mod Desks
 pub mod Ends
 pub mod Lending
 pub mod Valued
+pub mod Keyed
 pub mod Told

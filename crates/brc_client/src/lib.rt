@@ -13,6 +13,7 @@
 
 mod client;
 mod data;
+mod keyed;
 mod looking;
 mod moving;
 mod numbers;

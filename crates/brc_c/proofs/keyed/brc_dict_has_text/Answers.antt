@@ -1,0 +1,43 @@
+use Rattle.std.proofs.Common.{refl, ap, ◌∙◌, subst, inl, inr, ℕ, List}
+use Rattle.std.specs.Prelude.{Err}
+use Rattle.brc_words.specs.declared.key.Key.TheVariants as keys
+use Rattle.brc_client.specs.Numbers.{status_number}
+use Rattle.brc_client.specs.declared.status.Status.{Status}
+use Rattle.brc_client.specs.Answers.{FindsOut}
+use Rattle.brc_client.specs.Keyed.{HasKey}
+use Rattle.brc_client.specs.declared.status.Status.TheVariants as statuses
+use Rattle.brc_c.specs.Exports.{IsMade, HasLeft}
+use Rattle.brc_c.proofs.Made.{works_at, left_at, same_at}
+use Rattle.brc_c.proofs.keyed.brc_dict_has_text.Goals as goal
+
+pub returns-in-Ok-clause-does : goal.returns-in-Ok-clause-does
+returns-in-Ok-clause-does c =
+    let did : FindsOut (HasKey (keys.Text c.in-Ok.key.now)) c.args.dict c.in-Some.client.now c.has.new.self
+    c.has.result = record { looked = c.has.ensures.looked; keeps = c.has.ensures.keeps } in
+    record {
+      answer = c.has.result;
+      made = IsMade c.in-Some.client.now c.has.new.self
+          (works_at _ _ _ c.in-Some.ensures.value c.as_mut.ensures.value) refl
+          (inl (subst (λ (text : List ℕ). FindsOut (HasKey (keys.Text text)) c.args.dict c.in-Some.client.now
+          c.has.new.self c.has.result) c.in-Ok.ensures.text did));
+      told = c.write_truth.ensures.code;
+      written = c.write_truth.ensures.written;
+    }
+
+pub returns-in-Err-clause-does : goal.returns-in-Err-clause-does
+returns-in-Err-clause-does c = record {
+  answer = Err statuses.NotText;
+  made = IsMade c.in-Some.client.now c.in-Some.client.now
+      (works_at _ _ _ c.in-Some.ensures.value c.as_mut.ensures.value) refl
+      (inr (refl, c.in-Err.ensures.not_text, refl));
+  told = c.number.ensures.number ∙ ap (λ (status : Status). status_number status) c.in-Err.ensures.refused;
+  written = refl;
+}
+
+pub returns-in-None-clause-does : goal.returns-in-None-clause-does
+returns-in-None-clause-does c = record {
+  answer = Err statuses.Gone;
+  made = HasLeft (left_at _ _ c.in-None.ensures.value c.as_mut.ensures.value) (same_at _ _ c.as_mut.ensures.value) refl;
+  told = c.gone.ensures;
+  written = refl;
+}
