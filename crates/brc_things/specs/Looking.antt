@@ -1,5 +1,6 @@
 -- What a call on one object finds there, and the calls that look at one: each is told once, and both its forms cite it.
-use Rattle.std.specs.Prelude.{◌≡◌, ◌<◌, ◌+◌, ◌++◌, ℕ, ℤ, true, List, ◌∷◌, Some, Result, length}
+use Rattle.std.specs.Prelude.{◌≡◌, ◌<◌, ◌+◌, ◌++◌, ℕ, ℤ, Bool, true, List, ◌∷◌, Some, Result, length, take, drop}
+use Rattle.std.specs.Str.{bytes_eq}
 use Rattle.std.specs.declared.string.String.{String}
 use Rattle.std.specs.String.{string_bytes, string_len, string_capacity}
 use Rattle.brc_words.specs.declared.fault.Fault.{Fault}
@@ -27,6 +28,10 @@ IsText found = kind_in found ≡ kinds.Text
 
 abbrev pub HoldsContainer : Contents → Type 0
 HoldsContainer found = is_container (kind_in found) ≡ true
+
+-- as much of the text, from a byte on, as there is room for; the rest of the room is as it was
+abbrev pub shown_from : List ℕ → ℕ → List ℕ → List ℕ
+shown_from text from room = take (length room) (drop from text) ++ drop (length (drop from text)) room
 
 module _ {A : Type 0} where
   -- The object in the place was locked, found with these contents, and unlocked as it was found. Nothing else was done.
@@ -88,3 +93,16 @@ module _ {A : Type 0} where
       Looked old new (λ done. (text : List ℕ) × LooksAt old new k (contents.Text text)
       × (string_bytes has ≡ string_bytes had ++ text))
       (RefusedInto old new k had) result
+
+  -- how long the text in the place is, and its bytes from one on, in room that had `had` and has `has`
+  abbrev pub TextShown : FrameSeen A → FrameSeen A → ℕ → ℕ → List ℕ → List ℕ → Result ℕ Fault → Type 0
+  TextShown old new k from had has result =
+      Looked old new (λ len. (text : List ℕ) × LooksAt old new k (contents.Text text) × (length text ≡ len)
+      × (has ≡ shown_from text from had))
+      (RefusedLook old new k IsText) result
+
+  -- whether the text in the place has just these bytes
+  abbrev pub TextIs : FrameSeen A → FrameSeen A → ℕ → List ℕ → Result Bool Fault → Type 0
+  TextIs old new k bytes result =
+      Looked old new (λ same. (text : List ℕ) × LooksAt old new k (contents.Text text) × (same ≡ bytes_eq text bytes))
+      (RefusedLook old new k IsText) result

@@ -44,11 +44,14 @@ pub use indexing::{dict_key, dict_pair, try_dict_key, try_dict_pair};
 pub use late::begin_late;
 pub use laws::{calls_on_an_object_are_one_history, lost_tries_change_nothing};
 pub use lists::{try_list_get, try_list_pop, try_list_push, try_list_set, try_list_take};
+pub use looking::{copy_prefix, show_from};
 pub use mailboxes::{try_recv, try_send};
 pub use makers::{new_dict, new_int, new_list, new_mailbox, new_text, none, truth};
 pub use placing::{dict_key_by, try_dict_key_by};
 pub use putting::{dict_put, dict_set, try_dict_put, try_dict_set};
-pub use readers::{try_int_of, try_kind_of, try_len_of, try_text_into, try_text_of};
+pub use readers::{
+    try_int_of, try_kind_of, try_len_of, try_text_into, try_text_is, try_text_of, try_text_shown,
+};
 pub use value::{Pair, Value};
 pub use valued::{
     try_list_get_value, try_list_pop_value, try_list_push_value, try_list_put_value,

@@ -1,11 +1,13 @@
 //! What a payload tells.
 
-ghost use Rattle.std.specs.Prelude.{◌≡◌, ◌<◌, ◌+◌, ◌++◌, ℕ, List, IfSome, IfNone, OnOk, OnErr, IsTrue, IsFalse, length};
+ghost use Rattle.std.specs.Prelude.{◌≡◌, ◌<◌, ◌+◌, ◌++◌, ℕ, List, IfSome, IfNone, OnOk, OnErr, IsTrue, IsFalse};
+ghost use Rattle.std.specs.Prelude.{length, take, drop};
+ghost use Rattle.std.specs.Str.{bytes_eq};
 ghost use Rattle.std.specs.String.{string_bytes, string_len, string_capacity};
 ghost use Rattle.brc_count.specs.law.declared.rule.contents.Contents.TheVariants as contents;
 ghost use Rattle.brc_count.specs.law.rule.Logs.{entries_in};
 ghost use Rattle.brc_count.specs.table.Shown.{contents_of};
-ghost use Rattle.brc_things.specs.Looking.{IsInt, IsText, HoldsContainer};
+ghost use Rattle.brc_things.specs.Looking.{IsInt, IsText, HoldsContainer, shown_from};
 
 use brc_count::block::{Entries, Payload};
 use brc_words::Text;
@@ -76,5 +78,55 @@ pub(crate) fn append_text<A: Allocator, B: Allocator>(
     match payload {
         Payload::Text(text) => buffer.push_str(text.as_str()),
         _ => unreachable!(),
+    }
+}
+
+/// As many of the bytes as there is room for are written. Returns how many there are.
+pub fn copy_prefix(bytes: &[u8], to: &mut [u8]) -> usize
+    ensures len { result ≡ length bytes.now }
+    ensures copied { to.new ≡ take (length to.old) bytes.now ++ drop (length bytes.now) to.old }
+{
+    let fits = bytes.len().min(to.len());
+    to[..fits].copy_from_slice(&bytes[..fits]);
+    bytes.len()
+}
+
+/// As much of a text, from a byte on, as there is room for. The answer is how long all of it is.
+pub fn show_from(text: &[u8], from: usize, to: &mut [u8]) -> usize
+    ensures len { result ≡ length text.now }
+    ensures shown { to.new ≡ shown_from text.now from to.old }
+{
+    if from < text.len() {
+        let _len = copy_prefix(&text[from..], to);
+    }
+    text.len()
+}
+
+/// How long a text's is, and its bytes from one on, as many as there is room for; None for anything else.
+pub(crate) fn show_text<A: Allocator>(
+    payload: &Payload<A>,
+    from: usize,
+    to: &mut [u8],
+) -> Option<usize>
+    ensures shown { IfSome result (λ len. (text : List ℕ) × (contents_of payload.now ≡ contents.Text text)
+        × (length text ≡ len) × (to.new ≡ shown_from text from to.old)) }
+    ensures other { IfNone result (IsText (contents_of payload.now) → ⊥) }
+    ensures unchanged { IfNone result (to.new ≡ to.old) }
+{
+    match payload {
+        Payload::Text(text) => Some(show_from(text.as_str().as_bytes(), from, to)),
+        _ => None,
+    }
+}
+
+/// Whether a text's has just these bytes; None for anything else.
+pub(crate) fn text_has<A: Allocator>(payload: &Payload<A>, bytes: &[u8]) -> Option<bool>
+    ensures same { IfSome result (λ same. (text : List ℕ) × (contents_of payload.now ≡ contents.Text text)
+        × (same ≡ bytes_eq text bytes.now)) }
+    ensures other { IfNone result (IsText (contents_of payload.now) → ⊥) }
+{
+    match payload {
+        Payload::Text(text) => Some(text.as_str().as_bytes() == bytes),
+        _ => None,
     }
 }

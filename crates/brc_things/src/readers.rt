@@ -4,9 +4,11 @@ ghost use Rattle.std.specs.Prelude.{◌≡◌, OnErr};
 ghost use Rattle.std.specs.String.{string_bytes};
 ghost use Rattle.brc_count.specs.Frames.{IsUnlocked, Owns};
 ghost use Rattle.brc_count.specs.Owned.{Keeps};
-ghost use Rattle.brc_things.specs.Looking.{KindOf, LenOf, IntOf, TextOf, TextInto};
+ghost use Rattle.brc_things.specs.Looking.{KindOf, LenOf, IntOf, TextOf, TextInto, TextShown, TextIs};
 
-use crate::looking::{append_text, container_len, copy_of_text, int_in, is_text};
+use crate::looking::{
+    append_text, container_len, copy_of_text, int_in, is_text, show_text, text_has,
+};
 use brc_count::biased::HasTable;
 use brc_count::{Frame, Handle};
 use brc_words::{Fault, Kind, Text};
@@ -131,5 +133,55 @@ pub fn try_text_into<H: HasTable<A>, A: Allocator, B: Allocator>(
     match done {
         Ok(()) => Ok(()),
         Err(AllocError) => Err(Fault::OutOfMemory),
+    }
+}
+
+/// How long a text is, and its bytes from one on, as many as there is room for. Busy where another thread has the object
+/// locked, then WrongKind where it is no text. It takes no memory.
+pub fn try_text_shown<H: HasTable<A>, A: Allocator>(
+    frame: &mut Frame<H, A>,
+    handle: &Handle<A>,
+    from: usize,
+    to: &mut [u8],
+) -> Result<usize, Fault>
+    requires owned { Owns frame.old handle.now }
+    requires unlocked { IsUnlocked frame.old }
+    ensures looked { TextShown frame.old frame.new handle.now.place from to.old to.new result }
+    ensures unchanged { OnErr result (to.new ≡ to.old) }
+    ensures keeps { Keeps frame.old frame.new }
+    ensures unlocked { IsUnlocked frame.new }
+{
+    let Some(block) = frame.begin(handle) else {
+        return Err(Fault::Busy);
+    };
+    let len = show_text(block.payload(), from, to);
+    frame.end_keep(block);
+    match len {
+        Some(len) => Ok(len),
+        None => Err(Fault::WrongKind),
+    }
+}
+
+/// Whether a text has just these bytes. Busy where another thread has the object locked, then WrongKind where it is no
+/// text. It takes no memory.
+pub fn try_text_is<H: HasTable<A>, A: Allocator>(
+    frame: &mut Frame<H, A>,
+    handle: &Handle<A>,
+    bytes: &[u8],
+) -> Result<bool, Fault>
+    requires owned { Owns frame.old handle.now }
+    requires unlocked { IsUnlocked frame.old }
+    ensures looked { TextIs frame.old frame.new handle.now.place bytes.now result }
+    ensures keeps { Keeps frame.old frame.new }
+    ensures unlocked { IsUnlocked frame.new }
+{
+    let Some(block) = frame.begin(handle) else {
+        return Err(Fault::Busy);
+    };
+    let same = text_has(block.payload(), bytes);
+    frame.end_keep(block);
+    match same {
+        Some(same) => Ok(same),
+        None => Err(Fault::WrongKind),
     }
 }
