@@ -39,7 +39,7 @@ enum { MOST_HELD = 200, MOST_OLD = 64, WORKERS = 4, STATUSES = 80, UNWRITTEN = 0
 /* ---- The calls, and the statuses that brc.h names for each */
 
 typedef enum {
-    RELEASE, PUSH, SEND, POLL, WORK, LEN_OF, INT_OF, KIND_OF, TRUTH_OF, SAME, IDENTITY, TEXT_OF, SET, LEDGER, CLAIM, LEAVE,
+    RELEASE, PUSH, SEND, POLL, WORK, LEN_OF, INT_OF, KIND_OF, TRUTH_OF, SAME, IDENTITY, TEXT_OF, TEXT_IS, SET, LEDGER, CLAIM, LEAVE,
     RELEASE_ALL, HAS_INT, HAS_TEXT, PLACE_INT, PLACE_TEXT, PUSH_VALUE, SEND_VALUE,
     /* from here on a call hands out a reference more */
     RETAIN, NONE, TRUTH, GLOBALS, NEW_INT, NEW_TEXT, NEW_LIST, NEW_DICT, NEW_MAILBOX, POP, TAKE, GET, RECV, PUT_INT, FIND_INT,
@@ -75,7 +75,8 @@ static const struct { int weight, numbers; uint64_t statuses; } ABOUT[CALLS] = {
     [TRUTH_OF] = {1, 1, NUMBER | S(BRC_WRONG_KIND)},
     [SAME] = {1, 2, NUMBER},
     [IDENTITY] = {1, 1, NUMBER},
-    [TEXT_OF] = {1, 1, OBJECT | S(BRC_OUT_OF_MEMORY)},
+    [TEXT_OF] = {1, 1, OBJECT},
+    [TEXT_IS] = {1, 1, OBJECT},
     [SET] = {2, 2, ENTERS | S(BRC_NO_SUCH_PLACE)},
     [LEDGER] = {1, 0, GIVEN},
     [CLAIM] = {1, 0, GIVEN},
@@ -304,6 +305,7 @@ static brc_status make_call(worker_t *w, call_t call, const inputs_t *in, outs_t
     case SAME: return brc_same(t, one, other, &out->word);
     case IDENTITY: return brc_identity(t, one, &out->identity);
     case TEXT_OF: return brc_text_of(t, one, out->text, in->room, &out->len);
+    case TEXT_IS: return brc_text_is(t, one, in->bytes, in->len, &out->word);
     case SET: return brc_list_set(t, one, in->index, other, &out->ref);
     case LEDGER: return brc_ledger(t, &out->allocs, &out->frees);
     case CLAIM: return brc_claim(t, in->word, in->word & 1);

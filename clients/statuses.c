@@ -25,7 +25,7 @@
 #include <time.h>
 #include "brc.h"
 
-enum { REFERENCES = 65536, ENTRIES = 1048576, MOST_THREADS = 64, CALLS = 66 };
+enum { REFERENCES = 65536, ENTRIES = 1048576, MOST_THREADS = 64, CALLS = 67 };
 enum { LABEL = 77, UNWRITTEN = 0xa5, DEAD_ENTRIES = 100000, TRIES = 10000000, SECONDS = 60 };
 
 /* ---- What is said */
@@ -143,18 +143,16 @@ void __wrap_free(void *block) {
     __real_free(block);
 }
 
-/* A call that locks the object, and asks for memory then; or the register. */
+/* A call that locks the object, and asks for memory then; or the register. No call on a text or an integer asks for any. */
 static brc_status locking_call(const hold_t *h) {
     brc_ref value;
     brc_key key;
     uint8_t to[8];
-    size_t len;
     void *at;
     switch (h->kind) {
     case BRC_LIST: return brc_list_get(h->thread, h->object, 0, &value);
     case BRC_DICT: return brc_dict_pair(h->thread, h->object, 0, &key, to, sizeof to, &value);
     case BRC_MAILBOX: return brc_recv(h->thread, h->object, &value);
-    case BRC_TEXT: return brc_text_of(h->thread, h->object, to, sizeof to, &len);
     default: return brc_thread_fork(h->thread, &at);
     }
 }
@@ -201,7 +199,7 @@ static void hold(hold_t *h, brc_thread *thread, brc_kind kind, brc_ref object) {
 
 typedef enum {
     RETAIN, RELEASE, SAME, IDENTITY, NOTHING, TRUTH, GLOBALS, NEW_INT, NEW_SMALL, NEW_TEXT, NEW_LIST, NEW_DICT, NEW_MAILBOX,
-    KIND_OF, LEN_OF, INT_OF, TRUTH_OF, TEXT_OF, PUSH, POP, TAKE, GET, SET, SEND, RECV, PUT_INT, PUT_TEXT, FIND_INT, FIND_TEXT, DEL_INT,
+    KIND_OF, LEN_OF, INT_OF, TRUTH_OF, TEXT_OF, TEXT_IS, PUSH, POP, TAKE, GET, SET, SEND, RECV, PUT_INT, PUT_TEXT, FIND_INT, FIND_TEXT, DEL_INT,
     DEL_TEXT, PAIR, HAS_INT, HAS_TEXT, PLACE_INT, PLACE_TEXT, LEDGER, RELEASE_ALL, CLAIM, POLL, WORK, COUNT, PUSH_VALUE, POP_VALUE, TAKE_VALUE, GET_VALUE, SET_VALUE,
     PUT_VALUE, SEND_VALUE, RECV_VALUE, PUT_INT_VALUE, PUT_TEXT_VALUE, FIND_INT_VALUE, FIND_TEXT_VALUE, DEL_INT_VALUE,
     DEL_TEXT_VALUE, PAIR_VALUE
@@ -252,6 +250,7 @@ static brc_status make_call(call_t call, brc_thread *t, const inputs_t *in, outs
     case INT_OF: return brc_int_of(t, one, &out->value);
     case TRUTH_OF: return brc_truth_of(t, one, &out->word);
     case TEXT_OF: return brc_text_of(t, one, out->text, sizeof out->text, &out->len);
+    case TEXT_IS: return brc_text_is(t, one, in->bytes, in->len, &out->word);
     case PUSH: return brc_list_push(t, one, other);
     case POP: return brc_list_pop(t, one, &out->ref);
     case TAKE: return brc_list_take(t, one, in->index, &out->ref);
@@ -402,8 +401,12 @@ static const row_t NOT_TRUTH[] = {
     {"the object is of another kind", FULL, WRONG, VALUE, FAR, NONE, BRC_WRONG_KIND, 0},
     {0}};
 static const row_t READS[] = {
-    {"another thread has the text", FULL, SOME, VALUE, FIRST, NONE, BRC_BUSY, BRC_OUT_OF_MEMORY},
-    {"no memory for the text", FULL, SOME, VALUE, FIRST, NONE, BRC_OUT_OF_MEMORY, 0},
+    {"a text, and no memory", FULL, SOME, VALUE, FIRST, NONE, BRC_OK, 0},
+    {"a text, bytes that aren't UTF-8, and no memory", FULL, SOME, VALUE, BAD, NONE, BRC_OK, 0},
+    {0}};
+static const row_t LENGTHS[] = {
+    {"another thread has the list", FULL, SOME, VALUE, FIRST, NONE, BRC_BUSY, BRC_OK},
+    {"the object is of another kind", FULL, WRONG, VALUE, FAR, NONE, BRC_WRONG_KIND, 0},
     {0}};
 static const row_t PUTS[] = {
     {"another thread has the container, which is full", FULL, MOST, VALUE, ABSENT, NONE, BRC_BUSY, BRC_FULL},
@@ -568,14 +571,15 @@ typedef struct {
     const row_t *parts[8];      /* NULL behind the last */
 } about_t;
 
-#define ANY {TEXT, TEXT, TEXT, TEXT, TEXT, TEXT}
+#define ANY {LIST, LIST, LIST, LIST, LIST, LIST}
 #define TEXTS {LIST, TEXT, TEXT, TEXT, LIST, LIST}
-#define LISTS {TEXT, EMPTY_LIST, LIST, FULL_LIST, EMPTY_MAILBOX, FULL_MAILBOX}
-#define DICTS {TEXT, EMPTY_DICT, DICT, FULL_DICT, EMPTY_LIST, FULL_LIST}
-#define MAILBOXES {TEXT, EMPTY_MAILBOX, MAILBOX, FULL_MAILBOX, EMPTY_DICT, FULL_DICT}
-#define SCALAR_LISTS {TEXT, EMPTY_LIST, SCALAR_LIST, FULL_LIST, EMPTY_MAILBOX, FULL_MAILBOX}
-#define SCALAR_DICTS {TEXT, EMPTY_DICT, SCALAR_DICT, FULL_DICT, EMPTY_LIST, FULL_LIST}
-#define SCALAR_MAILBOXES {TEXT, EMPTY_MAILBOX, SCALAR_MAILBOX, FULL_MAILBOX, EMPTY_DICT, FULL_DICT}
+#define LISTS {DICT, EMPTY_LIST, LIST, FULL_LIST, EMPTY_MAILBOX, FULL_MAILBOX}
+#define LENGTH_OF {TEXT, EMPTY_LIST, LIST, FULL_LIST, EMPTY_MAILBOX, FULL_MAILBOX}
+#define DICTS {LIST, EMPTY_DICT, DICT, FULL_DICT, EMPTY_LIST, FULL_LIST}
+#define MAILBOXES {LIST, EMPTY_MAILBOX, MAILBOX, FULL_MAILBOX, EMPTY_DICT, FULL_DICT}
+#define SCALAR_LISTS {DICT, EMPTY_LIST, SCALAR_LIST, FULL_LIST, EMPTY_MAILBOX, FULL_MAILBOX}
+#define SCALAR_DICTS {LIST, EMPTY_DICT, SCALAR_DICT, FULL_DICT, EMPTY_LIST, FULL_LIST}
+#define SCALAR_MAILBOXES {LIST, EMPTY_MAILBOX, SCALAR_MAILBOX, FULL_MAILBOX, EMPTY_DICT, FULL_DICT}
 
 static const about_t ABOUT[] = {
     {LEDGER, "brc_ledger", ANY, {THREAD_LEFT}},
@@ -598,10 +602,11 @@ static const about_t ABOUT[] = {
     {NEW_DICT, "brc_new_dict", ANY, {THREAD_LEFT, PLACE, CELL}},
     {NEW_MAILBOX, "brc_new_mailbox", ANY, {THREAD_LEFT, PLACE, CELL}},
     {KIND_OF, "brc_kind_of", ANY, {NUMBER, LOCKED}},
-    {LEN_OF, "brc_len_of", LISTS, {NUMBER, OTHER_KIND}},
+    {LEN_OF, "brc_len_of", LENGTH_OF, {NUMBER, LENGTHS}},
     {INT_OF, "brc_int_of", ANY, {NUMBER, OTHER_KIND}},
     {TRUTH_OF, "brc_truth_of", ANY, {NUMBER, NOT_TRUTH}},
     {TEXT_OF, "brc_text_of", TEXTS, {NUMBER, OTHER_KIND, READS}},
+    {TEXT_IS, "brc_text_is", TEXTS, {NUMBER, OTHER_KIND, READS}},
     {PUSH, "brc_list_push", LISTS, {NUMBERS_OF_TWO, ONE_TWICE, OTHER_KIND, OTHER_CONTAINER, PUTS}},
     {POP, "brc_list_pop", LISTS, {NUMBER, OTHER_KIND, OTHER_CONTAINER, GIVES}},
     {TAKE, "brc_list_take", LISTS, {NUMBER, OTHER_KIND, OTHER_CONTAINER, INDEXES, GIVES}},
@@ -1043,26 +1048,26 @@ static void play_puts(void) {
     }
 }
 
-/* Calls that are never BUSY, while the text and the register are locked. */
+/* Calls that are never BUSY, while the object and the register are locked. */
 static void play_unlocked(void) {
     brc_thread *t = &threads[READY];
-    const brc_ref text = held[READY][TEXT];
+    const brc_ref object = held[READY][LIST];
     brc_ref more;
     uint64_t allocs, frees, identity, other;
     uint32_t word;
     hold_t h, registers;
     begin_row("brc_retain", "another thread has the object");
-    if (!hold_object(&h, TEXT)) not_seen();
+    if (!hold_object(&h, LIST)) not_seen();
     hold(&registers, &threads[FULL], 0, BRC_NONE);
-    MUST(brc_retain(t, text, &more));
-    MUST(brc_same(t, text, more, &word));
+    MUST(brc_retain(t, object, &more));
+    MUST(brc_same(t, object, more, &word));
     CHECK(word == 1);
-    MUST(brc_identity(t, text, &identity));
+    MUST(brc_identity(t, object, &identity));
     MUST(brc_identity(t, more, &other));
     CHECK(identity == other);
-    MUST(brc_identity(t, held[READY][LIST], &other));
+    MUST(brc_identity(t, held[READY][TEXT], &other));
     CHECK(identity != other);
-    settle(brc_truth_of(t, text, &word), BRC_WRONG_KIND);
+    settle(brc_truth_of(t, object, &word), BRC_WRONG_KIND);
     MUST(brc_release(t, more));
     settle(brc_release(t, more), BRC_STALE);
     MUST(brc_release(t, none(t)));

@@ -64,8 +64,8 @@
  * Costs. A call on a container, or a look at an object, locks it for the time of the call. So the looks
  * of many threads at one object come one after the other. No lock is taken by brc_same, brc_truth_of
  * and brc_identity, nor by brc_kind_of and brc_int_of of None, booleans and integers from -5 to 256.
- * brc_text_of copies the whole text first, whatever `room` is. brc_list_take moves all later entries,
- * and a delete all later pairs. A client that deletes much puts a scalar of its own beside the key
+ * brc_text_of copies as many bytes as `room` says, and brc_text_len none. brc_list_take moves all later
+ * entries, and a delete all later pairs. A client that deletes much puts a scalar of its own beside the key
  * instead, and makes the dictionary anew at times.
  *
  * Traps. What other threads release goes back to the thread that made it, which learns of it by a poll.
@@ -295,9 +295,13 @@ brc_status brc_int_of(brc_thread *, brc_ref, int64_t *value);
 brc_status brc_truth_of(brc_thread *, brc_ref, uint32_t *is_true);
 
 /* The first bytes of a text, as many as `room` allows. `len` is the length of the whole text. A text
- * never changes, so a second call with enough room finds the same.
- * GONE, FOREIGN, STALE, BUSY, WRONG_KIND, OUT_OF_MEMORY. */
+ * never changes, so a second call with enough room finds the same. No memory is taken.
+ * GONE, FOREIGN, STALE, BUSY, WRONG_KIND. */
 brc_status brc_text_of(brc_thread *, brc_ref, uint8_t *to, size_t room, size_t *len);
+
+/* Whether a text has just these bytes: 1 or 0. No memory is taken.
+ * GONE, FOREIGN, STALE, BUSY, WRONG_KIND. */
+brc_status brc_text_is(brc_thread *, brc_ref, const uint8_t *bytes, size_t len, uint32_t *is_same);
 
 
 /* ---- Lists and mailboxes. After OK, a value that was given belongs to the container, and its number

@@ -21,7 +21,7 @@ same_owner (owners.Closed last) = refl
 same_owner (owners.Gone seen) = refl
 
 pub same_stage : (stage : Stage) → SameStage stage stage
-same_stage (stages.Works client) = record { frame = refl; handles = refl; numbers = refl; text = refl; none = refl }
+same_stage (stages.Works client) = record { frame = refl; handles = refl; numbers = refl; none = refl }
 same_stage (stages.Leaves left) = refl
 same_stage (stages.Ends done) = refl
 same_stage (stages.Gathered seen) = refl

@@ -78,10 +78,6 @@ came_of (Some datum) = value_of datum
 abbrev pub prefix_into : List ℕ → List ℕ → List ℕ
 prefix_into bytes room = take (length room) bytes ++ drop (length bytes) room
 
-abbrev pub WritesText : List ℕ → List ℕ → ℕ → ℕ → Result (List ℕ) Status → Type 0
-WritesText room to len_was len (Ok text) = (to ≡ prefix_into text room) × (len ≡ length text)
-WritesText room to len_was len (Err status) = (to ≡ room) × (len ≡ len_was)
-
 -- the number of an integer, or the length of a text and as many of its bytes as there is room for
 abbrev pub KeyWritten : Key Global → CKey → List ℕ → List ℕ → Type 0
 KeyWritten (keys.Int number) key room to =

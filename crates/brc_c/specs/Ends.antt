@@ -15,7 +15,8 @@ use Rattle.brc_client.specs.Desks.{DeskSeen}
 use Rattle.brc_client.specs.Ends.{OpensWith, RegistersAt, RegisteredAt, RegisterRefused, HasReference}
 use Rattle.brc_client.specs.Ends.{LeavesAs, LeaveRefused, IsOver, LedgerOf, open_at, seen_by, SameOwner}
 use Rattle.brc_client.specs.Ends.{CountsAt, CountsRefused, ClosedAs, CloseRefused, report_of, Shows, text_in}
-use Rattle.brc_client.specs.Ends.{shown_from, ReportRefused}
+use Rattle.brc_client.specs.Ends.{ReportRefused}
+use Rattle.brc_things.specs.Looking.{shown_from}
 use Rattle.brc_c.specs.declared.held.Held.{Held}
 use Rattle.brc_c.specs.Exports.{code_of}
 

@@ -13,9 +13,9 @@ use crate::calls::{exchange_by, give_by};
 use crate::outs::{gone, write, write_old};
 use crate::slots::CThread;
 use brc_client::{
-    DeletingByInt, DeletingByText, FindingByInt, FindingByText, KeyRef, TakeBy, copy_prefix,
-    text_of,
+    DeletingByInt, DeletingByText, FindingByInt, FindingByText, KeyRef, TakeBy, text_of,
 };
+use brc_things::copy_prefix;
 use brc_words::Key;
 use std::alloc::Global;
 

@@ -2,14 +2,14 @@
 
 ghost use Rattle.std.specs.Prelude.{◌≡◌, ◌≢◌};
 ghost use Rattle.brc_things.specs.Looking.{LenOf};
-ghost use Rattle.brc_client.specs.Answers.{FindsOut, FindsTruth, FindsIdentity, ReadsOut};
+ghost use Rattle.brc_client.specs.Answers.{FindsOut, FindsTruth, FindsIdentity};
+ghost use Rattle.brc_client.specs.Calls.{Shown, IsBytes};
 ghost use Rattle.brc_client.specs.Told.{KindTold, IntTold};
-ghost use Rattle.brc_c.specs.Calls.{WritesText};
 ghost use Rattle.brc_c.specs.Exports.{CarriesOut, Writes, code_of, itself, truth_number, kind_number};
 
 use crate::outs::{gone, write, write_truth};
 use crate::slots::CThread;
-use brc_client::{Status, copy_prefix};
+use brc_client::Status;
 use brc_words::Kind;
 
 /// The kind as C has it.
@@ -111,17 +111,28 @@ pub extern "C" fn brc_text_of(
     len: &mut usize,
 ) -> u32
     ensures kept { result ≢ 0 → (to.new ≡ to.old) × (len.new ≡ len.old) }
-    ensures does { CarriesOut (FindsOut ReadsOut held) thread.old.value thread.new.value result
-        (WritesText to.old to.new len.old len.new) }
+    ensures does { CarriesOut (FindsOut (Shown 0 to.old to.new) held) thread.old.value thread.new.value result
+        (Writes itself len.old len.new) }
 {
     match thread.as_mut().client() {
-        Some(client) => match client.read_text(held) {
-            Ok(()) => {
-                *len = copy_prefix(client.shown().as_bytes(), to);
-                0
-            }
-            Err(status) => status.number(),
-        },
+        Some(client) => write(client.text(held, 0, to), len),
+        None => gone(),
+    }
+}
+
+#[unsafe(no_mangle)]
+pub extern "C" fn brc_text_is(
+    thread: &mut CThread,
+    held: u64,
+    bytes: &[u8],
+    is_same: &mut u32,
+) -> u32
+    ensures kept { result ≢ 0 → is_same.new ≡ is_same.old }
+    ensures does { CarriesOut (FindsOut (IsBytes bytes.now) held) thread.old.value thread.new.value result
+        (Writes truth_number is_same.old is_same.new) }
+{
+    match thread.as_mut().client() {
+        Some(client) => write_truth(client.text_is(held, bytes), is_same),
         None => gone(),
     }
 }

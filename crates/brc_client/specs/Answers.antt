@@ -17,7 +17,7 @@ use Rattle.brc_handles.specs.Handles.{filled, IsBare}
 use Rattle.brc_client.specs.declared.status.Status.{Status}
 use Rattle.brc_client.specs.Clients.{ClientSeen, Names, NamesNone, KeepsNumbers, KeepsNames, SpendsName, SpendsEach}
 use Rattle.brc_client.specs.Calls.{OfNamed, ByHeap, RefusedOf, Adds, WithKey, Retained, Releases, PutsIn, PutsNot}
-use Rattle.brc_client.specs.Calls.{Looks, Reads, IsOne}
+use Rattle.brc_client.specs.Calls.{Looks, IsOne}
 
 -- ---- a call that gives a number
 
@@ -104,11 +104,6 @@ pub record FindsIdentity (number : ℕ) (old new : ClientSeen) (answer : Result 
   pub identity : IfOk answer (λ identity. OfNamed old number (λ object. cell_in old.frame object.place ≡ Some identity))
   pub refused : IfErr answer (NamesNone old number)
   pub same : new ≡ old
-
--- the text in the place, as `Reads` has it
-abbrev pub ReadsOut : FrameSeen Global → FrameSeen Global → ℕ → Result (List ℕ) Fault → Type 0
-ReadsOut old new k (Ok text) = Reads old new text k (Ok tt)
-ReadsOut old new k (Err fault) = Reads old new [] k (Err fault)
 
 -- whether two numbers name references to one object
 pub record FindsSame (one other : ℕ) (old new : ClientSeen) (answer : Result Bool Status) : Type 0 where

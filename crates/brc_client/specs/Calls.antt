@@ -1,5 +1,5 @@
 -- What a call by numbers comes to: which call of the heap was made, on which handle, and what became of the numbers.
-use Rattle.std.specs.Prelude.{◌≡◌, ◌≢◌, ℕ, List, Option, Some, None, Result, Ok, Err, IfOk, IfErr, OnErr}
+use Rattle.std.specs.Prelude.{◌≡◌, ◌≢◌, ℕ, Bool, List, Option, Some, None, Result, Ok, Err, IfOk, IfErr, OnErr}
 use Rattle.std.specs.Prelude.{MatchOption, slice_set, get_or}
 use Rattle.std.specs.declared.alloc.Global.{Global}
 use Rattle.brc_words.specs.declared.fault.Fault.{Fault}
@@ -10,7 +10,7 @@ use Rattle.brc_count.specs.declared.handed.HandedBack.{HandedBack}
 use Rattle.brc_count.specs.Frames.{FrameSeen, HandleSeen, GivenHandle, Refused, IsAsBefore, place_seen}
 use Rattle.brc_count.specs.Locking.{cell_in}
 use Rattle.brc_count.specs.Owned.{Loses}
-use Rattle.brc_things.specs.Looking.{LooksAt, RefusedCopy, IsText}
+use Rattle.brc_things.specs.Looking.{TextShown, TextIs}
 use Rattle.brc_handles.specs.Handles.{slot}
 use Rattle.brc_client.specs.declared.status.Status.{Status}
 use Rattle.brc_client.specs.declared.status.Status.TheVariants as statuses
@@ -110,10 +110,13 @@ module _ {T : Type 0} where
   Looks call old new number (Ok found) = OfNamed old number (λ object. call object.place (Ok found))
   Looks call old new number (Err status) = RefusedOf (λ k fault. call k (Err fault)) old new number status
 
--- the text in the place was read, and this is it; or why it wasn't
-abbrev pub Reads : FrameSeen Global → FrameSeen Global → List ℕ → ℕ → Result (Unit {0}) Fault → Type 0
-Reads old new text k (Ok done) = LooksAt old new k (contents.Text text)
-Reads old new text k (Err fault) = RefusedCopy old new k IsText fault
+-- how long the text in the place is, and its bytes from one on, in room that had `had` and has `has`
+abbrev pub Shown : ℕ → List ℕ → List ℕ → FrameSeen Global → FrameSeen Global → ℕ → Result ℕ Fault → Type 0
+Shown from had has old new k result = TextShown old new k from had has result
+
+-- whether it has just these bytes
+abbrev pub IsBytes : List ℕ → FrameSeen Global → FrameSeen Global → ℕ → Result Bool Fault → Type 0
+IsBytes bytes old new k result = TextIs old new k bytes result
 
 -- both numbers name references to one object, or to two
 abbrev pub IsOne : ClientSeen → HandleSeen → HandleSeen → Type 0

@@ -10,14 +10,12 @@ use Rattle.brc_client.specs.declared.status.Status.{Status}
 use Rattle.brc_client.specs.declared.status.Status.TheVariants as statuses
 use Rattle.brc_client.specs.Numbers.{NumbersSeen, number_at, place_in, stamp_in, once_more}
 
--- The thread's frame; the handle in each place, if one is there; the numbers of the places; the text that was read last;
--- the heap's root as it was seen when the thread forked last, if it did; and the handle to None that is kept for scalars,
--- once one went in.
+-- The thread's frame; the handle in each place, if one is there; the numbers of the places; the heap's root as
+-- it was seen when the thread forked last, if it did; and the handle to None that is kept for scalars, once one went in.
 pub record ClientSeen : Type 0 where
   pub frame : FrameSeen Global
   pub handles : List (Option HandleSeen)
   pub numbers : NumbersSeen
-  pub text : List ℕ
   pub seen : Option SightSeen
   pub none : Option HandleSeen
 
@@ -86,7 +84,6 @@ pub record SameClient (old new : ClientSeen) : Type 0 where
   pub frame : new.frame ≡ old.frame
   pub handles : new.handles ≡ old.handles
   pub numbers : new.numbers ≡ old.numbers
-  pub text : new.text ≡ old.text
   pub none : new.none ≡ old.none
 
 -- each number that named a handle names it still

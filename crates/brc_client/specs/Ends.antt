@@ -239,10 +239,6 @@ abbrev pub text_in : LastReportSeen → List ℕ
 text_in last =
     report_text last.report.ledger last.report.live last.report.remains.items last.report.cycles.items
 
--- as much of the text, from a byte on, as there is room for; the rest of the room is as it was
-abbrev pub shown_from : List ℕ → ℕ → List ℕ → List ℕ
-shown_from text from room = take (length room) (drop from text) ++ drop (length (drop from text)) room
-
 -- why a report isn't shown
 abbrev pub ReportRefused : OwnerStage → Status → Type 0
 ReportRefused (owners.Open opened) status = status ≡ statuses.Fault faults.NotIdle

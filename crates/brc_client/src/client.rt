@@ -28,8 +28,6 @@ pub struct Client {
     /// Each handle lies in the place that has its own number in the frame.
     pub(crate) handles: Handles<Global>,
     pub(crate) numbers: Numbers,
-    /// The last text that was read.
-    pub(crate) text: String<Global>,
     /// The heap's root as it was seen when the thread forked last.
     pub(crate) seen: Option<Sight>,
     /// A handle to None, once a scalar went in; it has no number.
@@ -37,7 +35,6 @@ pub struct Client {
 }
 
 impl Model for Client {
-    ghost use Rattle.std.specs.String.{string_bytes};
     ghost use Rattle.brc_client.specs.Clients.{ClientSeen, IsClient};
 
     ghost Value = { ClientSeen };
@@ -46,7 +43,6 @@ impl Model for Client {
       frame = c.mutator;
       handles = c.handles;
       numbers = c.numbers;
-      text = string_bytes c.text;
       seen = c.seen;
       none = c.none;
     } };
@@ -161,7 +157,6 @@ impl Client {
     /// A thread that has no reference yet.
     #[tactic(auto, using(crate::proofs::Placed::opens))]
     pub(crate) fn new(
-        alloc: Global,
         mutator: Mutator<Shared, Global>,
         handles: Handles<Global>,
         numbers: Numbers,
@@ -179,7 +174,6 @@ impl Client {
             mutator,
             handles,
             numbers,
-            text: String::new(alloc),
             seen: None,
             none: None,
         }
@@ -441,7 +435,6 @@ impl Client {
             mutator,
             handles,
             numbers,
-            text,
             seen,
             none,
         } = self;
@@ -458,7 +451,6 @@ impl Client {
                 mutator,
                 handles,
                 numbers,
-                text,
                 seen,
                 none: None,
             }),
@@ -473,7 +465,6 @@ impl Drop for Client {
             mutator,
             handles,
             numbers: _numbers,
-            text: _text,
             seen: _seen,
             none,
         } = self;

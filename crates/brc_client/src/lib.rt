@@ -28,7 +28,7 @@ pub use brc_heap::{Key, KeyRef, Kind, Ledger, RootCounts};
 pub use brc_places::{Make, TakeBy};
 pub use client::Client;
 pub use data::{Datum, PairDatum};
-pub use owner::{Left, Owner, copy_prefix};
+pub use owner::{Left, Owner};
 pub use put_value::{Inward, Pushing, PuttingAt, PuttingByInt, PuttingByText, Sending, Setting};
 pub use status::{Status, text_of};
 pub use take_out::{

@@ -1,19 +1,19 @@
 //! What the object of a number is and holds.
 
-ghost use Rattle.std.specs.Prelude.{◌≡◌, ◌≢◌, ◌⊎◌, Some, IfOk, IfErr, IsTrue, IsFalse};
+ghost use Rattle.std.specs.Prelude.{◌≡◌, ◌≢◌, ◌⊎◌, Some, IfOk, IfErr, OnErr, IsTrue, IsFalse};
 ghost use Rattle.brc_words.specs.declared.fault.Fault.TheVariants as faults;
 ghost use Rattle.brc_count.specs.Locking.{cell_in};
 ghost use Rattle.brc_things.specs.Makers.{truth_cell};
 ghost use Rattle.brc_things.specs.Looking.{LenOf};
 ghost use Rattle.brc_client.specs.Clients.{Names, NamesNone, KeepsNumbers};
-ghost use Rattle.brc_client.specs.Calls.{OfNamed, RefusedOf, Looks, Reads, IsOne};
+ghost use Rattle.brc_client.specs.Calls.{OfNamed, RefusedOf, Looks, Shown, IsBytes, IsOne};
 ghost use Rattle.brc_client.specs.Told.{KindTold, IntTold};
 
 use crate::client::{Client, find};
 use crate::status::Status;
 use crate::told::{int_told, kind_told};
 use brc_heap::{same_object, truth_of};
-use brc_things::{try_len_of, try_text_into};
+use brc_things::{try_len_of, try_text_is, try_text_shown};
 use brc_words::Kind;
 
 impl Client {
@@ -93,29 +93,38 @@ impl Client {
         Ok(u64::from(self.mutator.frame().cell(object)))
     }
 
-    /// The text is read into the client's own room, from where `shown` shows it. Foreign, Stale; then Busy, WrongKind if
-    /// it is no text, and OutOfMemory. A heap's refusal leaves the room empty.
+    /// How long the text is, and its bytes from one on, as many as there is room for. Foreign, Stale; then Busy, and WrongKind
+    /// if it is no text. It takes no memory.
     #[tactic(auto, using(crate::proofs::Placed::keeps))]
-    pub fn read_text(&mut self, number: u64) -> Result<(), Status>
-        ensures looked { Looks (Reads self.old.frame self.new.frame self.new.text) self.old self.new number result }
+    pub fn text(&mut self, number: u64, from: usize, to: &mut [u8]) -> Result<usize, Status>
+        ensures looked { Looks (Shown from to.old to.new self.old.frame self.new.frame) self.old self.new number result }
+        ensures unchanged { OnErr result (to.new ≡ to.old) }
         ensures keeps { KeepsNumbers self.old self.new }
     {
         let place = self.place_of(number)?;
         let Some(object) = self.handles.get(place) else {
             unreachable!()
         };
-        self.text.clear();
-        match try_text_into(self.mutator.frame(), object, &mut self.text) {
-            Ok(()) => Ok(()),
+        match try_text_shown(self.mutator.frame(), object, from, to) {
+            Ok(len) => Ok(len),
             Err(fault) => Err(Status::Fault(fault)),
         }
     }
 
-    /// The text that was read last; none was read yet, if it is empty.
-    pub fn shown(&self) -> &str
-        ensures { result.now ≡ self.now.text }
+    /// Whether the text has just these bytes. Foreign, Stale; then Busy, and WrongKind if it is no text. It takes no memory.
+    #[tactic(auto, using(crate::proofs::Placed::keeps))]
+    pub fn text_is(&mut self, number: u64, bytes: &[u8]) -> Result<bool, Status>
+        ensures looked { Looks (IsBytes bytes.now self.old.frame self.new.frame) self.old self.new number result }
+        ensures keeps { KeepsNumbers self.old self.new }
     {
-        self.text.as_str()
+        let place = self.place_of(number)?;
+        let Some(object) = self.handles.get(place) else {
+            unreachable!()
+        };
+        match try_text_is(self.mutator.frame(), object, bytes) {
+            Ok(is_same) => Ok(is_same),
+            Err(fault) => Err(Status::Fault(fault)),
+        }
     }
 
     /// Whether the two are references to one object. Foreign, Stale for the first, then for the other. It takes no lock.

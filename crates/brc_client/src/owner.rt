@@ -1,19 +1,21 @@
 //! A heap from its opening to its report.
 
 ghost use Rattle.std.specs.Option.{ForSome};
-ghost use Rattle.std.specs.Prelude.{◌≡◌, ◌↔◌, ◌++◌, ◌⊎◌, Err, Some, IfSome, IfOk, IfErr, OnOk, OnErr, length, take, drop};
+ghost use Rattle.std.specs.Prelude.{◌≡◌, ◌↔◌, ◌⊎◌, Err, Some, IfSome, IfOk, IfErr, OnOk, OnErr, length};
 ghost use Rattle.brc_words.specs.declared.fault.Fault.TheVariants as faults;
 ghost use Rattle.brc_count.specs.law.world.Heap.{AreOptions};
+ghost use Rattle.brc_things.specs.Looking.{shown_from};
 ghost use Rattle.brc_client.specs.declared.status.Status.TheVariants as statuses;
 ghost use Rattle.brc_client.specs.declared.owner.OwnerStage.TheVariants as stages;
 ghost use Rattle.brc_client.specs.Ends.{OpensWith, IsRegistered, RegistersAt, RegisteredAt, RefusedAt};
 ghost use Rattle.brc_client.specs.Ends.{RegisterRefused, SameOwner};
 ghost use Rattle.brc_client.specs.Ends.{CountsAt, CountsRefused, open_at, seen_by, ClosedAs, CloseRefused};
-ghost use Rattle.brc_client.specs.Ends.{Shows, report_of, text_in, shown_from, ReportRefused};
+ghost use Rattle.brc_client.specs.Ends.{Shows, report_of, text_in, ReportRefused};
 
 use crate::status::Status;
 use crate::thread::{NotMade, Thread, register};
 use brc_heap::{LastReport, NotClosed, RootCounts, Shared, Sight, Stays, write_report};
+use brc_things::show_from;
 use brc_thread::Options;
 use brc_words::Fault;
 use std::alloc::Global;
@@ -135,17 +137,6 @@ fn written(alloc: Global, last: &LastReport) -> Result<Vec<u8, Global>, Status>
         Ok(()) => Ok(text),
         Err(_fault) => Err(Status::Fault(Fault::OutOfMemory)),
     }
-}
-
-/// As much of a text, from a byte on, as there is room for. The answer is how long all of it is.
-fn show_from(text: &[u8], from: usize, to: &mut [u8]) -> usize
-    ensures len { result ≡ length text.now }
-    ensures shown { to.new ≡ shown_from text.now from to.old }
-{
-    if from < text.len() {
-        let _len = copy_prefix(&text[from..], to);
-    }
-    text.len()
 }
 
 impl OpenHeap {
@@ -319,14 +310,4 @@ impl Owner {
             OwnerStage::Closed(closed) => closed.show(alloc, from, to),
         }
     }
-}
-
-/// As many of the bytes as there is room for are written. Returns how many there are.
-pub fn copy_prefix(bytes: &[u8], to: &mut [u8]) -> usize
-    ensures len { result ≡ length bytes.now }
-    ensures copied { to.new ≡ take (length to.old) bytes.now ++ drop (length bytes.now) to.old }
-{
-    let fits = bytes.len().min(to.len());
-    to[..fits].copy_from_slice(&bytes[..fits]);
-    bytes.len()
 }

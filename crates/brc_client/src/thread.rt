@@ -348,7 +348,7 @@ pub(crate) fn register(alloc: Global, desk: &Shared, first: u32) -> Result<(Thre
                     registration,
                 },
             );
-            let client = Client::new(alloc, mutator, handles, numbers);
+            let client = Client::new(mutator, handles, numbers);
             let thread = Thread {
                 stage: Stage::Works(client),
             };
