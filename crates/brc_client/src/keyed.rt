@@ -8,7 +8,7 @@ ghost use Rattle.brc_client.specs.Clients.{KeepsNumbers};
 ghost use Rattle.brc_client.specs.Calls.{Looks};
 ghost use Rattle.brc_client.specs.Keyed.{PlaceOf, HasKey};
 
-use crate::client::Client;
+use crate::client::{Client, find};
 use crate::status::Status;
 use brc_count::biased::HasTable;
 use brc_count::block::KeyRef;
@@ -62,10 +62,7 @@ impl Client {
         ensures looked { Looks (HasKey (key_lent key.entry) self.old.frame self.new.frame) self.old self.new dict result }
         ensures keeps { KeepsNumbers self.old self.new }
     {
-        let at = self.place_of(dict)?;
-        let Some(object) = self.handles.get(at) else {
-            unreachable!()
-        };
+        let object = find(&self.handles, &self.numbers, dict)?;
         match key_there(self.mutator.frame(), object, key) {
             Ok(is_there) => Ok(is_there),
             Err(fault) => Err(Status::Fault(fault)),
