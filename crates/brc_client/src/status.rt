@@ -46,6 +46,7 @@ impl Status {
 }
 
 /// The bytes as a text. NotText if they are no UTF-8.
+#[inline(always)]
 pub fn text_of(bytes: &[u8]) -> Result<&str, Status>
     ensures text { IfOk result (λ text. text.now ≡ bytes.now) }
     ensures refused { IfErr result (λ status. status ≡ statuses.NotText) }
