@@ -64,9 +64,9 @@
  * Costs. A call on a container, or a look at an object, locks it for the time of the call. So the looks
  * of many threads at one object come one after the other. No lock is taken by brc_same, brc_truth_of
  * and brc_identity, nor by brc_kind_of and brc_int_of of None, booleans and integers from -5 to 256.
- * brc_text_of copies as many bytes as `room` says, and brc_text_len none. brc_list_take moves all later
- * entries, and a delete all later pairs. A client that deletes much puts a scalar of its own beside the key
- * instead, and makes the dictionary anew at times.
+ * brc_text_of copies as many bytes as `room` says, and brc_text_len none. brc_list_take moves all
+ * later entries, and a delete all later pairs. A client that deletes much puts a scalar of its own
+ * beside the key instead, and makes the dictionary anew at times.
  *
  * Traps. What other threads release goes back to the thread that made it, which learns of it by a poll.
  * So a thread that blocks keeps dead objects: let it wait at most 10 ms at a time, with a poll and work
