@@ -415,6 +415,12 @@ brc_status brc_dict_put_int_value(brc_thread *, brc_ref dict, int64_t key, brc_v
 brc_status brc_dict_put_text_value(brc_thread *, brc_ref dict, const uint8_t *key, size_t len, brc_value value,
                                    brc_value *old);
 
+/* The value goes beside the key, if that is new: `back` holds BRC_NO_VALUE then. Else the value comes
+ * back as it is, a reference under a number of its own. So of two threads that put one, one puts it. */
+brc_status brc_dict_put_new_int_value(brc_thread *, brc_ref dict, int64_t key, brc_value value, brc_value *back);
+brc_status brc_dict_put_new_text_value(brc_thread *, brc_ref dict, const uint8_t *key, size_t len, brc_value value,
+                                       brc_value *back);
+
 /* What is beside the key, which stays. Of a reference it is one more. */
 brc_status brc_dict_find_int_value(brc_thread *, brc_ref dict, int64_t key, brc_value *value);
 brc_status brc_dict_find_text_value(brc_thread *, brc_ref dict, const uint8_t *key, size_t len, brc_value *value);

@@ -12,7 +12,7 @@ use Rattle.brc_count.specs.Frames.{FrameSeen, HandleSeen}
 use Rattle.brc_count.specs.Making.{Made}
 use Rattle.brc_things.specs.declared.value.Value.{Value}
 use Rattle.brc_things.specs.Dict_Calls.{DictPut, DictFind, DictDel}
-use Rattle.brc_things.specs.Value_Calls.{DictFindValue, DictDelValue, DictSetValue}
+use Rattle.brc_things.specs.Value_Calls.{DictFindValue, DictDelValue, DictSetValue, DictPutNewValue}
 use Rattle.brc_places.specs.declared.place_makers.Make.TheVariants as making
 use Rattle.brc_places.specs.Calls.{HandleOr, RefusedText, MadeBy}
 use Rattle.brc_client.specs.declared.data.Datum.{Datum}
@@ -59,6 +59,11 @@ DeletesValueByText bytes old new k result = DictDelValue old new k (keys.Text by
 abbrev pub PutsValueByText : List ℕ → FrameSeen Global → FrameSeen Global → ℕ → HandleSeen → HandleSeen → Value Global
     → Result (Option (Value Global)) (HandedBack (Value Global)) → Type 0
 PutsValueByText bytes old new k none after value result = DictSetValue old new k (keys.Text bytes) none after value result
+
+abbrev pub PutsNewByText : List ℕ → FrameSeen Global → FrameSeen Global → ℕ → HandleSeen → HandleSeen → Value Global
+    → Result (Option (Value Global)) (HandedBack (Value Global)) → Type 0
+PutsNewByText bytes old new k none after value result =
+    (after ≡ none) × DictPutNewValue old new k (keys.Text bytes) none value result
 
 -- ---- what is written of a value
 

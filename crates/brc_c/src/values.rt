@@ -7,7 +7,7 @@ ghost use Rattle.brc_places.specs.declared.giving.GiveBy.TheVariants as giving;
 ghost use Rattle.brc_places.specs.declared.valued.PutBy.TheVariants as putting;
 ghost use Rattle.brc_client.specs.Valued.{GivesDatum, GivesPairDatum, TakesDatum};
 ghost use Rattle.brc_client.specs.declared.status.Status.TheVariants as statuses;
-ghost use Rattle.brc_c.specs.Calls.{FindsValueByText, DeletesValueByText, PutsValueByText};
+ghost use Rattle.brc_c.specs.Calls.{FindsValueByText, DeletesValueByText, PutsValueByText, PutsNewByText};
 ghost use Rattle.brc_c.specs.Calls.{value_of, came_of, WritesValuePair};
 ghost use Rattle.brc_c.specs.Exports.{CarriesOut, OrNotText, OrNotValue, HandsDatum, Writes, WritesNothing};
 ghost use Rattle.brc_c.specs.Exports.{code_of, holds_in};
@@ -17,8 +17,8 @@ use crate::outs::{gone, status_of_taking};
 use crate::slots::CThread;
 use brc_client::{
     Datum, DeletingByInt, DeletingByText, FindingByInt, FindingByText, Getting, Inward, Outward,
-    PairDatum, Popping, Pushing, PuttingAt, PuttingByInt, PuttingByText, Receiving, Sending,
-    Setting, Status, Taking, text_of,
+    PairDatum, Popping, Pushing, PuttingAt, PuttingByInt, PuttingByText, PuttingNewByInt,
+    PuttingNewByText, Receiving, Sending, Setting, Status, Taking, text_of,
 };
 use brc_words::Note;
 use std::alloc::Global;
@@ -398,6 +398,52 @@ pub extern "C" fn brc_dict_put_text_value(
                 Ok(datum) => write_came(
                     client.put_value(alloc, dict, PuttingByText(key), datum),
                     old,
+                ),
+                Err(status) => status.number(),
+            },
+            Err(status) => status.number(),
+        },
+        None => gone(),
+    }
+}
+
+#[unsafe(no_mangle)]
+pub extern "C" fn brc_dict_put_new_int_value(
+    alloc: Global,
+    thread: &mut CThread,
+    dict: u64,
+    key: i64,
+    bits: u64,
+    noted: u64,
+    back: &mut CValue,
+) -> u32
+    ensures kept { result ≢ 0 → back.new ≡ back.old }
+    ensures does { CarriesOut (OrNotValue bits noted (TakesDatum (PutValueBy (putting.PutNew (lent.Int key))) dict))
+        thread.old.value thread.new.value result (Writes came_of back.old back.new) }
+{
+    exchange_value_by(alloc, thread, dict, PuttingNewByInt(key), bits, noted, back)
+}
+
+#[unsafe(no_mangle)]
+pub extern "C" fn brc_dict_put_new_text_value(
+    alloc: Global,
+    thread: &mut CThread,
+    dict: u64,
+    key: &[u8],
+    bits: u64,
+    noted: u64,
+    back: &mut CValue,
+) -> u32
+    ensures kept { result ≢ 0 → back.new ≡ back.old }
+    ensures does { CarriesOut (OrNotText key.now (OrNotValue bits noted (TakesDatum (PutsNewByText key.now) dict)))
+        thread.old.value thread.new.value result (Writes came_of back.old back.new) }
+{
+    match thread.as_mut().client() {
+        Some(client) => match text_of(key) {
+            Ok(key) => match datum_of(bits, noted) {
+                Ok(datum) => write_came(
+                    client.put_value(alloc, dict, PuttingNewByText(key), datum),
+                    back,
                 ),
                 Err(status) => status.number(),
             },

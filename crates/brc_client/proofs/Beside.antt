@@ -1,6 +1,6 @@
 -- The handle to None that a client keeps beside its places: made, gone, and where an object comes under it; and a handle
 -- that is out of its place, on its way into a container.
-use Rattle.std.proofs.Common.{arith, ◌≡◌, ◌≢◌, ◌<◌, ℕ, List, Option, Some, None, length, slice_set}
+use Rattle.std.proofs.Common.{refl, arith, ◌≡◌, ◌≢◌, ◌<◌, ℕ, List, Option, Some, None, length, slice_set}
 use Rattle.std.proofs.Common.{sym, ap, ◌∙◌, ◌+◌, inl, inr, subst, Ok}
 use Rattle.std.proofs.lemmas.List.{set-set, set-get_or}
 use Rattle.std.specs.declared.alloc.Global.{Global}
@@ -220,6 +220,11 @@ put_under : (old new : FrameSeen Global) (k : ℕ) (none after : HandleSeen) (va
 put_under old new k none after value call None put = put.0
 put_under old new k none after value call (Some came) put = swapped_under old new k none after value call came put
 
+-- what comes back as it went in
+back_under : (none after : HandleSeen) (value : Value Global) → after ≡ none → CameUnder none after value (Some value)
+back_under none after (values.Scalar note) same = same
+back_under none after (values.Object handle note) same = (same, refl)
+
 pub came_under : (by : PutBy) (old new : FrameSeen Global) (k : ℕ) (none after : HandleSeen) (value : Value Global)
     (came : Option (Value Global)) → PutValueBy by old new k none after value (Ok came) → CameUnder none after value came
 came_under puts.Push old new k none after value None did = did.0
@@ -231,6 +236,10 @@ came_under (puts.PutAt index) old new k none after value came did = put_under ol
 came_under puts.Send old new k none after value None did = did.0
 came_under puts.Send old new k none after value (Some came) did = absurd did.1
 came_under (puts.Put key) old new k none after value came did = put_under old new k none after value _ came did.did
+came_under (puts.PutNew key) old new k none after value None did = did.0
+came_under (puts.PutNew key) old new k none after value (Some came) did =
+    subst (λ (back : Value Global). CameUnder none after value (Some back)) (sym did.1.did.0)
+    (back_under none after value did.0)
 
 -- it is in none of the places
 pub scalar_loose : (frame : FrameSeen Global) (hs : List (Option HandleSeen)) (none after : HandleSeen) (note : Note)

@@ -29,7 +29,10 @@ pub use brc_places::{Make, TakeBy};
 pub use client::Client;
 pub use data::{Datum, PairDatum};
 pub use owner::{Left, Owner};
-pub use put_value::{Inward, Pushing, PuttingAt, PuttingByInt, PuttingByText, Sending, Setting};
+pub use put_value::{
+    Inward, Pushing, PuttingAt, PuttingByInt, PuttingByText, PuttingNewByInt, PuttingNewByText,
+    Sending, Setting,
+};
 pub use status::{Status, text_of};
 pub use take_out::{
     DeletingByInt, DeletingByText, FindingByInt, FindingByText, Getting, Outward, Popping,

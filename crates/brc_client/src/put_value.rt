@@ -14,8 +14,8 @@ use brc_count::block::KeyRef;
 use brc_count::{Frame, HandedBack, Handle};
 use brc_heap::Shared;
 use brc_things::{
-    Value, try_dict_set_value, try_list_push_value, try_list_put_value, try_list_set_value,
-    try_send_value,
+    Value, try_dict_put_new_value, try_dict_set_value, try_list_push_value, try_list_put_value,
+    try_list_set_value, try_send_value,
 };
 use std::alloc::Global;
 
@@ -176,5 +176,45 @@ impl<'k> Inward for PuttingByText<'k> {
         value: Value<Global>,
     ) -> Result<Option<Value<Global>>, HandedBack<Value<Global>>> {
         try_dict_set_value(alloc, frame, none, object, KeyRef::Text(self.0), value)
+    }
+}
+
+/// `dict_put_new_value`: it goes beside this integer, if no pair has it; else it comes back.
+#[derive(Clone, Copy, Debug, PartialEq, Eq)]
+pub struct PuttingNewByInt(pub i64);
+
+impl Inward for PuttingNewByInt {
+    ghost call = { λ by. puts.PutNew (lent.Int by.0) };
+
+    #[inline(always)]
+    fn try_put_value(
+        self,
+        alloc: Global,
+        frame: &mut Frame<Shared, Global>,
+        none: &mut Handle<Global>,
+        object: &Handle<Global>,
+        value: Value<Global>,
+    ) -> Result<Option<Value<Global>>, HandedBack<Value<Global>>> {
+        try_dict_put_new_value(alloc, frame, none, object, KeyRef::Int(self.0), value)
+    }
+}
+
+/// The same beside this text.
+#[derive(Clone, Copy, Debug, PartialEq, Eq)]
+pub struct PuttingNewByText<'k>(pub &'k str);
+
+impl<'k> Inward for PuttingNewByText<'k> {
+    ghost call = { λ by. puts.PutNew (lent.Text by.0) };
+
+    #[inline(always)]
+    fn try_put_value(
+        self,
+        alloc: Global,
+        frame: &mut Frame<Shared, Global>,
+        none: &mut Handle<Global>,
+        object: &Handle<Global>,
+        value: Value<Global>,
+    ) -> Result<Option<Value<Global>>, HandedBack<Value<Global>>> {
+        try_dict_put_new_value(alloc, frame, none, object, KeyRef::Text(self.0), value)
     }
 }

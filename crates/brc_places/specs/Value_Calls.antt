@@ -8,7 +8,7 @@ use Rattle.brc_count.specs.Frames.{FrameSeen, HandleSeen}
 use Rattle.brc_things.specs.declared.value.Value.{Value}
 use Rattle.brc_things.specs.Called.{Late}
 use Rattle.brc_things.specs.Value_Calls.{ListPushValue, ListPopValue, ListTakeValue, ListGetValue, ListSetValue, ListPutValue}
-use Rattle.brc_things.specs.Value_Calls.{SendValue, RecvValue, DictFindValue, DictDelValue, DictSetValue}
+use Rattle.brc_things.specs.Value_Calls.{SendValue, RecvValue, DictFindValue, DictDelValue, DictSetValue, DictPutNewValue}
 use Rattle.brc_places.specs.Calls.{AnswersNone, AnswersOld}
 use Rattle.brc_places.specs.declared.giving.GiveBy.{GiveBy}
 use Rattle.brc_places.specs.declared.giving.GiveBy.TheVariants as gives
@@ -41,6 +41,8 @@ module _ {A : Type 0} where
       (after ≡ none) × AnswersNone (SendValue old new k none value) result
   PutValueBy (puts.Put key) old new k none after value result =
       DictSetValue old new k (key_lent key) none after value result
+  PutValueBy (puts.PutNew key) old new k none after value result =
+      (after ≡ none) × DictPutNewValue old new k (key_lent key) none value result
 
   -- that call, once no other thread has the object locked
   abbrev pub PutValueLate : PutBy → FrameSeen A → FrameSeen A → ℕ → HandleSeen → HandleSeen → Value A

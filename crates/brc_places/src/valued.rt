@@ -12,11 +12,11 @@ use brc_count::biased::HasTable;
 use brc_count::block::KeyRef;
 use brc_count::{Frame, HandedBack, Handle};
 use brc_things::{
-    Value, dict_del_value, dict_find_value, dict_set_value, list_get_value, list_pop_value,
-    list_push_value, list_put_value, list_set_value, list_take_value, recv_value, send_value,
-    try_dict_del_value, try_dict_find_value, try_dict_set_value, try_list_get_value,
-    try_list_pop_value, try_list_push_value, try_list_put_value, try_list_set_value,
-    try_list_take_value, try_recv_value, try_send_value,
+    Value, dict_del_value, dict_find_value, dict_put_new_value, dict_set_value, list_get_value,
+    list_pop_value, list_push_value, list_put_value, list_set_value, list_take_value, recv_value,
+    send_value, try_dict_del_value, try_dict_find_value, try_dict_put_new_value,
+    try_dict_set_value, try_list_get_value, try_list_pop_value, try_list_push_value,
+    try_list_put_value, try_list_set_value, try_list_take_value, try_recv_value, try_send_value,
 };
 use brc_words::Fault;
 use std::alloc::Allocator;
@@ -35,6 +35,8 @@ pub enum PutBy<'k> {
     Send,
     /// `dict_set_value`: it goes beside the key in a dictionary, and what was there comes out.
     Put(KeyRef<'k>),
+    /// `dict_put_new_value`: it goes beside the key, if that is new; else it comes back.
+    PutNew(KeyRef<'k>),
 }
 
 /// The value that the object's call gives, once no other thread has the object locked; so it never answers Busy.
@@ -130,6 +132,7 @@ pub fn put_value_by<H: HasTable<A>, A: Allocator + Copy>(
             Err(handed) => Err(handed),
         },
         PutBy::Put(key) => dict_set_value(rt, alloc, frame, none, object, key, value),
+        PutBy::PutNew(key) => dict_put_new_value(rt, alloc, frame, none, object, key, value),
     }
 }
 
@@ -173,5 +176,6 @@ pub fn try_put_value_by<H: HasTable<A>, A: Allocator + Copy>(
             Err(handed) => Err(handed),
         },
         PutBy::Put(key) => try_dict_set_value(alloc, frame, none, object, key, value),
+        PutBy::PutNew(key) => try_dict_put_new_value(alloc, frame, none, object, key, value),
     }
 }

@@ -1,6 +1,6 @@
 -- What each call by values does, told once for both its forms: from the frame `old` that its locking began from
 -- (`specs/Called.antt`), on the object in place k.
-use Rattle.std.specs.Prelude.{ℕ, Option, Result}
+use Rattle.std.specs.Prelude.{◌≡◌, ℕ, Option, Some, None, Result}
 use Rattle.brc_words.specs.declared.entry.Entry.{Entry}
 use Rattle.brc_words.specs.declared.fault.Fault.{Fault}
 use Rattle.brc_words.specs.declared.key.Key.{Key}
@@ -10,7 +10,8 @@ use Rattle.brc_things.specs.declared.value.Pair.{Pair}
 use Rattle.brc_things.specs.declared.value.Value.{Value}
 use Rattle.brc_things.specs.Called.{HandsOut, TakesIn, TakesInPlaced}
 use Rattle.brc_things.specs.Changing.{PlainCall, RefusedPlace}
-use Rattle.brc_things.specs.Plain_Dicts.{plain_find, plain_del, plain_put}
+use Rattle.brc_things.specs.Indexing.{ReadsUnlocked}
+use Rattle.brc_things.specs.Plain_Dicts.{plain_find, plain_del, plain_put, plain_place}
 use Rattle.brc_things.specs.Plain_Lists.{plain_push, plain_pop, plain_take_at, plain_get, plain_set, plain_send, plain_receive}
 use Rattle.brc_things.specs.Plain_Values.{PutCall, at_new, at_old, plain_put_at}
 use Rattle.brc_things.specs.Values.{LooksAtValue, TakesOutValue, PutsValueIn, SwapsValueIn, HasPutValue, RefusedPutting}
@@ -87,6 +88,18 @@ module _ {A : Type 0} where
   abbrev pub DictSetValue : FrameSeen A → FrameSeen A → ℕ → Key A → HandleSeen → HandleSeen → Value A
       → Result (Option (Value A)) (HandedBack (Value A)) → Type 0
   DictSetValue old new k key none after value result = PutsInPlace old new k none after value (plain_put key) result
+
+  -- The value went in beside the key, which wasn't there, or it came back, and the key was found.
+  abbrev pub PutsNew : FrameSeen A → FrameSeen A → ℕ → Key A → HandleSeen → Value A → Option (Value A) → Type 0
+  PutsNew old new k key none value None = PutsValueIn old new k none value (plain_put key)
+  PutsNew old new k key none value (Some back) =
+      (back ≡ value) × ((place : ℕ) × ReadsUnlocked old new k (plain_place key) place)
+
+  -- the value goes beside the key, if that isn't there: of two threads that put one, the first whose lock it is puts it
+  abbrev pub DictPutNewValue : FrameSeen A → FrameSeen A → ℕ → Key A → HandleSeen → Value A
+      → Result (Option (Value A)) (HandedBack (Value A)) → Type 0
+  DictPutNewValue old new k key none value result =
+      TakesInPlaced old new (PutsNew old new k key none value) (RefusedPutting old new k value (plain_put key)) result
 
   -- the key at the place, with what stands beside it, and how many pairs there are
   abbrev pub DictPairValue : FrameSeen A → FrameSeen A → ℕ → ℕ → Result (Pair A) Fault → Type 0

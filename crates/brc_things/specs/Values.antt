@@ -236,6 +236,11 @@ module _ {A : Type 0} where
   OwnsPutValue old new after value None = LosesValue old new value
   OwnsPutValue old new after value (Some came) = OwnsSwapped old new after value came
 
+  -- the same where the value went in, or came back
+  abbrev pub LosesNew : FrameSeen A → FrameSeen A → Value A → Option (Value A) → Type 0
+  LosesNew old new value None = LosesValue old new value
+  LosesNew old new value (Some back) = Keeps old new
+
   -- What came out of an entry for an object, whose handle has its reference: a scalar's, to None, is let go of.
   abbrev pub CameOut : FrameSeen A → FrameSeen A → HandleSeen → Entry → Value A → Type 0
   CameOut old new handle entry (Scalar note) =

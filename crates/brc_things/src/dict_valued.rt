@@ -11,9 +11,9 @@ ghost use Rattle.brc_things.specs.Changing.{KeepsAllPlaces, RefusedPlace};
 ghost use Rattle.brc_things.specs.Plain_Dicts.{plain_find, plain_del, plain_put};
 ghost use Rattle.brc_things.specs.Seeking.{IsAbsent};
 ghost use Rattle.brc_things.specs.Since.{Since};
-ghost use Rattle.brc_things.specs.Value_Calls.{DictFindValue, DictDelValue, DictSetValue, DictPairValue};
+ghost use Rattle.brc_things.specs.Value_Calls.{DictFindValue, DictDelValue, DictSetValue, DictPutNewValue, DictPairValue, PutsNew};
 ghost use Rattle.brc_things.specs.Values.{OwnsValue, StandsApart, GainsValue, LosesValue, HasNone, LooksAtValue, TakesOutValue};
-ghost use Rattle.brc_things.specs.Values.{PutsValueIn, HasPutValue, RefusedPutting, OwnsPutValue, LooksAtPair, RefusedPairAt};
+ghost use Rattle.brc_things.specs.Values.{PutsValueIn, HasPutValue, RefusedPutting, OwnsPutValue, LosesNew, LooksAtPair, RefusedPairAt};
 ghost use Rattle.brc_things.specs.Within.{HasLockedList};
 
 use crate::indexing::pair_in;
@@ -198,6 +198,53 @@ fn set_value_by<H: HasTable<A>, A: Allocator + Copy>(
     }
 }
 
+/// The value goes beside the key, if that is new; else it comes back. The faults: WrongKind; with a new key Full and
+/// OutOfMemory.
+fn put_new_by<H: HasTable<A>, A: Allocator + Copy>(
+    alloc: A,
+    frame: &mut Frame<H, A>,
+    block: Block<A>,
+    key: KeyRef<'_>,
+    none: &Handle<A>,
+    value: Value<A>,
+) -> Result<Option<Value<A>>, HandedBack<Value<A>>>
+    requires has { HasLockedList frame.old block }
+    requires none { HasNone frame.old none.now }
+    requires apart_none { place_locked frame.old ≢ Some none.now.place }
+    requires owned { OwnsValue frame.old value }
+    requires apart { (k : ℕ) → place_locked frame.old ≡ Some k → StandsApart k value }
+    requires other { StandsApart none.now.place value }
+    ensures thread { KeepsThread frame.old frame.new }
+    ensures unlocked { IsUnlocked frame.new }
+    ensures put { IfOk result (λ back. Since frame.old block
+        (λ before k. PutsNew before frame.new k (key_lent key.entry) none.now value back)) }
+    ensures loses { IfOk result (λ back. LosesNew frame.old frame.new value back) }
+    ensures none { HasNone frame.new none.now }
+    ensures back { IfErr result (λ handed. handed.value ≡ value) }
+    ensures places { OnErr result (KeepsAllPlaces frame.old frame.new) }
+    ensures refused { IfErr result (λ handed. Since frame.old block
+        (λ before k. RefusedPutting before frame.new k value (plain_put {A = A} (key_lent key.entry)) handed.fault)) }
+    ensures waits { IfErr result (λ handed. handed.fault ≢ faults.Busy) }
+{
+    match seek(block.payload(), key) {
+        Sought::There { .. } => {
+            frame.end_keep(block);
+            Ok(Some(value))
+        }
+        Sought::Absent => match append_value(alloc, frame, block, key, none, value) {
+            Ok(()) => Ok(None),
+            Err(handed) => Err(handed),
+        },
+        Sought::WrongKind => {
+            frame.end_keep(block);
+            Err(HandedBack {
+                fault: Fault::WrongKind,
+                value,
+            })
+        }
+    }
+}
+
 /// The pair at the place, and how many there are. The faults: WrongKind, NoSuchPlace, and of an object FrameFull; then
 /// OutOfMemory.
 fn look_pair<H: HasTable<A>, A: Allocator>(
@@ -357,6 +404,71 @@ pub fn try_dict_set_value<H: HasTable<A>, A: Allocator + Copy>(
         });
     };
     set_value_by(alloc, frame, block, key, none, value)
+}
+
+/// Puts the value beside the key, which is lent, if the key isn't there: it comes last, by a copy of the key, and the answer
+/// is None. Else the value comes back. So of two threads that put one, the first to have the dictionary puts it. The faults
+/// come in this order: Busy where another thread has the dictionary locked, WrongKind where the object is none; with a new
+/// key Full at 1,048,576 pairs and OutOfMemory. A refusal hands the value back. `none` is as in `try_list_push_value`.
+pub fn try_dict_put_new_value<H: HasTable<A>, A: Allocator + Copy>(
+    alloc: A,
+    frame: &mut Frame<H, A>,
+    none: &Handle<A>,
+    dict: &Handle<A>,
+    key: KeyRef<'_>,
+    value: Value<A>,
+) -> Result<Option<Value<A>>, HandedBack<Value<A>>>
+    requires owned { Owns frame.old dict.now }
+    requires unlocked { IsUnlocked frame.old }
+    requires none { HasNone frame.old none.now }
+    requires apart_none { dict.now.place ≢ none.now.place }
+    requires value { OwnsValue frame.old value }
+    requires apart { StandsApart dict.now.place value }
+    requires other { StandsApart none.now.place value }
+    ensures put { DictPutNewValue frame.old frame.new dict.now.place (key_lent key.entry) none.now value result }
+    ensures loses { IfOk result (λ back. LosesNew frame.old frame.new value back) }
+    ensures none { HasNone frame.new none.now }
+    ensures back { IfErr result (λ handed. handed.value ≡ value) }
+    ensures keeps { OnErr result (Keeps frame.old frame.new) }
+    ensures unlocked { IsUnlocked frame.new }
+{
+    let Some(block) = frame.begin(dict) else {
+        return Err(HandedBack {
+            fault: Fault::Busy,
+            value,
+        });
+    };
+    put_new_by(alloc, frame, block, key, none, value)
+}
+
+/// As `try_dict_put_new_value`, but it waits while another thread has the dictionary locked.
+pub fn dict_put_new_value<H: HasTable<A>, A: Allocator + Copy>(
+    rt: &impl Wait,
+    alloc: A,
+    frame: &mut Frame<H, A>,
+    none: &Handle<A>,
+    dict: &Handle<A>,
+    key: KeyRef<'_>,
+    value: Value<A>,
+) -> Result<Option<Value<A>>, HandedBack<Value<A>>>
+    requires owned { Owns frame.old dict.now }
+    requires unlocked { IsUnlocked frame.old }
+    requires none { HasNone frame.old none.now }
+    requires apart_none { dict.now.place ≢ none.now.place }
+    requires value { OwnsValue frame.old value }
+    requires apart { StandsApart dict.now.place value }
+    requires other { StandsApart none.now.place value }
+    ensures put { Late frame.old dict.now.place
+        (λ mid. DictPutNewValue mid frame.new dict.now.place (key_lent key.entry) none.now value result) }
+    ensures loses { IfOk result (λ back. LosesNew frame.old frame.new value back) }
+    ensures none { HasNone frame.new none.now }
+    ensures back { IfErr result (λ handed. handed.value ≡ value) }
+    ensures keeps { OnErr result (Keeps frame.old frame.new) }
+    ensures unlocked { IsUnlocked frame.new }
+    ensures waited { IfErr result (λ handed. handed.fault ≢ faults.Busy) }
+{
+    let block = begin_late(rt, frame, dict);
+    put_new_by(alloc, frame, block, key, none, value)
 }
 
 /// As `try_dict_set_value`, but it waits while another thread has the dictionary locked.

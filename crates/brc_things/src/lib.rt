@@ -33,8 +33,9 @@ mod waiting_readers;
 mod within;
 
 pub use dict_valued::{
-    dict_del_value, dict_find_value, dict_pair_value, dict_set_value, try_dict_del_value,
-    try_dict_find_value, try_dict_pair_value, try_dict_set_value,
+    dict_del_value, dict_find_value, dict_pair_value, dict_put_new_value, dict_set_value,
+    try_dict_del_value, try_dict_find_value, try_dict_pair_value, try_dict_put_new_value,
+    try_dict_set_value,
 };
 pub use dict_values::{
     dict_del, dict_del_by, dict_find, dict_find_by, try_dict_del, try_dict_del_by, try_dict_find,
