@@ -46,9 +46,9 @@ typedef enum {
     DEL_INT, PUT_TEXT, FIND_TEXT, DEL_TEXT, PAIR,
     /* and from here on a value, if its status is OK */
     POP_VALUE, TAKE_VALUE, GET_VALUE, RECV_VALUE, SET_VALUE, FIND_INT_VALUE, DEL_INT_VALUE, FIND_TEXT_VALUE, DEL_TEXT_VALUE,
-    PAIR_VALUE,
+    PAIR_VALUE, SWAP_IF, SWAP_IF_INT, SWAP_IF_TEXT,
     /* or nothing */
-    PUT_VALUE, PUT_INT_VALUE, PUT_TEXT_VALUE, CALLS
+    PUT_VALUE, PUT_INT_VALUE, PUT_TEXT_VALUE, PUT_NEW_INT_VALUE, PUT_NEW_TEXT_VALUE, CALLS
 } call_t;
 
 /* A set of statuses. */
@@ -118,15 +118,21 @@ static const struct { int weight, numbers; uint64_t statuses; } ABOUT[CALLS] = {
     [FIND_TEXT_VALUE] = {2, 1, OBJECT | PLACE | S(BRC_NOT_TEXT) | S(BRC_NO_SUCH_KEY)},
     [DEL_TEXT_VALUE] = {2, 1, OBJECT | PLACE | S(BRC_NOT_TEXT) | S(BRC_NO_SUCH_KEY)},
     [PAIR_VALUE] = {2, 1, OBJECT | PLACE | S(BRC_NO_SUCH_PLACE)},
+    [SWAP_IF] = {3, 2, VALUE | S(BRC_NO_SUCH_PLACE)},
+    [SWAP_IF_INT] = {3, 2, VALUE | S(BRC_NO_SUCH_KEY)},
+    [SWAP_IF_TEXT] = {3, 2, VALUE | S(BRC_NOT_TEXT) | S(BRC_NO_SUCH_KEY)},
     [PUT_VALUE] = {2, 2, VALUE | S(BRC_NO_SUCH_PLACE) | S(BRC_FULL)},
     [PUT_INT_VALUE] = {4, 2, VALUE | S(BRC_FULL)},
     [PUT_TEXT_VALUE] = {4, 2, VALUE | S(BRC_NOT_TEXT) | S(BRC_FULL)},
+    [PUT_NEW_INT_VALUE] = {3, 2, VALUE | S(BRC_FULL)},
+    [PUT_NEW_TEXT_VALUE] = {3, 2, VALUE | S(BRC_NOT_TEXT) | S(BRC_FULL)},
 };
 
 /* What a call is given, and where it writes. */
 typedef struct {
     brc_ref one, other;
     brc_value put;              /* a scalar; or `other`, as a reference or as what no value holds */
+    brc_value expected;         /* so of a number, which may be `other` */
     int64_t key;
     uint32_t index, word;
     uint8_t bytes[3];
@@ -253,12 +259,14 @@ static brc_value any_value(worker_t *w, brc_ref ref) {
 static brc_kind kind_for(call_t call) {
     switch (call) {
     case PUSH: case POP: case TAKE: case GET: case SET:
-    case PUSH_VALUE: case POP_VALUE: case TAKE_VALUE: case GET_VALUE: case SET_VALUE: case PUT_VALUE: return BRC_LIST;
+    case PUSH_VALUE: case POP_VALUE: case TAKE_VALUE: case GET_VALUE: case SET_VALUE: case PUT_VALUE:
+    case SWAP_IF: return BRC_LIST;
     case SEND: case RECV: case SEND_VALUE: case RECV_VALUE: return BRC_MAILBOX;
     case PUT_INT: case FIND_INT: case DEL_INT: case PUT_TEXT: case FIND_TEXT: case DEL_TEXT: case PAIR:
     case HAS_INT: case HAS_TEXT: case PLACE_INT: case PLACE_TEXT:
     case PUT_INT_VALUE: case FIND_INT_VALUE: case DEL_INT_VALUE: case PUT_TEXT_VALUE: case FIND_TEXT_VALUE:
-    case DEL_TEXT_VALUE: case PAIR_VALUE: return BRC_DICT;
+    case DEL_TEXT_VALUE: case PAIR_VALUE: case PUT_NEW_INT_VALUE: case PUT_NEW_TEXT_VALUE:
+    case SWAP_IF_INT: case SWAP_IF_TEXT: return BRC_DICT;
     default: return 0;
     }
 }
@@ -277,6 +285,9 @@ static inputs_t any_inputs(worker_t *w, call_t call) {
     in.one = first_number(w, call);
     in.other = draw(w, 50) ? any_number(w) : in.one;
     in.put = any_value(w, in.other);
+    in.expected = draw(w, 3) ? brc_of_bits(OF_BITS, bits_of(OF_BITS)) : any_value(w, any_number(w));
+    if (draw(w, 3) == 0) in.put = in.expected;
+    if (in.put.holds == BRC_REFERENCE) in.other = in.put.bits;
     in.key = (int64_t)draw(w, 8);
     in.index = (uint32_t)draw(w, 4);
     in.word = (uint32_t)draw(w, 0);
@@ -287,6 +298,18 @@ static inputs_t any_inputs(worker_t *w, call_t call) {
     in.room = (size_t)draw(w, 9);
     in.is_text = in.len < 3 || in.bytes[2] < 128;
     return in;
+}
+
+/* The value goes in and comes out in one variable: a refusal leaves it as it was. */
+static brc_status swap_if(brc_thread *t, call_t call, const inputs_t *in, outs_t *out) {
+    brc_value value = in->put;
+    brc_status s;
+    if (call == SWAP_IF) s = brc_list_swap_if(t, in->one, in->index, in->expected, &value, &out->word);
+    else if (call == SWAP_IF_INT) s = brc_dict_swap_if_int(t, in->one, in->key, in->expected, &value, &out->word);
+    else s = brc_dict_swap_if_text(t, in->one, in->bytes, in->len, in->expected, &value, &out->word);
+    if (s == BRC_OK) out->came = value;
+    else CHECK(memcmp(&value, &in->put, sizeof value) == 0);
+    return s;
 }
 
 static brc_status make_call(worker_t *w, call_t call, const inputs_t *in, outs_t *out) {
@@ -351,17 +374,23 @@ static brc_status make_call(worker_t *w, call_t call, const inputs_t *in, outs_t
     case PUT_VALUE: return brc_list_put_value(t, one, in->index, in->put, &out->came);
     case PUT_INT_VALUE: return brc_dict_put_int_value(t, one, in->key, in->put, &out->came);
     case PUT_TEXT_VALUE: return brc_dict_put_text_value(t, one, in->bytes, in->len, in->put, &out->came);
+    case PUT_NEW_INT_VALUE: return brc_dict_put_new_int_value(t, one, in->key, in->put, &out->came);
+    case PUT_NEW_TEXT_VALUE: return brc_dict_put_new_text_value(t, one, in->bytes, in->len, in->put, &out->came);
+    case SWAP_IF: case SWAP_IF_INT: case SWAP_IF_TEXT: return swap_if(t, call, in, out);
     default: abort();
     }
 }
 
 static int has_bytes(call_t call) {
     return call == NEW_TEXT || call == PUT_TEXT || call == FIND_TEXT || call == DEL_TEXT || call == PUT_TEXT_VALUE ||
-           call == FIND_TEXT_VALUE || call == DEL_TEXT_VALUE || call == HAS_TEXT || call == PLACE_TEXT;
+           call == FIND_TEXT_VALUE || call == DEL_TEXT_VALUE || call == HAS_TEXT || call == PLACE_TEXT ||
+           call == PUT_NEW_TEXT_VALUE || call == SWAP_IF_TEXT;
 }
 
+static int expects(call_t call) { return call == SWAP_IF || call == SWAP_IF_INT || call == SWAP_IF_TEXT; }
+
 static int puts_a_value(call_t call) {
-    return call == PUSH_VALUE || call == SEND_VALUE || call == SET_VALUE || call >= PUT_VALUE;
+    return call == PUSH_VALUE || call == SEND_VALUE || call == SET_VALUE || expects(call) || call >= PUT_VALUE;
 }
 
 static int puts_a_reference(call_t call, const inputs_t *in) {
@@ -382,9 +411,11 @@ static void check_status(worker_t *w, call_t call, const inputs_t *in, brc_statu
     int holds_one = ABOUT[call].numbers < 1 || place_of(w, in->one) >= 0;
     int needs_one = ABOUT[call].numbers < 2 || (puts_a_value(call) && in->put.holds != BRC_REFERENCE);
     int holds_all = holds_one && (needs_one || place_of(w, in->other) >= 0);
+    int not_value = in->put.holds > BRC_REFERENCE || (expects(call) && in->expected.holds > BRC_REFERENCE);
+    if (expects(call) && in->expected.holds == BRC_REFERENCE) holds_all = holds_all && place_of(w, in->expected.bits) >= 0;
     if (has_bytes(call) && !in->is_text) {
         CHECK(s == BRC_NOT_TEXT);
-    } else if (puts_a_value(call) && in->put.holds > BRC_REFERENCE) {
+    } else if (puts_a_value(call) && not_value) {
         CHECK(s == BRC_NOT_VALUE);
     } else if (!holds_all) {
         CHECK(s == BRC_STALE || s == BRC_FOREIGN);

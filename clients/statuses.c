@@ -25,7 +25,7 @@
 #include <time.h>
 #include "brc.h"
 
-enum { REFERENCES = 65536, ENTRIES = 1048576, MOST_THREADS = 64, CALLS = 67 };
+enum { REFERENCES = 65536, ENTRIES = 1048576, MOST_THREADS = 64, CALLS = 72 };
 enum { LABEL = 77, UNWRITTEN = 0xa5, DEAD_ENTRIES = 100000, TRIES = 10000000, SECONDS = 60 };
 
 /* ---- What is said */
@@ -202,7 +202,8 @@ typedef enum {
     KIND_OF, LEN_OF, INT_OF, TRUTH_OF, TEXT_OF, TEXT_IS, PUSH, POP, TAKE, GET, SET, SEND, RECV, PUT_INT, PUT_TEXT,
     FIND_INT, FIND_TEXT, DEL_INT, DEL_TEXT, PAIR, HAS_INT, HAS_TEXT, PLACE_INT, PLACE_TEXT, LEDGER, RELEASE_ALL, CLAIM, POLL,
     WORK, COUNT, PUSH_VALUE, POP_VALUE, TAKE_VALUE, GET_VALUE, SET_VALUE,
-    PUT_VALUE, SEND_VALUE, RECV_VALUE, PUT_INT_VALUE, PUT_TEXT_VALUE, FIND_INT_VALUE, FIND_TEXT_VALUE, DEL_INT_VALUE,
+    PUT_VALUE, SEND_VALUE, RECV_VALUE, PUT_INT_VALUE, PUT_TEXT_VALUE, PUT_NEW_INT_VALUE, PUT_NEW_TEXT_VALUE,
+    SWAP_IF, SWAP_IF_INT, SWAP_IF_TEXT, FIND_INT_VALUE, FIND_TEXT_VALUE, DEL_INT_VALUE,
     DEL_TEXT_VALUE, PAIR_VALUE
 } call_t;
 
@@ -210,6 +211,7 @@ typedef enum {
 typedef struct {
     brc_ref one, other;
     uint32_t holds;             /* what a value holds: its bits are `other` */
+    brc_value expected;         /* what is expected where it goes */
     int64_t key;
     uint32_t index;
     const uint8_t *bytes;
@@ -228,6 +230,18 @@ typedef struct {
 } outs_t;
 
 enum { NOT_SO = 99 };           /* a call without a status returned something else */
+
+/* The value goes in and comes out in one variable: a refusal leaves it as it was. */
+static brc_status swap_if(call_t call, brc_thread *t, const inputs_t *in, brc_value value, outs_t *out) {
+    brc_value came = value;
+    brc_status s;
+    if (call == SWAP_IF) s = brc_list_swap_if(t, in->one, in->index, in->expected, &came, &out->word);
+    else if (call == SWAP_IF_INT) s = brc_dict_swap_if_int(t, in->one, in->key, in->expected, &came, &out->word);
+    else s = brc_dict_swap_if_text(t, in->one, in->bytes, in->len, in->expected, &came, &out->word);
+    if (s == BRC_OK) out->datum = came;
+    else CHECK(memcmp(&came, &value, sizeof came) == 0);
+    return s;
+}
 
 static brc_status make_call(call_t call, brc_thread *t, const inputs_t *in, outs_t *out) {
     const brc_ref one = in->one, other = in->other;
@@ -286,6 +300,9 @@ static brc_status make_call(call_t call, brc_thread *t, const inputs_t *in, outs
     case RECV_VALUE: return brc_recv_value(t, one, &out->datum);
     case PUT_INT_VALUE: return brc_dict_put_int_value(t, one, in->key, value, &out->datum);
     case PUT_TEXT_VALUE: return brc_dict_put_text_value(t, one, in->bytes, in->len, value, &out->datum);
+    case PUT_NEW_INT_VALUE: return brc_dict_put_new_int_value(t, one, in->key, value, &out->datum);
+    case PUT_NEW_TEXT_VALUE: return brc_dict_put_new_text_value(t, one, in->bytes, in->len, value, &out->datum);
+    case SWAP_IF: case SWAP_IF_INT: case SWAP_IF_TEXT: return swap_if(call, t, in, value, out);
     case FIND_INT_VALUE: return brc_dict_find_int_value(t, one, in->key, &out->datum);
     case FIND_TEXT_VALUE: return brc_dict_find_text_value(t, one, in->bytes, in->len, &out->datum);
     case DEL_INT_VALUE: return brc_dict_del_int_value(t, one, in->key, &out->datum);
@@ -646,6 +663,19 @@ static const about_t ABOUT[] = {
     {PAIR_VALUE, "brc_dict_pair_value", SCALAR_DICTS, {LOOKS, LOOKS_AT_KEY}},
 };
 
+/* Where a reference stands, and the value comes back: no place is wanted. */
+static const row_t COMES_BACK[] = {
+    {"another thread has the container, where something else stands", FULL, SOME, ELSEWHERE, FIRST, NONE, BRC_BUSY, BRC_OK},
+    {"something else stands there, and no place", FULL, SOME, ELSEWHERE, FIRST, NONE, BRC_OK, 0},
+    {"something else stands there, and no memory", TIGHT, SOME, ELSEWHERE, FIRST, NONE, BRC_OK, 0},
+    {0}};
+static const row_t NO_KEY[] = {
+    {"another thread has the dictionary, which has no such key", FULL, SOME, VALUE, ABSENT, NONE, BRC_BUSY, BRC_NO_SUCH_KEY},
+    {"the dictionary is empty", FULL, EMPTY, VALUE, FIRST, NONE, BRC_NO_SUCH_KEY, 0},
+    {"the key isn't there", FULL, SOME, VALUE, ABSENT, NONE, BRC_NO_SUCH_KEY, 0},
+    {"the key isn't there, and the dictionary is full", FULL, MOST, VALUE, ABSENT, NONE, BRC_NO_SUCH_KEY, 0},
+    {0}};
+
 /* A call that puts a value, its objects, and those where scalars stand. */
 typedef struct {
     call_t call;
@@ -653,16 +683,21 @@ typedef struct {
     object_t of[6], of_scalars[6];
     const row_t *key;           /* NULL, if it has no key that is a text */
     const row_t *puts[3];       /* behind WRONG_KIND; NULL behind the last */
-    int gives;                  /* whether what stood there comes out */
+    enum { KEEPS_OLD, GIVES_OLD, GIVES_BACK } gives;    /* what comes out where something stands: that, or the value itself */
 } put_t;
 
 static const put_t VALUE_PUTS[] = {
-    {PUSH_VALUE, "brc_list_push_value", LISTS, SCALAR_LISTS, NULL, {PUTS}, 0},
-    {SET_VALUE, "brc_list_set_value", LISTS, SCALAR_LISTS, NULL, {SETS}, 1},
-    {PUT_VALUE, "brc_list_put_value", LISTS, SCALAR_LISTS, NULL, {PUTS_AT, PUTS}, 1},
-    {SEND_VALUE, "brc_send_value", MAILBOXES, SCALAR_MAILBOXES, NULL, {PUTS}, 0},
-    {PUT_INT_VALUE, "brc_dict_put_int_value", DICTS, SCALAR_DICTS, NULL, {PUTS}, 1},
-    {PUT_TEXT_VALUE, "brc_dict_put_text_value", DICTS, SCALAR_DICTS, KEY, {PUTS, COPIES}, 1},
+    {PUSH_VALUE, "brc_list_push_value", LISTS, SCALAR_LISTS, NULL, {PUTS}, KEEPS_OLD},
+    {SET_VALUE, "brc_list_set_value", LISTS, SCALAR_LISTS, NULL, {SETS}, GIVES_OLD},
+    {PUT_VALUE, "brc_list_put_value", LISTS, SCALAR_LISTS, NULL, {PUTS_AT, PUTS}, GIVES_OLD},
+    {SEND_VALUE, "brc_send_value", MAILBOXES, SCALAR_MAILBOXES, NULL, {PUTS}, KEEPS_OLD},
+    {PUT_INT_VALUE, "brc_dict_put_int_value", DICTS, SCALAR_DICTS, NULL, {PUTS}, GIVES_OLD},
+    {PUT_TEXT_VALUE, "brc_dict_put_text_value", DICTS, SCALAR_DICTS, KEY, {PUTS, COPIES}, GIVES_OLD},
+    {PUT_NEW_INT_VALUE, "brc_dict_put_new_int_value", DICTS, SCALAR_DICTS, NULL, {PUTS}, GIVES_BACK},
+    {PUT_NEW_TEXT_VALUE, "brc_dict_put_new_text_value", DICTS, SCALAR_DICTS, KEY, {PUTS, COPIES}, GIVES_BACK},
+    {SWAP_IF, "brc_list_swap_if", LISTS, SCALAR_LISTS, NULL, {SETS}, GIVES_BACK},
+    {SWAP_IF_INT, "brc_dict_swap_if_int", DICTS, SCALAR_DICTS, NULL, {NO_KEY}, GIVES_BACK},
+    {SWAP_IF_TEXT, "brc_dict_swap_if_text", DICTS, SCALAR_DICTS, KEY, {NO_KEY}, GIVES_BACK},
 };
 
 /* ---- The heap that they are played in */
@@ -949,6 +984,7 @@ static inputs_t inputs_of(const about_t *about, const row_t *row, uint32_t holds
     in.one = number_of(row->who, row->one, object);
     in.other = row->other == TWICE ? in.one : number_of(row->who, row->other, INT);
     in.holds = holds;
+    in.expected = scalar();
     in.key = row->at <= SECOND ? 0 : -1;
     in.index = row->at <= SECOND ? (uint32_t)row->at : row->at == ABSENT ? (uint32_t)len : UINT32_MAX;
     in.bytes = (const uint8_t *)TEXT_KEYS[row->at];
@@ -1032,9 +1068,37 @@ static void play_put(const put_t *put, uint32_t holds) {
     play_part(put, KEEPS, holds, OTHER_CONTAINER);
     if (!has_number) play_part(put, KEEPS, holds, ANY_BITS);
     for (int k = 0; put->puts[k] != NULL; k++) play_part(put, KEEPS, holds, put->puts[k]);
-    if (has_number || !put->gives) return;
-    play_part(put, KEEPS, holds, FOR_REFERENCE);
+    if (has_number || put->gives == KEEPS_OLD) return;
+    play_part(put, KEEPS, holds, put->gives == GIVES_OLD ? FOR_REFERENCE : COMES_BACK);
     play_part(put, KEEPS, holds, FOR_SCALAR);
+}
+
+/* What is expected is none of the three, or its number names none: that comes before all but the thread and the key. */
+static void play_expected(const put_t *put) {
+    static const struct { const char *what; uint32_t holds; number_t number; brc_status wanted; } EXPECTED[] = {
+        {"what is expected is none of the three", BRC_REFERENCE + 1, VALUE, BRC_NOT_VALUE},
+        {"what is expected has the number 0", BRC_REFERENCE, ZERO, BRC_FOREIGN},
+        {"what is expected is another thread's", BRC_REFERENCE, THEIRS, BRC_FOREIGN},
+        {"what is expected is another heap's", BRC_REFERENCE, ELSEWHERE, BRC_FOREIGN},
+        {"what is expected was released", BRC_REFERENCE, SPENT, BRC_STALE},
+        {"what is expected was given away", BRC_REFERENCE, AWAY, BRC_STALE},
+    };
+    static const number_t CONTAINERS[] = {ZERO, SPENT, WRONG, SOME, MOST};
+    about_t about = {put->call, put->name, ANY, {NULL}};
+    memcpy(about.of, put->of, sizeof about.of);
+    for (size_t i = 0; i < sizeof EXPECTED / sizeof EXPECTED[0]; i++)
+        for (size_t k = 0; k < sizeof CONTAINERS / sizeof CONTAINERS[0]; k++) {
+            const row_t row = {EXPECTED[i].what, FULL, CONTAINERS[k], TWICE, FIRST, NONE, EXPECTED[i].wanted, 0};
+            inputs_t in = inputs_of(&about, &row, BRC_REFERENCE);
+            look_t before, after;
+            begin_row(put->name, row.what);
+            in.expected.holds = EXPECTED[i].holds;
+            in.expected.bits = number_of(FULL, EXPECTED[i].number, INT);
+            look(&before);
+            expect(&about, &row, &in, row.wanted);
+            look(&after);
+            CHECK(memcmp(&before, &after, sizeof before) == 0);
+        }
 }
 
 static void play_puts(void) {
@@ -1046,6 +1110,7 @@ static void play_puts(void) {
         play_put(put, BRC_REFERENCE);
         play_put(put, BRC_SCALAR);
         play_put(put, BRC_NO_VALUE);
+        if (put->call >= SWAP_IF && put->call <= SWAP_IF_TEXT) play_expected(put);
     }
 }
 
@@ -1601,11 +1666,16 @@ static const struct { call_t call; const char *name; call_t makes, puts; } COMIN
     {PUT_VALUE, "brc_list_put_value", NEW_LIST, PUT_VALUE},
     {PUT_INT_VALUE, "brc_dict_put_int_value", NEW_DICT, PUT_INT_VALUE},
     {PUT_TEXT_VALUE, "brc_dict_put_text_value", NEW_DICT, PUT_TEXT_VALUE},
+    {SWAP_IF, "brc_list_swap_if", NEW_LIST, PUSH_VALUE},
+    {SWAP_IF_INT, "brc_dict_swap_if_int", NEW_DICT, PUT_INT_VALUE},
+    {SWAP_IF_TEXT, "brc_dict_swap_if_text", NEW_DICT, PUT_TEXT_VALUE},
 };
+
+static brc_value stands;        /* what is expected there by a call that asks */
 
 /* The call on the container's first entry: the status, and what it wrote. */
 static brc_status come(call_t call, brc_thread *t, brc_ref container, brc_value value, outs_t *out) {
-    inputs_t in = {container, value.bits, value.holds, 0, 0, (const uint8_t *)"key", 3};
+    inputs_t in = {container, value.bits, value.holds, stands, 0, 0, (const uint8_t *)"key", 3};
     memset(out, UNWRITTEN, sizeof *out);
     return make_call(call, t, &in, out);
 }
@@ -1632,12 +1702,14 @@ static void change_places(brc_thread *t, call_t call, brc_ref container) {
     int64_t number;
     MUST(brc_new_int(t, 1000, &one));
     while (brc_count(t) < REFERENCES - 1) MUST(brc_retain(t, one, &more));
+    stands = scalar();
     MUST(come(call, t, container, scalar(), &out));
     CHECK(is_scalar(&out.datum) && brc_count(t) == REFERENCES - 1);
     MUST(come(call, t, container, brc_of_ref(LABEL, one), &out));
     CHECK(is_scalar(&out.datum) && brc_count(t) == REFERENCES - 2);
     settle(brc_release(t, one), BRC_STALE);
     MUST(brc_retain(t, more, &one));
+    stands = brc_of_ref(0, more);
     settle(come(call, t, container, scalar(), &out), BRC_FRAME_FULL);
     MUST(come(call, t, container, brc_of_ref(LABEL, one), &out));
     CHECK(out.datum.holds == BRC_REFERENCE && out.datum.label == LABEL && brc_count(t) == REFERENCES - 1);
@@ -1651,7 +1723,8 @@ static void change_places(brc_thread *t, call_t call, brc_ref container) {
 
 static void play_comings(void) {
     for (size_t i = 0; i < sizeof COMINGS / sizeof COMINGS[0]; i++) {
-        const int is_change = COMINGS[i].call == COMINGS[i].puts || COMINGS[i].call == SET_VALUE;
+        const call_t call = COMINGS[i].call;
+        const int is_change = call == COMINGS[i].puts || call == SET_VALUE || (call >= SWAP_IF && call <= SWAP_IF_TEXT);
         life_t l;
         brc_thread *t;
         brc_ref container;

@@ -142,6 +142,23 @@ static plain cut(row *r, int i) {
     return p;
 }
 
+/* What is expected where this stands: mostly that, and of an object under any label. */
+static plain expected(worker *w, plain there) {
+    plain p = some_value(w);
+    if (draw(w, 3) == 0) return p;
+    if (there.object >= 0) there.label = p.label;
+    return there;
+}
+
+/* Whether it was swapped is the model's, and so is what came. Returns what stands there then. */
+static plain exchanged(worker *w, uint32_t swapped, brc_value v, plain there, plain e, plain p) {
+    const int is_still = there.object >= 0 ? e.object == there.object
+                                           : e.object < 0 && e.bits == there.bits && e.label == there.label;
+    CHECK(swapped == (uint32_t)is_still);
+    came(w, v, is_still ? there : p);
+    return is_still ? p : there;
+}
+
 /* ---- One call on a list, a mailbox and a dictionary */
 
 static void on_list(worker *w) {
@@ -151,7 +168,7 @@ static void on_list(worker *w) {
     brc_value v = { 7, 7, 7 }, old = { 9, 9, 9 };
     plain p = some_value(w);
     i = r->len ? (int)draw(w, (uint64_t)r->len) : 0;
-    switch (r->len == 0 ? 0 : r->len == MOST ? 3 + draw(w, 2) : draw(w, 9)) {
+    switch (r->len == 0 ? 0 : r->len == MOST ? 3 + draw(w, 2) : draw(w, 11)) {
     case 0:
         v = given(w, p);
         if (made(w, brc_list_push_value(&w->t, list, v), &v)) r->at[r->len++] = p;
@@ -191,6 +208,17 @@ static void on_list(worker *w) {
         came(w, old, r->at[i]);
         r->at[i] = p;
         break;
+    case 8:
+    case 9: {
+        const plain there = r->at[i], e = expected(w, there);
+        brc_value wanted = given(w, e);
+        uint32_t swapped = 7;
+        v = given(w, p);
+        if (made(w, brc_list_swap_if(&w->t, list, (uint32_t)i, wanted, &v, &swapped), &v))
+            r->at[i] = exchanged(w, swapped, v, there, e, p);
+        MUST(brc_value_clear(&w->t, &wanted));
+        break;
+    }
     default:
         if (draw(w, 2)) {
             if (made(w, brc_list_get(&w->t, list, (uint32_t)i, &ref), NULL)) came_alone(w, ref, r->at[i]);
@@ -224,6 +252,20 @@ static brc_status put_by(worker *w, brc_ref dict, int key, brc_value v, brc_valu
     if (key % 2) return brc_dict_put_int_value(&w->t, dict, key - 12, v, old);
     snprintf(text, sizeof text, "key %d", key);
     return brc_dict_put_text_value(&w->t, dict, (const uint8_t *)text, strlen(text), v, old);
+}
+
+static brc_status put_new_by(worker *w, brc_ref dict, int key, brc_value v, brc_value *back) {
+    char text[32];
+    if (key % 2) return brc_dict_put_new_int_value(&w->t, dict, key - 12, v, back);
+    snprintf(text, sizeof text, "key %d", key);
+    return brc_dict_put_new_text_value(&w->t, dict, (const uint8_t *)text, strlen(text), v, back);
+}
+
+static brc_status swap_if_by(worker *w, brc_ref dict, int key, brc_value wanted, brc_value *v, uint32_t *swapped) {
+    char text[32];
+    if (key % 2) return brc_dict_swap_if_int(&w->t, dict, key - 12, wanted, v, swapped);
+    snprintf(text, sizeof text, "key %d", key);
+    return brc_dict_swap_if_text(&w->t, dict, (const uint8_t *)text, strlen(text), wanted, v, swapped);
 }
 
 static brc_status find_by(worker *w, brc_ref dict, int key, brc_value *v) {
@@ -283,7 +325,32 @@ static void on_dict(worker *w) {
     plain p = some_value(w);
     brc_status s;
     for (i = 0; i < d->len && d->key[i] != key; i++) { }
-    switch (draw(w, 6)) {
+    switch (draw(w, 9)) {
+    case 6:
+        v = given(w, p);
+        if (!made(w, put_new_by(w, dict, key, v, &old), &v)) return;
+        if (i < d->len) {
+            came(w, old, p);
+            return;
+        }
+        CHECK(old.holds == BRC_NO_VALUE);
+        d->key[d->len++] = key;
+        d->at[i] = p;
+        return;
+    case 7:
+    case 8: {
+        const plain there = i < d->len ? d->at[i] : p, e = expected(w, there);
+        brc_value wanted = given(w, e);
+        uint32_t swapped = 7;
+        v = given(w, p);
+        s = swap_if_by(w, dict, key, wanted, &v, &swapped);
+        if (i == d->len) {
+            CHECK((s == BRC_NO_SUCH_KEY || s == BRC_OUT_OF_MEMORY) && swapped == 7);
+            MUST(brc_value_clear(&w->t, &v));
+        } else if (made(w, s, &v)) d->at[i] = exchanged(w, swapped, v, there, e, p);
+        MUST(brc_value_clear(&w->t, &wanted));
+        return;
+    }
     case 0:
     case 1:
         v = given(w, p);
@@ -323,8 +390,9 @@ static void on_common(worker *w) {
     brc_value v, old;
     brc_status s;
     size_t len = 0;
+    uint32_t swapped;
     uint64_t number = draw(w, 1u << 30);
-    switch (draw(w, 4)) {
+    switch (draw(w, 5)) {
     case 0:
         BRC_WAIT(&w->t, s, brc_send_value(&w->t, w->common_box, brc_of_bits(1, number)));
         if (made(w, s, NULL)) w->sum += number;
@@ -343,6 +411,17 @@ static void on_common(worker *w) {
         if (!made(w, s, NULL)) return;
         w->sum += number;
         if (old.holds == BRC_SCALAR) w->sum -= old.bits;
+        return;
+    case 3:
+        /* the first is raised, unless another thread has raised or taken it since it was seen */
+        BRC_WAIT(&w->t, s, brc_list_get_value(&w->t, w->common_list, 0, &old));
+        if (s == BRC_NO_SUCH_PLACE) return;
+        if (!made(w, s, NULL)) return;
+        v = brc_of_bits(1, old.bits + number);
+        BRC_WAIT(&w->t, s, brc_list_swap_if(&w->t, w->common_list, 0, old, &v, &swapped));
+        if (s == BRC_NO_SUCH_PLACE) return;
+        if (!made(w, s, NULL)) return;
+        if (swapped) w->sum += number;
         return;
     default:
         BRC_WAIT(&w->t, s, brc_list_pop_value(&w->t, w->common_list, &v));

@@ -421,6 +421,17 @@ brc_status brc_dict_put_new_int_value(brc_thread *, brc_ref dict, int64_t key, b
 brc_status brc_dict_put_new_text_value(brc_thread *, brc_ref dict, const uint8_t *key, size_t len, brc_value value,
                                        brc_value *back);
 
+/* `value` goes in if what stands there is still `expected`: the same scalar, label and bits; or the same object, whatever
+ * label it has there. Then `value` is what stood there, and `*swapped` is true. Else it comes back as it is, and `*swapped`
+ * is false. A reference that comes has a number of its own. The look and the swap are one step: of two threads that expect
+ * the same, one swaps. So a count that many threads raise loses none. */
+brc_status brc_list_swap_if(brc_thread *, brc_ref list, uint32_t index, brc_value expected, brc_value *value,
+                            uint32_t *swapped);
+brc_status brc_dict_swap_if_int(brc_thread *, brc_ref dict, int64_t key, brc_value expected, brc_value *value,
+                                uint32_t *swapped);
+brc_status brc_dict_swap_if_text(brc_thread *, brc_ref dict, const uint8_t *key, size_t len, brc_value expected,
+                                 brc_value *value, uint32_t *swapped);
+
 /* What is beside the key, which stays. Of a reference it is one more. */
 brc_status brc_dict_find_int_value(brc_thread *, brc_ref dict, int64_t key, brc_value *value);
 brc_status brc_dict_find_text_value(brc_thread *, brc_ref dict, const uint8_t *key, size_t len, brc_value *value);

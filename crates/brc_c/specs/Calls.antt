@@ -1,8 +1,9 @@
 -- Which call of the heap an export of this name makes, where its bytes or numbers of C stand for something else; and what
 -- it writes, where that is more than one number.
-use Rattle.std.specs.Prelude.{◌≡◌, ◌++◌, ℕ, zero, suc, pos, Bool, true, false, List, Option, Some, None, Result, Ok, Err, length}
+use Rattle.std.specs.Prelude.{◌≡◌, ◌++◌, ◌+◌, ◌*◌, ℕ, zero, suc, pos, Bool, true, false, List, Option, Some, None, Result, Ok, Err, length}
 use Rattle.std.specs.Prelude.{take, drop}
 use Rattle.std.specs.declared.alloc.Global.{Global}
+use Rattle.brc_words.specs.declared.entry.Entry.{Entry}
 use Rattle.brc_words.specs.declared.fault.Fault.{Fault}
 use Rattle.brc_words.specs.declared.key.Key.{Key}
 use Rattle.brc_words.specs.declared.key.Key.TheVariants as keys
@@ -10,17 +11,21 @@ use Rattle.brc_count.specs.law.declared.rule.contents.Contents.TheVariants as co
 use Rattle.brc_count.specs.declared.handed.HandedBack.{HandedBack}
 use Rattle.brc_count.specs.Frames.{FrameSeen, HandleSeen}
 use Rattle.brc_count.specs.Making.{Made}
+use Rattle.brc_things.specs.declared.value.SwapIf.{SwapIf}
 use Rattle.brc_things.specs.declared.value.Value.{Value}
 use Rattle.brc_things.specs.Dict_Calls.{DictPut, DictFind, DictDel}
 use Rattle.brc_things.specs.Value_Calls.{DictFindValue, DictDelValue, DictSetValue, DictPutNewValue}
+use Rattle.brc_things.specs.Still.{DictSwapIf}
 use Rattle.brc_places.specs.declared.place_makers.Make.TheVariants as making
 use Rattle.brc_places.specs.Calls.{HandleOr, RefusedText, MadeBy}
 use Rattle.brc_client.specs.declared.data.Datum.{Datum}
 use Rattle.brc_client.specs.declared.data.Datum.TheVariants as datums
 use Rattle.brc_client.specs.declared.data.PairDatum.{PairDatum}
 use Rattle.brc_client.specs.declared.status.Status.{Status}
+use Rattle.brc_client.specs.declared.swap_if.Exchange.{Exchange}
 use Rattle.brc_client.specs.Clients.{ClientSeen}
 use Rattle.brc_client.specs.Answers.{Makes, BeginsClaims}
+use Rattle.brc_c.specs.Exports.{OrNotValue, truth_number}
 use Rattle.brc_c.specs.declared.dicts.CKey.{CKey}
 use Rattle.brc_c.specs.declared.values.CValue.{CValue}
 
@@ -65,6 +70,11 @@ abbrev pub PutsNewByText : List ℕ → FrameSeen Global → FrameSeen Global �
 PutsNewByText bytes old new k none after value result =
     (after ≡ none) × DictPutNewValue old new k (keys.Text bytes) none value result
 
+abbrev pub SwapsIfByText : List ℕ → FrameSeen Global → FrameSeen Global → ℕ → Entry → HandleSeen → HandleSeen → Value Global
+    → Result (SwapIf Global) (HandedBack (Value Global)) → Type 0
+SwapsIfByText bytes old new k expected none after value result =
+    DictSwapIf old new k (keys.Text bytes) expected none after value result
+
 -- ---- what is written of a value
 
 -- a scalar's bits and label; of a reference its number and its label
@@ -99,3 +109,18 @@ WritesValuePair value_was value key_was key room to pairs_was pairs (Ok pair) =
     (value ≡ value_of pair.datum) × KeyWritten pair.key key room to × (pairs ≡ pair.of)
 WritesValuePair value_was value key_was key room to pairs_was pairs (Err status) =
     (value ≡ value_was) × (key ≡ key_was) × (to ≡ room) × (pairs ≡ pairs_was)
+
+-- a value of C's in the two words by which C hands one over
+abbrev pub packed : CValue → ℕ
+packed value = value.holds * 4294967296 + value.label
+
+-- whether it was swapped, and what came
+abbrev pub WritesExchange : CValue → CValue → ℕ → ℕ → Result Exchange Status → Type 0
+WritesExchange value_was value was is (Ok did) = (value ≡ value_of did.came) × (is ≡ truth_number did.swapped)
+WritesExchange value_was value was is (Err status) = (value ≡ value_was) × (is ≡ was)
+
+-- The call on two values of C's: what is expected, and what goes in. If either holds what none can hold, nothing is done.
+abbrev pub OfTwoValues : ℕ → ℕ → CValue → (Datum → Datum → ClientSeen → ClientSeen → Result Exchange Status → Type 0)
+    → ClientSeen → ClientSeen → Result Exchange Status → Type 0
+OfTwoValues bits noted value call =
+    OrNotValue bits noted (λ expected. OrNotValue value.bits (packed value) (λ datum. call expected datum))

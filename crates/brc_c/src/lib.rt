@@ -21,6 +21,7 @@ mod outs;
 mod parts;
 mod references;
 mod slots;
+mod swap_if;
 mod threads;
 mod values;
 

@@ -8,7 +8,7 @@ ghost use Rattle.brc_places.specs.declared.valued.PutBy.TheVariants as putting;
 ghost use Rattle.brc_client.specs.Valued.{GivesDatum, GivesPairDatum, TakesDatum};
 ghost use Rattle.brc_client.specs.declared.status.Status.TheVariants as statuses;
 ghost use Rattle.brc_c.specs.Calls.{FindsValueByText, DeletesValueByText, PutsValueByText, PutsNewByText};
-ghost use Rattle.brc_c.specs.Calls.{value_of, came_of, WritesValuePair};
+ghost use Rattle.brc_c.specs.Calls.{value_of, came_of, packed, WritesValuePair};
 ghost use Rattle.brc_c.specs.Exports.{CarriesOut, OrNotText, OrNotValue, HandsDatum, Writes, WritesNothing};
 ghost use Rattle.brc_c.specs.Exports.{code_of, holds_in};
 
@@ -41,7 +41,7 @@ pub struct CValue {
 
 impl CValue {
     #[inline(always)]
-    fn write(&mut self, datum: Datum)
+    pub(crate) fn write(&mut self, datum: Datum)
         ensures { self.new ≡ value_of datum }
     {
         match datum {
@@ -58,6 +58,14 @@ impl CValue {
         }
     }
 
+    /// The label, and what the value holds above it, as C hands them over in one word.
+    #[inline(always)]
+    pub(crate) fn packed(&self) -> u64
+        ensures { result ≡ packed self.now }
+    {
+        u64::from(self.holds) * 4_294_967_296 + u64::from(self.label)
+    }
+
     #[inline(always)]
     fn write_nothing(&mut self)
         ensures { self.new ≡ came_of None }
@@ -71,7 +79,7 @@ impl CValue {
 /// A value that C gives. It is handed over in two registers, as the rules of C on x86-64 hand over a structure of 16 bytes:
 /// the bits; and what it holds, above the label. NotValue for what it can't hold.
 #[inline(always)]
-fn datum_of(bits: u64, noted: u64) -> Result<Datum, Status>
+pub(crate) fn datum_of(bits: u64, noted: u64) -> Result<Datum, Status>
     ensures handed { IfOk result (HandsDatum bits noted) }
     ensures refused { IfErr result (λ status. status ≡ statuses.NotValue) }
     ensures other { OnErr result (2 < holds_in noted) }

@@ -8,3 +8,4 @@ pub mod Lending
 pub mod Valued
 pub mod Keyed
 pub mod Told
+pub mod Swap_If

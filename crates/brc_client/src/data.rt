@@ -40,7 +40,7 @@ pub struct PairDatum {
 
 /// What came out for a value. An object's handle lies in its own place, which is empty, and has a number.
 #[inline(always)]
-fn number_came(
+pub(crate) fn number_came(
     handles: &mut Handles<Global>,
     numbers: &Numbers,
     came: Option<Value<Global>>,
@@ -187,7 +187,7 @@ impl Client {
 
     /// A handle to None is kept, as one was, or a new one.
     #[inline(always)]
-    fn ready_none(&mut self, container: u64) -> Result<(), Status>
+    pub(crate) fn ready_none(&mut self, container: u64) -> Result<(), Status>
         ensures made { OnOk result (NoneMade self.old self.new) }
         ensures named { OnOk result ((self.new ≡ self.old) ⊎ IsFound self.old container) }
         ensures refused { IfErr result (NoneRefused self.old self.new container) }

@@ -20,6 +20,7 @@ mod numbers;
 mod owner;
 mod put_value;
 mod status;
+mod swap_if;
 mod take_out;
 mod thread;
 mod told;
@@ -34,6 +35,7 @@ pub use put_value::{
     Sending, Setting,
 };
 pub use status::{Status, text_of};
+pub use swap_if::{Conditional, Exchange, SwapIfAt, SwappingAt, SwappingByInt, SwappingByText};
 pub use take_out::{
     DeletingByInt, DeletingByText, FindingByInt, FindingByText, Getting, Outward, Popping,
     Receiving, Taking,

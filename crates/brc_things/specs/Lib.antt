@@ -17,3 +17,4 @@ pub mod Dict_Calls
 pub mod Plain_Values
 pub mod Value_Calls
 pub mod Values
+pub mod Still

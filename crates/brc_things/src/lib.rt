@@ -24,6 +24,7 @@ mod putting;
 mod readers;
 mod rows;
 mod seeking;
+mod swap_if;
 mod value;
 mod valued;
 mod valued_entries;
@@ -53,7 +54,8 @@ pub use putting::{dict_put, dict_set, try_dict_put, try_dict_set};
 pub use readers::{
     try_int_of, try_kind_of, try_len_of, try_text_into, try_text_is, try_text_of, try_text_shown,
 };
-pub use value::{Pair, Value};
+pub use swap_if::{dict_swap_if, list_swap_if, try_dict_swap_if, try_list_swap_if};
+pub use value::{Pair, SwapIf, Value};
 pub use valued::{
     try_list_get_value, try_list_pop_value, try_list_push_value, try_list_put_value,
     try_list_set_value, try_list_take_value, try_recv_value, try_send_value,

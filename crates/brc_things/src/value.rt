@@ -17,3 +17,11 @@ pub struct Pair<A: Allocator> {
     pub value: Value<A>,
     pub of: u32,
 }
+
+/// What became of a value that goes into an entry only if that is still what was expected.
+pub enum SwapIf<A: Allocator> {
+    /// It went in, and what stood there came out.
+    Swapped(Value<A>),
+    /// Something else stands there, and it came back.
+    Differs(Value<A>),
+}
