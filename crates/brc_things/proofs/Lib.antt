@@ -6,6 +6,7 @@ mod Valued_Law
 mod Valued_Plain
 mod Valued_Refusals
 mod Valued_Pairs
+mod Still_Law
 pub mod Joining
 pub mod Standing
 pub mod Shown

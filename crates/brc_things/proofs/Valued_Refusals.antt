@@ -62,7 +62,7 @@ row_past kind is found index left same none =
     ∙ ap (λ o. left_in (row kind) (leaving (left (noted_in found)) (or_fault faults.NoSuchPlace o))) none
 
 module _ {A : Type 0} where
-  no_entry : (kind : Kind) (index : ℕ) (left : List Entry → List Entry) (block : Payload A) (fault : Fault)
+  pub no_entry : (kind : Kind) (index : ℕ) (left : List Entry → List Entry) (block : Payload A) (fault : Fault)
       → is_row kind ≡ true → NoEntry kind index (kind_of block) (noted_of block) fault
       → plain_at kind index left (contents_of block) ≡ Err fault
   no_entry kind index left block faults.WrongKind is other =
@@ -106,7 +106,7 @@ module _ {A : Type 0} where
 
   -- ---- the steps
 
-  said_entry : (kind : Kind) (index : ℕ) (block : Payload A) (fault : Fault)
+  pub said_entry : (kind : Kind) (index : ℕ) (block : Payload A) (fault : Fault)
       → NoEntry kind index (kind_of block) (noted_of block) fault → says fault ≡ true
   said_entry kind index block faults.WrongKind why = refl
   said_entry kind index block faults.NoSuchPlace why = refl
