@@ -1,6 +1,6 @@
 -- The handle to None that a client keeps beside its places: made, gone, and where an object comes under it; and a handle
 -- that is out of its place, on its way into a container.
-use Rattle.std.proofs.Common.{refl, arith, ◌≡◌, ◌≢◌, ◌<◌, ℕ, List, Option, Some, None, length, slice_set}
+use Rattle.std.proofs.Common.{refl, arith, ◌≡◌, ◌≢◌, ◌<◌, ℕ, Bool, true, false, List, Option, Some, None, length, slice_set}
 use Rattle.std.proofs.Common.{sym, ap, ◌∙◌, ◌+◌, inl, inr, subst, Ok}
 use Rattle.std.proofs.lemmas.List.{set-set, set-get_or}
 use Rattle.std.specs.declared.alloc.Global.{Global}
@@ -15,6 +15,12 @@ use Rattle.brc_things.specs.Values.{SwapsValueIn, HasPutValue, OwnsPutValue}
 use Rattle.brc_places.specs.Value_Calls.{PutValueBy}
 use Rattle.brc_places.specs.declared.valued.PutBy.{PutBy}
 use Rattle.brc_places.specs.declared.valued.PutBy.TheVariants as puts
+use Rattle.brc_words.specs.declared.entry.Entry.{Entry}
+use Rattle.brc_things.specs.declared.value.SwapIf.TheVariants.{Differs}
+use Rattle.brc_things.specs.Still.{SwapsIfStill}
+use Rattle.brc_client.specs.Swap_If.{SwapsIfAt, AsPut, came_as}
+use Rattle.brc_client.specs.declared.swap_if.SwapIfAt.{SwapIfAt}
+use Rattle.brc_client.specs.declared.swap_if.SwapIfAt.TheVariants as places
 use Rattle.brc_client.specs.declared.data.Datum.{Datum}
 use Rattle.brc_client.specs.Numbers.{NumbersSeen}
 use Rattle.brc_client.specs.Clients.{IsClient}
@@ -240,6 +246,34 @@ came_under (puts.PutNew key) old new k none after value None did = did.0
 came_under (puts.PutNew key) old new k none after value (Some came) did =
     subst (λ (back : Value Global). CameUnder none after value (Some back)) (sym did.1.did.0)
     (back_under none after value did.0)
+
+-- the same of a call that swaps only what is expected
+swap_if_under : (old new : FrameSeen Global) (k : ℕ) (none after : HandleSeen) (value : Value Global) (call : PutCall)
+    (swapped : Bool) (came : Value Global) → SwapsIfStill old new k none after value call (came_as swapped came)
+    → CameUnder none after value (Some came)
+swap_if_under old new k none after value call true came did = swapped_under old new k none after value call came did
+swap_if_under old new k none after value call false came did =
+    subst (λ (back : Value Global). CameUnder none after value (Some back)) (sym did.1) (back_under none after value did.0)
+
+pub swap_under : (by : SwapIfAt) (expected : Entry) (swapped : Bool) (old new : FrameSeen Global) (k : ℕ)
+    (none after : HandleSeen) (value came : Value Global)
+    → AsPut (SwapsIfAt by) expected swapped old new k none after value (Ok (Some came)) → CameUnder none after value (Some came)
+swap_under (places.Index index) expected swapped old new k none after value came did =
+    swap_if_under old new k none after value _ swapped came did.did
+swap_under (places.Beside key) expected swapped old new k none after value came did =
+    swap_if_under old new k none after value _ swapped came did.did
+
+-- what comes back leaves the frame's handles as a value that went in for another
+pub back_owned : (old new : FrameSeen Global) (after : HandleSeen) (value back : Value Global) → back ≡ value
+    → Keeps old new → OwnsPutValue old new after value (Some back)
+back_owned old new after (values.Scalar note) back same keeps = rw same keeps
+back_owned old new after (values.Object handle note) back same keeps = rw same keeps
+
+pub differs_back : (by : SwapIfAt) (expected : Entry) (old new : FrameSeen Global) (k : ℕ)
+    (none after : HandleSeen) (value back : Value Global)
+    → SwapsIfAt by old new k expected none after value (Ok (Differs back)) → back ≡ value
+differs_back (places.Index index) expected old new k none after value back did = did.did.1
+differs_back (places.Beside key) expected old new k none after value back did = did.did.1
 
 -- it is in none of the places
 pub scalar_loose : (frame : FrameSeen Global) (hs : List (Option HandleSeen)) (none after : HandleSeen) (note : Note)

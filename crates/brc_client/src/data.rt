@@ -38,9 +38,31 @@ pub struct PairDatum {
     pub of: u32,
 }
 
-/// What came out for a value. An object's handle lies in its own place, which is empty, and has a number.
+/// A value that came. An object's handle lies in its own place, which is empty, and has a number.
 #[inline(always)]
-pub(crate) fn number_came(
+pub(crate) fn number_value(
+    handles: &mut Handles<Global>,
+    numbers: &Numbers,
+    came: Value<Global>,
+) -> Datum
+    requires places { length handles.old ≡ 65536 }
+    requires loose { IsLoose handles.old (Some came) }
+    ensures back { ComesBack handles.old handles.new numbers.now (Some came) (Some result) }
+    ensures lies { LiesThen handles.old handles.new (Some came) }
+    ensures names { NamesDatumIn handles.new numbers.now result }
+{
+    match came {
+        Value::Scalar(note) => Datum::Scalar(note),
+        Value::Object(given, note) => {
+            let number = insert(handles, numbers, given);
+            Datum::Object(number, note)
+        }
+    }
+}
+
+/// What came out for a value, if anything did.
+#[inline(always)]
+fn number_came(
     handles: &mut Handles<Global>,
     numbers: &Numbers,
     came: Option<Value<Global>>,
@@ -53,11 +75,7 @@ pub(crate) fn number_came(
 {
     match came {
         None => None,
-        Some(Value::Scalar(note)) => Some(Datum::Scalar(note)),
-        Some(Value::Object(given, note)) => {
-            let number = insert(handles, numbers, given);
-            Some(Datum::Object(number, note))
-        }
+        Some(value) => Some(number_value(handles, numbers, value)),
     }
 }
 

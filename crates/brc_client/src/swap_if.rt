@@ -1,22 +1,22 @@
 //! A value goes into a container, if what stands there is still what was expected: what threads that count, publish or hand on
 //! by turns need. The look and the swap are one locking.
 
-ghost use Rattle.std.specs.Prelude.{◌≡◌, ◌≢◌, ◌⊎◌, false, Some, IfOk, IfErr, OnOk, OnErr};
+ghost use Rattle.std.specs.Prelude.{◌≡◌, ◌≢◌, ◌⊎◌, false, Some, Ok, Err, IfOk, IfErr, OnOk, OnErr};
 ghost use Rattle.brc_count.specs.block.declared.key_ref.KeyRef.TheVariants as lent;
 ghost use Rattle.brc_count.specs.Frames.{IsUnlocked, Owns};
 ghost use Rattle.brc_count.specs.Owned.{Keeps};
 ghost use Rattle.brc_words.specs.declared.entry.Entry.{Entry as EntrySeen};
-ghost use Rattle.brc_things.specs.Values.{OwnsValue, StandsApart, HasNone};
+ghost use Rattle.brc_things.specs.Values.{OwnsValue, StandsApart, HasNone, OwnsPutValue};
 ghost use Rattle.brc_things.specs.Still.{OwnsIfSwapped};
 ghost use Rattle.brc_client.specs.Clients.{KeepsNames, SpendsName};
-ghost use Rattle.brc_client.specs.Swap_If.{SwapsIfAt, AsPut, IsExpectedAs, ExpectsNone, came_as};
+ghost use Rattle.brc_client.specs.Swap_If.{SwapsIfAt, AsPut, IsExpectedAs, ExpectsNone};
 ghost use Rattle.brc_client.specs.Valued.{NamesDatum, PutsDatum, PutsNoDatum, SpendsDatumName};
 ghost use Rattle.brc_client.specs.declared.data.Datum.TheVariants as datums;
 ghost use Rattle.brc_client.specs.declared.swap_if.SwapIfAt.{SwapIfAt as TheSwapIfAt};
 ghost use Rattle.brc_client.specs.declared.swap_if.SwapIfAt.TheVariants as places;
 
 use crate::client::{Client, find, lay};
-use crate::data::{Datum, number_came};
+use crate::data::{Datum, number_value};
 use crate::status::Status;
 use brc_count::block::KeyRef;
 use brc_count::{Frame, HandedBack, Handle};
@@ -132,14 +132,38 @@ impl<'k> Conditional for SwappingByText<'k> {
     }
 }
 
-/// What came, and whether that is what stood there.
+/// The call, with whether it swapped, and what came.
 #[inline(always)]
-fn parted(done: SwapIf<Global>) -> (bool, Value<Global>)
-    ensures { done ≡ came_as result.0 result.1 }
+fn try_parted<B: Conditional>(
+    by: B,
+    frame: &mut Frame<Shared, Global>,
+    none: &mut Handle<Global>,
+    object: &Handle<Global>,
+    expected: Entry,
+    value: Value<Global>,
+) -> Result<(bool, Value<Global>), HandedBack<Value<Global>>>
+    requires owned { Owns frame.old object.now }
+    requires unlocked { IsUnlocked frame.old }
+    requires none { HasNone frame.old none.old }
+    requires apart_none { object.now.place ≢ none.old.place }
+    requires value { OwnsValue frame.old value }
+    requires apart { StandsApart object.now.place value }
+    requires other { StandsApart none.old.place value }
+    ensures did { IfOk result (λ did. AsPut (SwapsIfAt (B.call by)) expected did.0 frame.old frame.new object.now.place
+        none.old none.new value (Ok (Some did.1))) }
+    ensures refused { IfErr result (λ handed. AsPut (SwapsIfAt (B.call by)) expected false frame.old frame.new
+        object.now.place none.old none.new value (Err handed)) }
+    ensures owns { IfOk result (λ did. OwnsPutValue frame.old frame.new none.new value (Some did.1)) }
+    ensures none { HasNone frame.new none.new }
+    ensures same { OnErr result (none.new ≡ none.old) }
+    ensures back { IfErr result (λ handed. handed.value ≡ value) }
+    ensures keeps { OnErr result (Keeps frame.old frame.new) }
+    ensures unlocked { IsUnlocked frame.new }
 {
-    match done {
-        SwapIf::Swapped(came) => (true, came),
-        SwapIf::Differs(back) => (false, back),
+    match by.try_swap_if(frame, none, object, expected, value) {
+        Ok(SwapIf::Swapped(came)) => Ok((true, came)),
+        Ok(SwapIf::Differs(back)) => Ok((false, back)),
+        Err(handed) => Err(handed),
     }
 }
 
@@ -217,13 +241,10 @@ impl Client {
             unreachable!()
         };
         let value = Value::Scalar(note);
-        match by.try_swap_if(self.mutator.frame(), none, object, entry, value) {
-            Ok(done) => {
-                let (swapped, came) = parted(done);
-                match number_came(&mut self.handles, &self.numbers, Some(came)) {
-                    Some(came) => Ok(Exchange { swapped, came }),
-                    None => unreachable!(),
-                }
+        match try_parted(by, self.mutator.frame(), none, object, entry, value) {
+            Ok((swapped, came)) => {
+                let came = number_value(&mut self.handles, &self.numbers, came);
+                Ok(Exchange { swapped, came })
             }
             Err(
                 HandedBack {
@@ -270,14 +291,11 @@ impl Client {
             unreachable!()
         };
         let given = Value::Object(given, note);
-        match by.try_swap_if(self.mutator.frame(), none, object, entry, given) {
-            Ok(done) => {
+        match try_parted(by, self.mutator.frame(), none, object, entry, given) {
+            Ok((swapped, came)) => {
                 self.numbers.spend(from);
-                let (swapped, came) = parted(done);
-                match number_came(&mut self.handles, &self.numbers, Some(came)) {
-                    Some(came) => Ok(Exchange { swapped, came }),
-                    None => unreachable!(),
-                }
+                let came = number_value(&mut self.handles, &self.numbers, came);
+                Ok(Exchange { swapped, came })
             }
             Err(
                 HandedBack {
