@@ -98,6 +98,7 @@ pub(super) enum OnValue {
     ListPut,
     Send,
     DictSet,
+    DictPutNew,
     // What gives one.
     ListPop,
     ListGet,
@@ -145,6 +146,7 @@ fn on_value(name: &str) -> Option<OnValue> {
         "list_put_value" => Some(OnValue::ListPut),
         "send_value" => Some(OnValue::Send),
         "dict_set_value" => Some(OnValue::DictSet),
+        "dict_put_new_value" => Some(OnValue::DictPutNew),
         "list_pop_value" => Some(OnValue::ListPop),
         "list_get_value" => Some(OnValue::ListGet),
         "list_take_value" => Some(OnValue::ListTake),

@@ -372,6 +372,7 @@ pub(super) fn on_value<H: HasTable<A>, A: Allocator + Copy>(
         }
         OnValue::Send => puts(rt, asked, frame, object, PutBy::Send),
         OnValue::DictSet => puts(rt, asked, frame, object, PutBy::Put(asked.key_ref())),
+        OnValue::DictPutNew => puts(rt, asked, frame, object, PutBy::PutNew(asked.key_ref())),
         OnValue::ListPop => gives(rt, asked, frame, object, GiveBy::Pop),
         OnValue::ListGet => {
             let index = asked.given.index(rt);

@@ -113,6 +113,16 @@ const CASES: &[Case] = &[
             release 0; settle; ledger = 3 born, 3 freed",
     },
     Case {
+        name: "a value goes beside a key that is new, and comes back from one that isn't",
+        on: SMALL,
+        steps: "make dict; make list; dict_put_new_value 3/1 into 0 beside 7; try_dict_put_new_value 3/2 into 0 beside 7 = 3/2;
+            dict_put_new_value int 300 with 3/3 into 0 beside 7 = 300 with 3/3; dict_find_value 0 beside 7 = 3/1;
+            try_dict_put_new_value int 301 with 3/4 into 0 beside text a key; len_of 0 = 2;
+            dict_put_new_value 3/5 into 0 beside text a key = 3/5; dict_del_value 0 beside 7 = 3/1;
+            dict_put_new_value 3/6 into 0 beside 7; dict_pair_value 0 at 1 beside 7 = 3/6;
+            dict_put_new_value 3/7 into 1 beside 7 = WrongKind; release_all; settle; ledger = 4 born, 4 freed",
+    },
+    Case {
         name: "what isn't of the call's kind takes no value, and gives none",
         on: SMALL,
         steps: "make list; make dict; make mailbox; list_push_value 3/7 into 1 = WrongKind; send_value 3/7 into 0 = WrongKind;
@@ -215,6 +225,14 @@ const ENTRIES: &[Case] = &[
         on: DICT_OF_TWO,
         steps: "one: until refused: dict_set_value true with 3/7 into 0 beside n; len_of 0 = n; two: try_len_of 1 = n;
             one: growths refused: dict_set_value true with 3/7 into 0 beside n; two: release_all; one: release_all;
+            two: settle; one: settle; ledger = 1 born, 1 freed",
+    },
+    Case {
+        name: "dict_put_new_value of an object, and of a key that is there without memory",
+        on: DICT_OF_TWO,
+        steps: "one: until refused: dict_put_new_value true with 3/7 into 0 beside n; len_of 0 = n; two: try_len_of 1 = n;
+            one: growths refused: dict_put_new_value true with 3/7 into 0 beside n; starve;
+            dict_put_new_value 3/8 into 0 beside n = 3/8; two: release_all; one: release_all;
             two: settle; one: settle; ledger = 1 born, 1 freed",
     },
     Case {
