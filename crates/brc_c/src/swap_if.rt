@@ -67,15 +67,7 @@ pub extern "C" fn brc_list_swap_if(
         thread.old.value thread.new.value result (WritesExchange value.old value.new swapped.old swapped.new) }
 {
     match thread.as_mut().client() {
-        Some(client) => swap_if_by(
-            client,
-            list,
-            SwappingAt(index),
-            bits,
-            noted,
-            value,
-            swapped,
-        ),
+        Some(client) => swap_if_by(client, list, SwappingAt(index), bits, noted, value, swapped),
         None => gone(),
     }
 }

@@ -121,7 +121,16 @@ fn list_swap<H: HasTable<A>, A: Allocator>(
     ensures waits { IfErr result (λ handed. handed.fault ≢ faults.Busy) }
 {
     match entry_in(block.payload(), Kind::List, index as usize) {
-        Ok(entry) => swap_entry_if(frame, Kind::List, block, index, entry, expected, none, value),
+        Ok(entry) => swap_entry_if(
+            frame,
+            Kind::List,
+            block,
+            index,
+            entry,
+            expected,
+            none,
+            value,
+        ),
         Err(fault) => {
             frame.end_keep(block);
             Err(HandedBack { fault, value })
