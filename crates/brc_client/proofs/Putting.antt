@@ -2,6 +2,8 @@
 use Rattle.std.proofs.Common.{◌≡◌, ◌≢◌, ◌⊎◌, ℕ, List, Option, Some, None, Result, Ok, Err, slice_set}
 use Rattle.std.proofs.Common.{refl, sym, ap, ◌∙◌, inl, inr, subst}
 use Rattle.std.specs.declared.alloc.Global.{Global}
+use Rattle.std.specs.Result.{IfErr}
+use Rattle.brc_words.specs.declared.entry.Entry.{Entry}
 use Rattle.brc_words.specs.declared.note.Note.{Note}
 use Rattle.brc_count.specs.declared.handed.HandedBack.{HandedBack}
 use Rattle.brc_count.specs.Frames.{FrameSeen, HandleSeen, IsUnlocked}
@@ -161,3 +163,11 @@ pub back_home : (old new : FrameSeen Global) (hs after : List (Option HandleSeen
     → after ≡ slice_set hs back.place (Some back) → ComesIn hs after back → IsClient new after (Some then)
 back_home old new hs after none then out back has same kept keeps unlocked set comes =
     rw kept (out_home old new hs after none out has keeps unlocked (rw same at set) (rw same at comes))
+
+-- ---- what is expected comes first
+
+pub after_expected : {T : Type 0} (result : Result T Status) (A : Status → Type 0) (E : Entry → Type 0)
+    (Q : Entry → Status → Type 0) (entry : Entry) → E entry → IfErr result (Q entry)
+    → IfErr result (λ status. A status ⊎ ((e : Entry) × E e × Q e status))
+after_expected (Ok did) A E Q entry is why = tt
+after_expected (Err status) A E Q entry is why = inr (entry, is, why)

@@ -5,5 +5,5 @@ pub returns-in-Ok-Differs-clause-owns : goal.returns-in-Ok-Differs-clause-owns
 returns-in-Ok-Differs-clause-owns g c =
     back_owned _ _ _ c.args.value c.in-Ok-Differs.back
     (differs_back (g.B.Conditional.call c.args.by) c.args.expected _ _ _ _ _ c.args.value c.in-Ok-Differs.back
-    c.in-Ok-Differs.ensures.did)
-    c.in-Ok-Differs.ensures.owns
+    (rw c.in-Ok-Differs.field-0-is at c.in-Ok-Differs.ensures.did))
+    (rw c.in-Ok-Differs.field-0-is at c.in-Ok-Differs.ensures.owns)

@@ -1,12 +1,15 @@
-use Rattle.std.proofs.Common.{refl, sym, ap, ◌∙◌, ◌≡◌, Some, subst, List, Option, slice_set}
+use Rattle.std.proofs.Common.{refl, sym, ap, ◌∙◌, ◌≡◌, Some, false, subst, List, Option, slice_set}
 use Rattle.std.proofs.lemmas.Result.{err_from_is_err_and}
-use Rattle.brc_count.specs.Frames.{HandleSeen}
+use Rattle.brc_count.specs.Frames.{FrameSeen, HandleSeen}
 use Rattle.brc_handles.specs.Handles.{slot}
 use Rattle.brc_client.specs.Swap_If.{AsPut, SwapsIfAt}
 use Rattle.brc_client.specs.declared.data.Datum.TheVariants.{Object}
 use Rattle.brc_client.specs.Numbers.{place_in}
+use Rattle.std.specs.declared.alloc.Global.{Global}
+use Rattle.brc_things.specs.declared.value.Value.TheVariants as values
+use Rattle.brc_things.specs.Values.{OwnsPutValue}
 use Rattle.brc_client.specs.Clients.{ClientSeen}
-use Rattle.brc_client.specs.Valued.{NoneMade, ObjectNameless, OneNumber}
+use Rattle.brc_client.specs.Valued.{ComesBack, NoneMade, ObjectNameless, OneNumber}
 use Rattle.brc_client.proofs.Placed.{slot_else}
 use Rattle.brc_client.proofs.Named.{names_this}
 use Rattle.brc_client.proofs.Beside.{swap_under, goes_out, object_loose, object_put, home_again}
@@ -31,8 +34,8 @@ returns-in_err-ready_none-clause-refused g c =
     let p = err_from_is_err_and c.from_residual-in_err-ready_none.result c.from_residual-in_err-ready_none.ensures.1 in
     rw (p.1, p.2) (none_wanting (AsPut (SwapsIfAt (g.B.Conditional.call c.args.by)) c.args.entry false) _ _ c.args.container _ _ c.in_err-ready_none.ensures.refused)
 
-pub number_value-requires-clause-loose : goal.number_value-requires-clause-loose
-number_value-requires-clause-loose g c =
+pub number_value-came-requires-clause-loose : goal.number_value-came-requires-clause-loose
+number_value-came-requires-clause-loose g c =
     let client = rw c.in-Some-none.is at c.self.invariant in
     let has = goes_out _ c.self.inside.handles c.take.new.self c.in-Some-none.none c.in-Some.given c.in_ok-from.from client
     (sym c.in-Some.ensures.taken) c.take.ensures.set c.in-Some.ensures.comes in
@@ -46,11 +49,12 @@ invariant_of-self g c =
     let has = goes_out _ c.self.inside.handles c.take.new.self c.in-Some-none.none c.in-Some.given c.in_ok-from.from client
     (sym c.in-Some.ensures.taken) c.take.ensures.set c.in-Some.ensures.comes in
     let did = rw c.frame.ensures.frame at c.in-Ok.ensures.did in
-    let owns = rw c.frame.ensures.frame at c.in-Ok.ensures.owns in
-    object_put _ _ c.take.new.self c.number_value.new.handles c.spend.new.self c.in-Some-none.none
-    c.try_parted.new.none c.in-Some.given c.args.note (Some c.in-Ok.came) (Some c.number_value.result) has
-    (swap_under (g.B.Conditional.call c.args.by) c.args.entry c.in-Ok.swapped _ _ _ _ _ _ c.in-Ok.came did) owns c.in-Ok.ensures.unlocked c.number_value.ensures.back
-    c.number_value.ensures.lies
+    let owns = subst (λ (f : FrameSeen Global). OwnsPutValue f c.try_parted.new.frame c.try_parted.new.none
+    (values.Object c.in-Some.given c.args.note) (Some c.in-Ok.came)) c.frame.ensures.frame c.in-Ok.ensures.owns in
+    object_put _ _ c.take.new.self c.number_value-came.new.handles c.spend.new.self c.in-Some-none.none
+    c.try_parted.new.none c.in-Some.given c.args.note (Some c.in-Ok.came) (Some c.number_value-came.result) has
+    (swap_under (g.B.Conditional.call c.args.by) c.args.entry c.in-Ok.swapped _ _ _ _ _ _ c.in-Ok.came did) owns c.in-Ok.ensures.unlocked c.number_value-came.ensures.back
+    c.number_value-came.ensures.lies
 
 pub invariant_of-self-in-Err-Object : goal.invariant_of-self-in-Err-Object
 invariant_of-self-in-Err-Object g c =
@@ -84,9 +88,10 @@ returns-in-Ok-clause-took g c =
     (c.in_ok-into.ensures.place ∙ ap place_in one ∙ sym c.in_ok-from.ensures.place) in
     object_puts (AsPut (SwapsIfAt (g.B.Conditional.call c.args.by)) c.args.entry c.in-Ok.swapped) c.args.self.now _ _ c.args.container c.args.value c.in_ok-from.from
     c.in-Some-at.object.now c.in-Some.given c.in-Some-none.none c.try_parted.new.none c.args.note (Some c.in-Ok.came)
-    (Some c.number_value.result) made c.in-Some-none.is handles numbers object given apart c.in_ok-from.ensures.place refl
+    (Some c.number_value-came.result) made c.in-Some-none.is handles numbers object given apart c.in_ok-from.ensures.place refl
     (record { uses = c.spend.ensures.uses; stamp = c.spend.ensures.stamp; of = c.spend.ensures.of }) did
-    (rw c.take.ensures.set at c.number_value.ensures.back)
+    (subst (λ (l : List (Option HandleSeen)). ComesBack l c.number_value-came.new.handles c.spend.new.self
+    (Some c.in-Ok.came) (Some c.number_value-came.result)) c.take.ensures.set c.number_value-came.ensures.back)
 
 pub returns-in-Ok-clause-spent : goal.returns-in-Ok-clause-spent
 returns-in-Ok-clause-spent g c =
@@ -95,8 +100,9 @@ returns-in-Ok-clause-spent g c =
     let did = rw c.frame.ensures.frame at c.in-Ok.ensures.did in
     let home = c.self.invariant.lies c.in_ok-from.from c.in-Some.given (sym c.in-Some.ensures.taken) in
     object_spends c.args.self.now _ c.self.inside.handles c.self.inside.numbers c.args.value c.in_ok-from.from c.in-Some-none.none c.try_parted.new.none
-    c.in-Some.given c.args.note (Some c.in-Ok.came) (Some c.number_value.result) c.in_ok-from.ensures.place c.in_ok-from.ensures.named home
-    (swap_under (g.B.Conditional.call c.args.by) c.args.entry c.in-Ok.swapped _ _ _ _ _ _ c.in-Ok.came did) (rw c.take.ensures.set at c.number_value.ensures.back) handles numbers
+    c.in-Some.given c.args.note (Some c.in-Ok.came) (Some c.number_value-came.result) c.in_ok-from.ensures.place c.in_ok-from.ensures.named home
+    (swap_under (g.B.Conditional.call c.args.by) c.args.entry c.in-Ok.swapped _ _ _ _ _ _ c.in-Ok.came did) (subst (λ (l : List (Option HandleSeen)). ComesBack l c.number_value-came.new.handles c.spend.new.self
+    (Some c.in-Ok.came) (Some c.number_value-came.result)) c.take.ensures.set c.number_value-came.ensures.back) handles numbers
     c.spend.ensures.spent c.spend.ensures.others
 
 pub returns-in-Err-Object-clause-refused : goal.returns-in-Err-Object-clause-refused
