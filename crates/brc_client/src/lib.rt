@@ -13,6 +13,7 @@
 
 mod client;
 mod data;
+mod equal;
 mod keyed;
 mod looking;
 mod moving;
