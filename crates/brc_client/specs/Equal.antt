@@ -1,10 +1,15 @@
 -- Whether two texts have the same bytes, found piece by piece. A thread looks at one text and then at the other, and its log
 -- has what each look found.
-use Rattle.std.specs.Prelude.{◌≡◌, ◌≢◌, ◌+◌, ◌<◌, ◌≤◌, ℕ, Bool, true, false, List, Option, Some, None, Result, Ok, Err}
-use Rattle.std.specs.Prelude.{length, take, drop}
+use Rattle.std.specs.Prelude.{◌≡◌, ◌≢◌, ◌+◌, ◌<◌, ◌≤◌, ℕ, Bool, true, false, Option, Some, None, Result, Ok, Err}
+use Rattle.std.specs.Prelude.{List, ◌∷◌, ◌++◌, length, take, drop}
 use Rattle.std.specs.declared.alloc.Global.{Global}
 use Rattle.brc_words.specs.declared.fault.Fault.{Fault}
+use Rattle.brc_count.specs.law.declared.world.event.Step.TheVariants.{Lock}
+use Rattle.brc_count.specs.law.declared.rule.contents.Contents.{Contents}
 use Rattle.brc_count.specs.law.declared.rule.contents.Contents.TheVariants as contents
+use Rattle.brc_count.specs.law.declared.rule.told.Moved.TheVariants as moves
+use Rattle.brc_count.specs.law.declared.rule.told.LogItem.{LogItem}
+use Rattle.brc_count.specs.law.declared.rule.told.LogItem.TheVariants.{Stepped}
 use Rattle.brc_count.specs.Frames.{FrameSeen}
 use Rattle.brc_count.specs.Locking.{cell_in}
 use Rattle.brc_things.specs.Called.{Looked}
@@ -87,3 +92,11 @@ module _ {T : Type 0} where
       OfNamed old one (λ first. OfNamed old other (λ second. call first.place second.place (Ok found)))
   LooksAtTwo call old new one other (Err status) =
       RefusedOfTwo (λ k j fault. call k j (Err fault)) old new one other status
+
+-- ---- texts that nobody changes
+
+-- each locking of the object in the place, from the one frame to the other, found this text
+abbrev pub FindsOnly : FrameSeen Global → FrameSeen Global → ℕ → List ℕ → Type 0
+FindsOnly old new k text = (later earlier : List LogItem) (number cell : ℕ) (found : Contents)
+    → new.seat.log ≡ later ++ Stepped (Lock k) number (moves.Found cell found) ∷ earlier ++ old.seat.log
+    → found ≡ contents.Text text

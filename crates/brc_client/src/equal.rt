@@ -1,10 +1,12 @@
 //! Whether two texts have the same bytes: piece by piece, with one lock at a time, and without memory.
 
-ghost use Rattle.std.specs.Prelude.{◌≡◌, ◌<◌, ◌+◌, ◌^◌, Ok, Some, None, length};
-ghost use Rattle.brc_count.specs.Frames.{IsUnlocked, Owns};
+ghost use Rattle.std.specs.Prelude.{◌≡◌, ◌<◌, ◌+◌, ◌^◌, ℕ, Bool, List, Ok, Some, None, length};
+ghost use Rattle.std.specs.Bool.{Decides};
+ghost use Rattle.std.specs.declared.alloc.Global.{Global};
+ghost use Rattle.brc_count.specs.Frames.{FrameSeen, IsUnlocked, Owns};
 ghost use Rattle.brc_count.specs.Owned.{Keeps};
 ghost use Rattle.brc_client.specs.Clients.{KeepsNumbers};
-ghost use Rattle.brc_client.specs.Equal.{ComparesPiece, Compares, ComparesCells, LooksAtTwo};
+ghost use Rattle.brc_client.specs.Equal.{ComparesPiece, Compares, ComparesCells, LooksAtTwo, FindsOnly};
 
 use crate::client::{Client, find};
 use crate::status::Status;
@@ -106,6 +108,15 @@ fn cells_alike(
         Err(fault) => Err(fault),
     }
 }
+
+/// If nobody changes the two texts meanwhile, the answer is whether they are the same. That each piece is alike in both
+/// comes to that.
+#[tactic(auto, using(crate::proofs::Unchanged::same_texts))]
+pub fn alike_pieces_are_the_same_text()
+    ensures { (one other : ℕ) (old new : FrameSeen Global) (text beside : List ℕ) (is_equal : Bool)
+        → Compares one other 0 old new (Ok is_equal) → FindsOnly old new one text → FindsOnly old new other beside
+        → Decides is_equal (text ≡ beside) }
+{}
 
 impl Client {
     /// Whether two texts have the same bytes. One object is equal at once, whatever it is. Foreign, Stale for the first,
