@@ -38,19 +38,19 @@ alike_whole text beside n long few alike =
 -- ---- one look
 
 -- a look that shows a text has found it
-found : {old new : FrameSeen Global} {k from len : ℕ} {had has : List ℕ} → TextShown old new k from had has (Ok len)
-    → (text : List ℕ) × TextFound old new k (Ok text) × (length text ≡ len) × (has ≡ shown_from text from had)
-found shown =
+found : {old new : FrameSeen Global} {k len : ℕ} {has : List ℕ} (from : ℕ) (had : List ℕ)
+    → TextShown old new k from had has (Ok len) → (text : List ℕ) × TextFound old new k (Ok text) × (length text ≡ len) × (has ≡ shown_from text from had)
+found from had shown =
     let (text, looks, long, is) = shown.found in
     (text, record { thread = shown.thread; frame = shown.frame; found = looks; refused = tt }, long, is)
 
-pub refused : {old new : FrameSeen Global} {k from : ℕ} {had has : List ℕ} {fault : Fault}
+pub refused : {old new : FrameSeen Global} {k : ℕ} {fault : Fault} (from : ℕ) (had has : List ℕ)
     → TextShown old new k from had has (Err fault) → TextFound old new k (Err fault)
-refused shown = record { thread = shown.thread; frame = shown.frame; found = tt; refused = shown.refused }
+refused from had has shown = record { thread = shown.thread; frame = shown.frame; found = tt; refused = shown.refused }
 
-pub found_one : {old new : FrameSeen Global} {k from len : ℕ} {had has : List ℕ}
+pub found_one : {old new : FrameSeen Global} {k len : ℕ} (from : ℕ) (had has : List ℕ)
     → TextShown old new k from had has (Ok len) → (text : List ℕ) × TextFound old new k (Ok text)
-found_one shown = let (text, looks, long, is) = found shown in (text, looks)
+found_one from had has shown = let (text, looks, long, is) = found from had shown in (text, looks)
 
 -- ---- a look at each
 
@@ -70,8 +70,8 @@ pub differ_in_length : {old new : FrameSeen Global} {one other from size len oth
     → ShowsBoth old new one other from size len other_len has other_has → len ≢ other_len
     → ComparesPiece old new one other from size (Ok (Some false))
 differ_in_length both differ =
-    let (text, looks, long, is) = found both.first in
-    let (beside, other_looks, other_long, other_is) = found both.second in
+    let (text, looks, long, is) = found _ _ both.first in
+    let (beside, other_looks, other_long, other_is) = found _ _ both.second in
     record {
       between = both.between;
       text = text;
@@ -93,8 +93,8 @@ pub differ_in_bytes : {old new : FrameSeen Global} {one other from size len othe
     → shown ≡ min (len - from) size → take shown has ≢ take shown other_has
     → ComparesPiece old new one other from size (Ok (Some false))
 differ_in_bytes {from = from} {size = size} {len = len} {has = has} {other_has = other_has} both same shown fits differ =
-    let (text, looks, long, is) = found both.first in
-    let (beside, other_looks, other_long, other_is) = found both.second in
+    let (text, looks, long, is) = found _ _ both.first in
+    let (beside, other_looks, other_long, other_is) = found _ _ both.second in
     let here = in_room text both.had has from shown size len long both.room is fits in
     let there = in_room beside both.other_had other_has from shown size len (other_long ∙ sym same) both.other_room other_is
     fits in
@@ -113,8 +113,8 @@ pub alike_in_bytes : {old new : FrameSeen Global} {one other from size len other
     → shown ≡ min (len - from) size → take shown has ≡ take shown other_has → (P : ℕ → Type 0) → P len
     → BothFound old new one other (λ text beside. IsAlike from size text beside × P (length text))
 alike_in_bytes {from = from} {size = size} {len = len} {has = has} {other_has = other_has} both same shown fits alike P so =
-    let (text, looks, long, is) = found both.first in
-    let (beside, other_looks, other_long, other_is) = found both.second in
+    let (text, looks, long, is) = found _ _ both.first in
+    let (beside, other_looks, other_long, other_is) = found _ _ both.second in
     let here = in_room text both.had has from shown size len long both.room is fits in
     let there = in_room beside both.other_had other_has from shown size len (other_long ∙ sym same) both.other_room other_is
     fits in

@@ -42,8 +42,8 @@ only_behind {old = old} {mid = mid} {k = k} only before = λ later earlier numbe
     (let (more, grown) = before in
     let item = Stepped (Lock k) number (moves.Found cell found) in
     only later (earlier ++ more) number cell found
-    (is ∙ ap (λ xs. later ++ item ∷ (earlier ++ xs)) grown
-    ∙ ap (λ xs. later ++ item ∷ xs) (sym (append_assoc earlier more old.seat.log))))
+    (is ∙ ap (λ xs. later ++ (item ∷ (earlier ++ xs))) grown
+    ∙ ap (λ xs. later ++ (item ∷ xs)) (sym (append_assoc earlier more old.seat.log))))
 
 only_before : {old mid new : FrameSeen Global} {k : ℕ} {text : List ℕ} → FindsOnly old new k text → Grows mid new
     → FindsOnly old mid k text
@@ -88,10 +88,10 @@ compares_grow (PieceAnswers from size old new true few piece) = both_grow piece
 compares_grow (PieceAnswers from size old new false few piece) = both_grow piece
 compares_grow (PieceAlike from size old mid new result few piece rest) = grows_on (both_grow piece) (compares_grow rest)
 
-answers : {old new : FrameSeen Global} {one other from size : ℕ} {text beside : List ℕ} (is_equal : Bool)
+answers : {old new : FrameSeen Global} {one other : ℕ} {text beside : List ℕ} (from size : ℕ) (is_equal : Bool)
     → ComparesPiece old new one other from size (Ok (Some is_equal)) → FindsOnly old new one text
     → FindsOnly old new other beside → take from text ≡ take from beside → Decides is_equal (text ≡ beside)
-answers {from = from} {size = size} {text = text} {beside = beside} false piece one_only other_only before =
+answers {text = text} {beside = beside} from size false piece one_only other_only before =
     let differ = sees_both piece one_only other_only in (
       λ is. absurd (let off : ⊥ = cc in off),
       λ same. absurd (differ (record {
@@ -99,7 +99,7 @@ answers {from = from} {size = size} {text = text} {beside = beside} false piece 
         pieces = ap (λ t. take size (drop from t)) same;
       })),
     )
-answers {from = from} {size = size} {text = text} {beside = beside} true piece one_only other_only before =
+answers {text = text} {beside = beside} from size true piece one_only other_only before =
     let alike = sees_both piece one_only other_only in (
       λ is. alike_whole text beside (from + size) alike.0.lengths alike.1
           (alike_further text beside from size before alike.0.pieces),
@@ -110,7 +110,7 @@ same_from : {one other from : ℕ} {old new : FrameSeen Global} {is_equal : Bool
     → Compares one other from old new (Ok is_equal) → FindsOnly old new one text → FindsOnly old new other beside
     → take from text ≡ take from beside → Decides is_equal (text ≡ beside)
 same_from (PieceAnswers from size old new is_equal few piece) one_only other_only before =
-    answers is_equal piece one_only other_only before
+    answers from size is_equal piece one_only other_only before
 same_from {text = text} {beside = beside} (PieceAlike from size old mid new result few piece rest) one_only other_only before =
     let grows = both_grow piece in
     let alike = sees_both piece (only_before one_only (compares_grow rest)) (only_before other_only (compares_grow rest)) in

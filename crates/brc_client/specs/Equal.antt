@@ -98,5 +98,5 @@ module _ {T : Type 0} where
 -- each locking of the object in the place, from the one frame to the other, found this text
 abbrev pub FindsOnly : FrameSeen Global → FrameSeen Global → ℕ → List ℕ → Type 0
 FindsOnly old new k text = (later earlier : List LogItem) (number cell : ℕ) (found : Contents)
-    → new.seat.log ≡ later ++ Stepped (Lock k) number (moves.Found cell found) ∷ earlier ++ old.seat.log
+    → new.seat.log ≡ later ++ (Stepped (Lock k) number (moves.Found cell found) ∷ (earlier ++ old.seat.log))
     → found ≡ contents.Text text
