@@ -1,5 +1,5 @@
 -- Two texts in rooms: what a piece of each tells, and how pieces come to the whole.
-use Rattle.std.proofs.Common.{◌≡◌, ◌≢◌, ◌+◌, ◌-◌, ◌<◌, ◌≤◌, ℕ, Bool, true, false, List, ◌++◌, length, take, drop, min}
+use Rattle.std.proofs.Common.{◌≡◌, ◌≢◌, ◌+◌, ◌-◌, ◌<◌, ◌≤◌, ℕ, Bool, true, false, not, List, ◌++◌, length, take, drop, min}
 use Rattle.std.proofs.Common.{Some, None, Result, Ok, Err, refl, sym, ap, subst, ◌∙◌, arith}
 use Rattle.std.specs.Str.{bytes_eq}
 use Rattle.std.specs.declared.alloc.Global.{Global}
@@ -13,6 +13,10 @@ use Rattle.brc_client.specs.Equal.{TextFound, IsAlike, BothFound, ComparesPiece}
 
 -- ---- texts
 
+both_not : (b : Bool) → false ≡ not b → b ≡ true
+both_not true is = refl
+both_not false is = cc
+
 -- the piece lies at the front of the room
 piece_shown : (text had has : List ℕ) (from shown : ℕ) → has ≡ shown_from text from had
     → shown ≡ min (length text - from) (length had) → take shown has ≡ take (length had) (drop from text)
@@ -21,6 +25,16 @@ piece_shown text had has from shown is fits =
     let behind = drop (length (drop from text)) had in
     let long : shown ≡ length piece = grind (arith, fits, length-take (length had) (drop from text), length-drop from text) in
     ap (λ xs. take shown xs) is ∙ ap (λ n. take n (piece ++ behind)) long ∙ take-append_seam piece behind
+
+-- what `!=` says of two pieces
+unequal : (xs ys : List ℕ) → true ≡ not (bytes_eq xs ys) → xs ≢ ys
+unequal xs ys is same =
+    let yes : bytes_eq xs ys ≡ true = (bytes_eq-Decides xs ys).1 same in
+    let off : true ≡ false = is ∙ ap not yes in
+    cc
+
+equal : (xs ys : List ℕ) → false ≡ not (bytes_eq xs ys) → xs ≡ ys
+equal xs ys is = (bytes_eq-Decides xs ys).0 (both_not (bytes_eq xs ys) is)
 
 -- texts that are alike up to a byte, and in a piece from there on, are alike up to its end
 pub alike_further : (text beside : List ℕ) (from size : ℕ) → take from text ≡ take from beside
@@ -54,8 +68,7 @@ found_one from had has shown = let (text, looks, long, is) = found from had show
 
 -- ---- a look at each
 
--- Two looks, one after the other, each into a room of this size; and how many bytes both have shown, if the texts are of
--- one length.
+-- Two looks, one after the other, each into a room of this size; and how long both texts are, and what the rooms have.
 pub record ShowsBoth (old new : FrameSeen Global) (one other from size : ℕ) (len other_len : ℕ)
     (has other_has : List ℕ) : Type 0 where
   between : FrameSeen Global
@@ -65,6 +78,20 @@ pub record ShowsBoth (old new : FrameSeen Global) (one other from size : ℕ) (l
   other_room : length other_had ≡ size
   first : TextShown old between one from had has (Ok len)
   second : TextShown between new other from other_had other_has (Ok other_len)
+
+pub shows_both : {old new : FrameSeen Global} {one other from len other_len : ℕ} {has other_has : List ℕ}
+    (between : FrameSeen Global) (had other_had : List ℕ) → length other_had ≡ length had
+    → TextShown old between one from had has (Ok len) → TextShown between new other from other_had other_has (Ok other_len)
+    → ShowsBoth old new one other from (length had) len other_len has other_has
+shows_both between had other_had rooms first second = record {
+  between = between;
+  had = had;
+  other_had = other_had;
+  room = refl;
+  other_room = rooms;
+  first = first;
+  second = second;
+}
 
 pub differ_in_length : {old new : FrameSeen Global} {one other from size len other_len : ℕ} {has other_has : List ℕ}
     → ShowsBoth old new one other from size len other_len has other_has → len ≢ other_len
@@ -90,7 +117,7 @@ in_room text had has from shown size len long room is fits =
 
 pub differ_in_bytes : {old new : FrameSeen Global} {one other from size len other_len : ℕ} {has other_has : List ℕ}
     → ShowsBoth old new one other from size len other_len has other_has → len ≡ other_len → (shown : ℕ)
-    → shown ≡ min (len - from) size → take shown has ≢ take shown other_has
+    → shown ≡ min (len - from) size → true ≡ not (bytes_eq (take shown has) (take shown other_has))
     → ComparesPiece old new one other from size (Ok (Some false))
 differ_in_bytes {from = from} {size = size} {len = len} {has = has} {other_has = other_has} both same shown fits differ =
     let (text, looks, long, is) = found _ _ both.first in
@@ -104,13 +131,14 @@ differ_in_bytes {from = from} {size = size} {len = len} {has = has} {other_has =
       beside = beside;
       first = looks;
       second = other_looks;
-      so = λ alike. differ (here ∙ alike.pieces ∙ sym there);
+      so = λ alike. unequal _ _ differ (here ∙ alike.pieces ∙ sym there);
     }
 
 -- both are alike in the piece, and of their length this is so
 pub alike_in_bytes : {old new : FrameSeen Global} {one other from size len other_len : ℕ} {has other_has : List ℕ}
     → ShowsBoth old new one other from size len other_len has other_has → len ≡ other_len → (shown : ℕ)
-    → shown ≡ min (len - from) size → take shown has ≡ take shown other_has → (P : ℕ → Type 0) → P len
+    → shown ≡ min (len - from) size → false ≡ not (bytes_eq (take shown has) (take shown other_has))
+    → (P : ℕ → Type 0) → P len
     → BothFound old new one other (λ text beside. IsAlike from size text beside × P (length text))
 alike_in_bytes {from = from} {size = size} {len = len} {has = has} {other_has = other_has} both same shown fits alike P so =
     let (text, looks, long, is) = found _ _ both.first in
@@ -124,5 +152,5 @@ alike_in_bytes {from = from} {size = size} {len = len} {has = has} {other_has = 
       beside = beside;
       first = looks;
       second = other_looks;
-      so = (record { lengths = long ∙ same ∙ sym other_long; pieces = sym here ∙ alike ∙ there }, subst P (sym long) so);
+      so = (record { lengths = long ∙ same ∙ sym other_long; pieces = sym here ∙ equal _ _ alike ∙ there }, subst P (sym long) so);
     }
