@@ -75,7 +75,7 @@ fn rest_alike(
     let mut room = [0u8; PIECE];
     let mut beside = [0u8; PIECE];
     let mut from = from;
-    loop {
+    'pieces: loop {
         match piece_alike(frame, one, other, from, &mut room, &mut beside) {
             Ok(Some(is_alike)) => return Ok(is_alike),
             Ok(None) => from += PIECE,
@@ -111,7 +111,6 @@ fn cells_alike(
 
 /// If nobody changes the two texts meanwhile, the answer is whether they are the same. That each piece is alike in both
 /// comes to that.
-#[tactic(auto, using(crate::proofs::Unchanged::same_texts))]
 pub fn alike_pieces_are_the_same_text()
     ensures { (one other : ℕ) (old new : FrameSeen Global) (text beside : List ℕ) (is_equal : Bool)
         → Compares one other 0 old new (Ok is_equal) → FindsOnly old new one text → FindsOnly old new other beside
