@@ -117,7 +117,7 @@ same_from {one} {other} text beside (PieceAlike from size old mid new result few
     let grows = both_grow piece in
     let behind = compares_grow rest in
     let alike = sees_both piece (only_before old mid new one text one_only behind)
-        (only_before old mid new other beside other_only behind) in
+    (only_before old mid new other beside other_only behind) in
     same_from text beside rest (only_behind old mid new one text one_only grows)
     (only_behind old mid new other beside other_only grows)
     (alike_further text beside from size before alike.0.pieces)
