@@ -45,8 +45,8 @@ pub data EitherRefused (old new : FrameSeen Global) (one other : ℕ) (fault : F
   OtherRefused : (between : FrameSeen Global) (text : List ℕ) → TextFound old between one (Ok text)
       → TextFound between new other (Err fault) → EitherRefused old new one other fault
 
--- One look at each, at a piece from a byte on. The texts differ; or they are alike in it, and nothing is behind it; or they
--- are alike in it, and more is behind it: then there is no answer yet. Or a look was refused.
+-- One look at each, at a piece from a byte on. The texts differ. Or they are alike in it, and nothing is behind it. Or they
+-- are alike in it, and more is behind it: there is no answer yet. Or a look was refused.
 abbrev pub ComparesPiece : FrameSeen Global → FrameSeen Global → ℕ → ℕ → ℕ → ℕ → Result (Option Bool) Fault → Type 0
 ComparesPiece old new one other from size (Ok (Some false)) =
     BothFound old new one other (λ text beside. IsAlike from size text beside → ⊥)
@@ -77,8 +77,8 @@ pub data ComparesCells (old new : FrameSeen Global) (one other : ℕ) (result : 
 
 -- ---- two numbers
 
--- Why a call on the objects of two numbers was refused: the one number names none, or the other, and nothing was done; or
--- the heap refused.
+-- Why a call on the objects of two numbers was refused. One of the numbers names none, and nothing was done; or the heap
+-- refused.
 pub data RefusedOfTwo (call : ℕ → ℕ → Fault → Type 0) (old new : ClientSeen) (one other : ℕ) (status : Status) : Type 0 where
   OneUnnamed : NamesNone old one status → new ≡ old → RefusedOfTwo call old new one other status
   OtherUnnamed : Names old one → NamesNone old other status → new ≡ old → RefusedOfTwo call old new one other status

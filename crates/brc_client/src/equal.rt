@@ -22,7 +22,7 @@ const PIECE: usize = 4096;
 /// How many the first look takes. What lies on the stack is set to zero, so short texts want few.
 const FIRST_PIECE: usize = 256;
 
-/// Whether both texts are alike from a byte on, as far as there is room; None if they are, and more of both is left. The
+/// Whether both texts are alike from a byte on. None if they are as far as there is room, and more of both is left. The
 /// one text is looked at and unlocked before the other is.
 fn piece_alike(
     frame: &mut Frame<Shared, Global>,
@@ -57,7 +57,7 @@ fn piece_alike(
     Ok(Some(true))
 }
 
-/// Whether both texts are alike from a byte on.
+/// Whether both texts are alike from a byte on, to their ends.
 #[inline(never)]
 fn rest_alike(
     frame: &mut Frame<Shared, Global>,
@@ -84,7 +84,7 @@ fn rest_alike(
     }
 }
 
-/// Whether both texts are alike. One object is, whatever it is, and isn't looked at.
+/// Whether both texts are the same. One object is the same as itself, whatever it is, and isn't looked at.
 fn cells_alike(
     frame: &mut Frame<Shared, Global>,
     one: &Handle<Global>,
@@ -109,10 +109,9 @@ fn cells_alike(
     }
 }
 
-/// If nobody changes the two texts meanwhile, the answer is whether they are the same. That each piece is alike in both
-/// comes to that.
+/// If nobody changes the two texts meanwhile, the answer is whether they are the same: alike pieces are the same text.
 pub fn alike_pieces_are_the_same_text()
-    ensures { (one other : ℕ) (old new : FrameSeen Global) (text beside : List ℕ) (is_equal : Bool)
+    ensures same { (one other : ℕ) (old new : FrameSeen Global) (text beside : List ℕ) (is_equal : Bool)
         → Compares one other 0 old new (Ok is_equal) → FindsOnly old new one text → FindsOnly old new other beside
         → Decides is_equal (text ≡ beside) }
 {}

@@ -1,6 +1,6 @@
-use Rattle.std.proofs.Common.{arith, ◌≤◌, ◌+◌, length, Ok, None}
+use Rattle.std.proofs.Common.{arith, length}
 use Rattle.brc_count.proofs.Owning.{keeps_on}
-use Rattle.brc_client.specs.Equal.{ComparesPiece, PieceAnswers, PieceRefused, PieceAlike}
+use Rattle.brc_client.specs.Equal.{PieceAnswers, PieceRefused, PieceAlike}
 use Rattle.brc_client.proofs.equal.rest_alike.Goals as goal
 
 pub returns-in-Ok-Some-clause-compared : goal.returns-in-Ok-Some-clause-compared
