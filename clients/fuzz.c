@@ -9,6 +9,7 @@
  *   - the status is one of those that brc.h names for the call;
  *   - the numbers were STALE or FOREIGN if and only if the thread doesn't hold them, and a scalar never was;
  *   - a refused call has written nothing;
+ *   - two texts were equal if and only if they have the same bytes;
  *   - a value that came out is one that some thread put in: its label was given with such bits, or with a reference;
  *   - brc_count is the count of the numbers that the thread holds.
  *
@@ -39,8 +40,8 @@ enum { MOST_HELD = 200, MOST_OLD = 64, WORKERS = 4, STATUSES = 80, UNWRITTEN = 0
 /* ---- The calls, and the statuses that brc.h names for each */
 
 typedef enum {
-    RELEASE, PUSH, SEND, POLL, WORK, LEN_OF, INT_OF, KIND_OF, TRUTH_OF, SAME, IDENTITY, TEXT_OF, TEXT_IS, SET, LEDGER, CLAIM, LEAVE,
-    RELEASE_ALL, HAS_INT, HAS_TEXT, PLACE_INT, PLACE_TEXT, PUSH_VALUE, SEND_VALUE,
+    RELEASE, PUSH, SEND, POLL, WORK, LEN_OF, INT_OF, KIND_OF, TRUTH_OF, SAME, IDENTITY, TEXT_OF, TEXT_IS, TEXT_EQUAL, SET, LEDGER,
+    CLAIM, LEAVE, RELEASE_ALL, HAS_INT, HAS_TEXT, PLACE_INT, PLACE_TEXT, PUSH_VALUE, SEND_VALUE,
     /* from here on a call hands out a reference more */
     RETAIN, NONE, TRUTH, GLOBALS, NEW_INT, NEW_TEXT, NEW_LIST, NEW_DICT, NEW_MAILBOX, POP, TAKE, GET, RECV, PUT_INT, FIND_INT,
     DEL_INT, PUT_TEXT, FIND_TEXT, DEL_TEXT, PAIR,
@@ -77,6 +78,7 @@ static const struct { int weight, numbers; uint64_t statuses; } ABOUT[CALLS] = {
     [IDENTITY] = {1, 1, NUMBER},
     [TEXT_OF] = {1, 1, OBJECT},
     [TEXT_IS] = {1, 1, OBJECT},
+    [TEXT_EQUAL] = {1, 2, OBJECT},
     [SET] = {2, 2, ENTERS | S(BRC_NO_SUCH_PLACE)},
     [LEDGER] = {1, 0, GIVEN},
     [CLAIM] = {1, 0, GIVEN},
@@ -255,7 +257,7 @@ static brc_value any_value(worker_t *w, brc_ref ref) {
     }
 }
 
-/* The kind that a call on a container is for, else 0. */
+/* The kind that a call on a container, or on two texts, is for, else 0. */
 static brc_kind kind_for(call_t call) {
     switch (call) {
     case PUSH: case POP: case TAKE: case GET: case SET:
@@ -267,12 +269,13 @@ static brc_kind kind_for(call_t call) {
     case PUT_INT_VALUE: case FIND_INT_VALUE: case DEL_INT_VALUE: case PUT_TEXT_VALUE: case FIND_TEXT_VALUE:
     case DEL_TEXT_VALUE: case PAIR_VALUE: case PUT_NEW_INT_VALUE: case PUT_NEW_TEXT_VALUE:
     case SWAP_IF_INT: case SWAP_IF_TEXT: return BRC_DICT;
+    case TEXT_EQUAL: return BRC_TEXT;
     default: return 0;
     }
 }
 
-/* The first number is any; in every other call on a container it is one of its kind, if some tries find one. */
-static brc_ref first_number(worker_t *w, call_t call) {
+/* The number is any; in every other such call it names an object of its kind, if some tries find one. */
+static brc_ref some_number(worker_t *w, call_t call) {
     brc_ref ref = any_number(w);
     brc_kind kind = kind_for(call), found = 0;
     int tries = kind && draw(w, 2) ? 8 : 0;
@@ -282,8 +285,8 @@ static brc_ref first_number(worker_t *w, call_t call) {
 
 static inputs_t any_inputs(worker_t *w, call_t call) {
     inputs_t in;
-    in.one = first_number(w, call);
-    in.other = draw(w, 50) ? any_number(w) : in.one;
+    in.one = some_number(w, call);
+    in.other = draw(w, 50) == 0 ? in.one : call == TEXT_EQUAL ? some_number(w, call) : any_number(w);
     in.put = any_value(w, in.other);
     in.expected = draw(w, 3) ? brc_of_bits(OF_BITS, bits_of(OF_BITS)) : any_value(w, any_number(w));
     if (draw(w, 3) == 0) in.put = in.expected;
@@ -329,6 +332,7 @@ static brc_status make_call(worker_t *w, call_t call, const inputs_t *in, outs_t
     case IDENTITY: return brc_identity(t, one, &out->identity);
     case TEXT_OF: return brc_text_of(t, one, out->text, in->room, &out->len);
     case TEXT_IS: return brc_text_is(t, one, in->bytes, in->len, &out->word);
+    case TEXT_EQUAL: return brc_text_equal(t, one, other, &out->word);
     case SET: return brc_list_set(t, one, in->index, other, &out->ref);
     case LEDGER: return brc_ledger(t, &out->allocs, &out->frees);
     case CLAIM: return brc_claim(t, in->word, in->word & 1);
@@ -439,6 +443,25 @@ static void check_value(worker_t *w, call_t call, brc_value came) {
     }
 }
 
+/* The two are one object, or texts. A text never changes, so both are read once more. */
+static void check_texts(worker_t *w, const inputs_t *in, uint32_t is_equal) {
+    uint32_t is_one;
+    uint8_t texts[2][16];
+    size_t lens[2];
+    brc_status s;
+    MUST(brc_same(&w->thread, in->one, in->other, &is_one));
+    if (is_one) {
+        CHECK(is_equal == 1);
+        return;
+    }
+    BRC_WAIT(&w->thread, s, brc_text_of(&w->thread, in->one, texts[0], sizeof texts[0], &lens[0]));
+    MUST(s);
+    BRC_WAIT(&w->thread, s, brc_text_of(&w->thread, in->other, texts[1], sizeof texts[1], &lens[1]));
+    MUST(s);
+    CHECK(lens[0] <= sizeof texts[0]);
+    CHECK(is_equal == (lens[0] == lens[1] && memcmp(texts[0], texts[1], lens[0]) == 0));
+}
+
 /* A call, and its checks. Returns whether the thread has left, or began to. */
 static int turn(worker_t *w) {
     call_t call = any_call(w);
@@ -475,6 +498,7 @@ static int turn(worker_t *w) {
             }
         }
         if (call == PAIR_VALUE) CHECK(in.index < out.word);
+        if (call == TEXT_EQUAL) check_texts(w, &in, out.word);
         if (call == TEXT_OF || call == PAIR || call == PAIR_VALUE)
             for (size_t i = in.room; i < sizeof out.text; i++) CHECK(out.text[i] == UNWRITTEN);
     }

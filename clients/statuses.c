@@ -25,7 +25,7 @@
 #include <time.h>
 #include "brc.h"
 
-enum { REFERENCES = 65536, ENTRIES = 1048576, MOST_THREADS = 64, CALLS = 72 };
+enum { REFERENCES = 65536, ENTRIES = 1048576, MOST_THREADS = 64, CALLS = 73 };
 enum { LABEL = 77, UNWRITTEN = 0xa5, DEAD_ENTRIES = 100000, TRIES = 10000000, SECONDS = 60 };
 
 /* ---- What is said */
@@ -199,7 +199,7 @@ static void hold(hold_t *h, brc_thread *thread, brc_kind kind, brc_ref object) {
 
 typedef enum {
     RETAIN, RELEASE, SAME, IDENTITY, NOTHING, TRUTH, GLOBALS, NEW_INT, NEW_SMALL, NEW_TEXT, NEW_LIST, NEW_DICT, NEW_MAILBOX,
-    KIND_OF, LEN_OF, INT_OF, TRUTH_OF, TEXT_OF, TEXT_IS, PUSH, POP, TAKE, GET, SET, SEND, RECV, PUT_INT, PUT_TEXT,
+    KIND_OF, LEN_OF, INT_OF, TRUTH_OF, TEXT_OF, TEXT_IS, TEXT_EQUAL, PUSH, POP, TAKE, GET, SET, SEND, RECV, PUT_INT, PUT_TEXT,
     FIND_INT, FIND_TEXT, DEL_INT, DEL_TEXT, PAIR, HAS_INT, HAS_TEXT, PLACE_INT, PLACE_TEXT, LEDGER, RELEASE_ALL, CLAIM, POLL,
     WORK, COUNT, PUSH_VALUE, POP_VALUE, TAKE_VALUE, GET_VALUE, SET_VALUE,
     PUT_VALUE, SEND_VALUE, RECV_VALUE, PUT_INT_VALUE, PUT_TEXT_VALUE, PUT_NEW_INT_VALUE, PUT_NEW_TEXT_VALUE,
@@ -266,6 +266,7 @@ static brc_status make_call(call_t call, brc_thread *t, const inputs_t *in, outs
     case TRUTH_OF: return brc_truth_of(t, one, &out->word);
     case TEXT_OF: return brc_text_of(t, one, out->text, sizeof out->text, &out->len);
     case TEXT_IS: return brc_text_is(t, one, in->bytes, in->len, &out->word);
+    case TEXT_EQUAL: return brc_text_equal(t, one, other, &out->word);
     case PUSH: return brc_list_push(t, one, other);
     case POP: return brc_list_pop(t, one, &out->ref);
     case TAKE: return brc_list_take(t, one, in->index, &out->ref);
@@ -421,6 +422,11 @@ static const row_t NOT_TRUTH[] = {
 static const row_t READS[] = {
     {"a text, and no memory", FULL, SOME, VALUE, FIRST, NONE, BRC_OK, 0},
     {"a text, bytes that aren't UTF-8, and no memory", FULL, SOME, VALUE, BAD, NONE, BRC_OK, 0},
+    {0}};
+static const row_t TWO_TEXTS[] = {
+    {"a text, and the second is of another kind", FULL, SOME, VALUE, FAR, NONE, BRC_WRONG_KIND, 0},
+    {"one text twice, and no memory", FULL, SOME, TWICE, FAR, NONE, BRC_OK, 0},
+    {"one number twice, of another kind", FULL, WRONG, TWICE, FAR, NONE, BRC_OK, 0},
     {0}};
 static const row_t LENGTHS[] = {
     {"another thread has the list", FULL, SOME, VALUE, FIRST, NONE, BRC_BUSY, BRC_OK},
@@ -625,6 +631,7 @@ static const about_t ABOUT[] = {
     {TRUTH_OF, "brc_truth_of", ANY, {NUMBER, NOT_TRUTH}},
     {TEXT_OF, "brc_text_of", TEXTS, {NUMBER, OTHER_KIND, READS}},
     {TEXT_IS, "brc_text_is", TEXTS, {NUMBER, OTHER_KIND, READS}},
+    {TEXT_EQUAL, "brc_text_equal", TEXTS, {NUMBERS_OF_TWO, OTHER_KIND, TWO_TEXTS}},
     {PUSH, "brc_list_push", LISTS, {NUMBERS_OF_TWO, ONE_TWICE, OTHER_KIND, OTHER_CONTAINER, PUTS}},
     {POP, "brc_list_pop", LISTS, {NUMBER, OTHER_KIND, OTHER_CONTAINER, GIVES}},
     {TAKE, "brc_list_take", LISTS, {NUMBER, OTHER_KIND, OTHER_CONTAINER, INDEXES, GIVES}},
@@ -1146,6 +1153,24 @@ static void play_unlocked(void) {
     let_go(&h);
 }
 
+/* Two numbers, of which the second names an object that is locked, or both do. */
+static void play_second_locked(void) {
+    brc_thread *t = &threads[READY];
+    const brc_ref text = held[READY][TEXT], list = held[READY][LIST];
+    uint32_t is_same = 7;
+    hold_t h;
+    int is_seen;
+    begin_row("brc_text_equal", "another thread has the second, of another kind");
+    is_seen = hold_object(&h, LIST);
+    if (!is_seen) not_seen();
+    settle(brc_text_equal(t, text, list, &is_same), is_seen ? BRC_BUSY : BRC_WRONG_KIND);
+    CHECK(is_same == 7);
+    MUST(brc_text_equal(t, list, list, &is_same));
+    CHECK(is_same == 1);
+    let_go(&h);
+    settle(brc_text_equal(t, text, list, &is_same), BRC_WRONG_KIND);
+}
+
 /* ---- Heaps and threads */
 
 /* How a heap is, as a set. It has two threads, or 64. The first may have a reference, or a dead list to take apart, or it has
@@ -1377,6 +1402,61 @@ static void play_sizes(void) {
         begin_row("brc_heap_new", SIZES[i].what);
         settle(new_heap(SIZES[i].cells, SIZES[i].limit, NONE, &made), SIZES[i].wanted);
     }
+}
+
+/* ---- Texts */
+
+/* Lengths of texts, and bytes of them. The first 256 bytes are compared, and then pieces of 4,096. */
+static const size_t LENGTHS_OF_TEXTS[] = {0, 1, 255, 256, 257, 4095, 4096, 4097, 4351, 4352, 4353, 8448, 8449, 9000};
+static const size_t BYTES_OF_TEXTS[] = {0, 1, 255, 256, 4095, 4096, 4351, 4352, 8447, 8448};
+
+/* Whether a text has the same bytes as a text of these, either way, and by its bytes. No memory is had. */
+static void is_equal(brc_thread *t, brc_ref text, const uint8_t *bytes, size_t len, uint32_t wanted) {
+    brc_ref other;
+    uint32_t is_same = 7;
+    MUST(brc_new_text(t, bytes, len, &other));
+    given = NONE;
+    MUST(brc_text_equal(t, text, other, &is_same));
+    CHECK(is_same == wanted);
+    MUST(brc_text_equal(t, other, text, &is_same));
+    CHECK(is_same == wanted);
+    MUST(brc_text_is(t, text, bytes, len, &is_same));
+    CHECK(is_same == wanted);
+    given = ALL;
+    MUST(brc_release(t, other));
+    CHECK(brc_work(t, 8) > 0);
+}
+
+static void differs_at(brc_thread *t, brc_ref text, uint8_t *bytes, size_t len, size_t at) {
+    if (at >= len) return;
+    bytes[at] ^= 1;
+    is_equal(t, text, bytes, len, 0);
+    bytes[at] ^= 1;
+}
+
+static void play_texts(void) {
+    static uint8_t bytes[9001];
+    life_t l;
+    brc_thread *t = &l.threads[0];
+    brc_ref text;
+    arrange(&l, OPEN);
+    for (size_t i = 0; i < sizeof bytes; i++) bytes[i] = (uint8_t)('a' + i % 23);
+    for (size_t i = 0; i < sizeof LENGTHS_OF_TEXTS / sizeof LENGTHS_OF_TEXTS[0]; i++) {
+        const size_t len = LENGTHS_OF_TEXTS[i];
+        char what[32];
+        snprintf(what, sizeof what, "texts of %zu bytes", len);
+        begin_row("brc_text_equal", what);
+        MUST(brc_new_text(t, bytes, len, &text));
+        is_equal(t, text, bytes, len, 1);
+        is_equal(t, text, bytes, len + 1, 0);
+        for (size_t k = 0; k < sizeof BYTES_OF_TEXTS / sizeof BYTES_OF_TEXTS[0]; k++)
+            differs_at(t, text, bytes, len, BYTES_OF_TEXTS[k]);
+        if (len > 0) differs_at(t, text, bytes, len, len - 1);
+        MUST(brc_release(t, text));
+    }
+    begin("brc_text_equal", "the heap of the texts");
+    end_life(&l);
+    CHECK(blocks == 0);
 }
 
 /* Each of the heap's allocations is refused, with all later ones. */
@@ -1749,7 +1829,9 @@ int main(void) {
     play_all();
     play_puts();
     play_unlocked();
+    play_second_locked();
     take_down();
+    play_texts();
     play_sizes();
     for (size_t i = 0; i < sizeof LIVES / sizeof LIVES[0]; i++) play_life(&LIVES[i]);
     for (size_t i = 0; i < sizeof STEPS / sizeof STEPS[0]; i++) {

@@ -303,6 +303,12 @@ brc_status brc_text_of(brc_thread *, brc_ref, uint8_t *to, size_t room, size_t *
  * GONE, FOREIGN, STALE, BUSY, WRONG_KIND. */
 brc_status brc_text_is(brc_thread *, brc_ref, const uint8_t *bytes, size_t len, uint32_t *is_same);
 
+/* Whether two texts have the same bytes: 1 or 0. One object is equal at once, whatever it is, without a
+ * lock. Else it takes two locks, one after the other, for the first 256 bytes and for each 4,096 behind
+ * them. It stops where the texts differ. No memory is taken. After BUSY the call can be made again.
+ * GONE; of `one` FOREIGN, STALE; of `other` FOREIGN, STALE; BUSY, WRONG_KIND. */
+brc_status brc_text_equal(brc_thread *, brc_ref one, brc_ref other, uint32_t *is_same);
+
 
 /* ---- Lists and mailboxes. After OK, a value that was given belongs to the container, and its number
  * is STALE. After any other status it is still the caller's. */

@@ -2,7 +2,7 @@
 
 ghost use Rattle.std.specs.Prelude.{◌≡◌, ◌≢◌};
 ghost use Rattle.brc_things.specs.Looking.{LenOf};
-ghost use Rattle.brc_client.specs.Answers.{FindsOut, FindsTruth, FindsIdentity};
+ghost use Rattle.brc_client.specs.Answers.{FindsOut, FindsTruth, FindsIdentity, FindsEqual};
 ghost use Rattle.brc_client.specs.Calls.{Shown, IsBytes};
 ghost use Rattle.brc_client.specs.Told.{KindTold, IntTold};
 ghost use Rattle.brc_c.specs.Exports.{CarriesOut, Writes, code_of, itself, truth_number, kind_number};
@@ -133,6 +133,23 @@ pub extern "C" fn brc_text_is(
 {
     match thread.as_mut().client() {
         Some(client) => write_truth(client.text_is(held, bytes), is_same),
+        None => gone(),
+    }
+}
+
+#[unsafe(no_mangle)]
+pub extern "C" fn brc_text_equal(
+    thread: &mut CThread,
+    one: u64,
+    other: u64,
+    is_same: &mut u32,
+) -> u32
+    ensures kept { result ≢ 0 → is_same.new ≡ is_same.old }
+    ensures does { CarriesOut (FindsEqual one other) thread.old.value thread.new.value result
+        (Writes truth_number is_same.old is_same.new) }
+{
+    match thread.as_mut().client() {
+        Some(client) => write_truth(client.text_equal(one, other), is_same),
         None => gone(),
     }
 }

@@ -5,3 +5,5 @@ mod Beside
 mod Putting
 mod Spending
 pub mod Statuses
+mod Alike
+mod Unchanged

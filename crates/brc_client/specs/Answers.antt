@@ -18,6 +18,7 @@ use Rattle.brc_client.specs.declared.status.Status.{Status}
 use Rattle.brc_client.specs.Clients.{ClientSeen, Names, NamesNone, KeepsNumbers, KeepsNames, SpendsName, SpendsEach}
 use Rattle.brc_client.specs.Calls.{OfNamed, ByHeap, RefusedOf, Adds, WithKey, Retained, Releases, PutsIn, PutsNot}
 use Rattle.brc_client.specs.Calls.{Looks, IsOne}
+use Rattle.brc_client.specs.Equal.{LooksAtTwo, ComparesCells}
 
 -- ---- a call that gives a number
 
@@ -111,6 +112,11 @@ pub record FindsSame (one other : ℕ) (old new : ClientSeen) (answer : Result B
       (IsTrue is_same → IsOne old first second) × (IsFalse is_same → IsOne old first second → ⊥))))
   pub refused : IfErr answer (λ status. NamesNone old one status ⊎ (Names old one × NamesNone old other status))
   pub same : new ≡ old
+
+-- whether the texts of two numbers have the same bytes
+pub record FindsEqual (one other : ℕ) (old new : ClientSeen) (answer : Result Bool Status) : Type 0 where
+  pub compared : LooksAtTwo (ComparesCells old.frame new.frame) old new one other answer
+  pub keeps : KeepsNumbers old new
 
 -- how many references there are
 pub record CountsReferences (old new : ClientSeen) (answer : ℕ) : Type 0 where

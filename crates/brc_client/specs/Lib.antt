@@ -9,3 +9,4 @@ pub mod Valued
 pub mod Keyed
 pub mod Told
 pub mod Swap_If
+pub mod Equal

@@ -13,6 +13,7 @@
 
 mod client;
 mod data;
+mod equal;
 mod keyed;
 mod looking;
 mod moving;
@@ -29,6 +30,7 @@ pub use brc_heap::{Key, KeyRef, Kind, Ledger, RootCounts};
 pub use brc_places::{Make, TakeBy};
 pub use client::Client;
 pub use data::{Datum, PairDatum};
+pub use equal::alike_pieces_are_the_same_text;
 pub use owner::{Left, Owner};
 pub use put_value::{
     Inward, Pushing, PuttingAt, PuttingByInt, PuttingByText, PuttingNewByInt, PuttingNewByText,
