@@ -22,7 +22,7 @@ use Rattle.brc_client.specs.declared.data.Datum.{Datum}
 use Rattle.brc_client.specs.declared.data.Datum.TheVariants as datums
 use Rattle.brc_client.specs.declared.data.PairDatum.{PairDatum}
 use Rattle.brc_client.specs.declared.status.Status.{Status}
-use Rattle.brc_client.specs.declared.swap_if.Exchange.{Exchange}
+use Rattle.brc_client.specs.declared.conditional.SwapTold.{SwapTold}
 use Rattle.brc_client.specs.Clients.{ClientSeen}
 use Rattle.brc_client.specs.Answers.{Makes, BeginsClaims}
 use Rattle.brc_c.specs.Exports.{OrNotValue, truth_number}
@@ -115,12 +115,12 @@ abbrev pub packed : CValue → ℕ
 packed value = value.holds * 4294967296 + value.label
 
 -- whether it was swapped, and what came
-abbrev pub WritesExchange : CValue → CValue → ℕ → ℕ → Result Exchange Status → Type 0
-WritesExchange value_was value was is (Ok did) = (value ≡ value_of did.came) × (is ≡ truth_number did.swapped)
-WritesExchange value_was value was is (Err status) = (value ≡ value_was) × (is ≡ was)
+abbrev pub WritesSwap : CValue → CValue → ℕ → ℕ → Result SwapTold Status → Type 0
+WritesSwap value_was value was is (Ok did) = (value ≡ value_of did.came) × (is ≡ truth_number did.swapped)
+WritesSwap value_was value was is (Err status) = (value ≡ value_was) × (is ≡ was)
 
 -- The call on two values of C's: what is expected, and what goes in. If either holds what none can hold, nothing is done.
-abbrev pub OfTwoValues : ℕ → ℕ → CValue → (Datum → Datum → ClientSeen → ClientSeen → Result Exchange Status → Type 0)
-    → ClientSeen → ClientSeen → Result Exchange Status → Type 0
+abbrev pub OfTwoValues : ℕ → ℕ → CValue → (Datum → Datum → ClientSeen → ClientSeen → Result SwapTold Status → Type 0)
+    → ClientSeen → ClientSeen → Result SwapTold Status → Type 0
 OfTwoValues bits noted value call =
     OrNotValue bits noted (λ expected. OrNotValue value.bits (packed value) (λ datum. call expected datum))

@@ -21,7 +21,7 @@ mod outs;
 mod parts;
 mod references;
 mod slots;
-mod swap_if;
+mod swaps;
 mod threads;
 mod values;
 

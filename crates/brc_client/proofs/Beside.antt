@@ -19,8 +19,8 @@ use Rattle.brc_words.specs.declared.entry.Entry.{Entry}
 use Rattle.brc_things.specs.declared.value.SwapIf.TheVariants.{Differs}
 use Rattle.brc_things.specs.Still.{SwapsIfStill}
 use Rattle.brc_client.specs.Swap_If.{SwapsIfAt, AsPut, came_as}
-use Rattle.brc_client.specs.declared.swap_if.SwapIfAt.{SwapIfAt}
-use Rattle.brc_client.specs.declared.swap_if.SwapIfAt.TheVariants as places
+use Rattle.brc_client.specs.declared.conditional.SwapIfAt.{SwapIfAt}
+use Rattle.brc_client.specs.declared.conditional.SwapIfAt.TheVariants as places
 use Rattle.brc_client.specs.declared.data.Datum.{Datum}
 use Rattle.brc_client.specs.Numbers.{NumbersSeen}
 use Rattle.brc_client.specs.Clients.{IsClient}

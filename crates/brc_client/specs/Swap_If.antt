@@ -14,9 +14,9 @@ use Rattle.brc_things.specs.Still.{ListSwapIf, DictSwapIf}
 use Rattle.brc_client.specs.declared.data.Datum.{Datum}
 use Rattle.brc_client.specs.declared.data.Datum.TheVariants.{Scalar, Object}
 use Rattle.brc_client.specs.declared.status.Status.{Status}
-use Rattle.brc_client.specs.declared.swap_if.SwapIfAt.{SwapIfAt}
-use Rattle.brc_client.specs.declared.swap_if.SwapIfAt.TheVariants as places
-use Rattle.brc_client.specs.declared.swap_if.Exchange.{Exchange}
+use Rattle.brc_client.specs.declared.conditional.SwapIfAt.{SwapIfAt}
+use Rattle.brc_client.specs.declared.conditional.SwapIfAt.TheVariants as places
+use Rattle.brc_client.specs.declared.conditional.SwapTold.{SwapTold}
 use Rattle.brc_client.specs.Calls.{OfNamed}
 use Rattle.brc_client.specs.Clients.{ClientSeen, NamesNone}
 use Rattle.brc_client.specs.Valued.{PutsDatum, PutsNoDatum, SpendsDatumName, NamesDatum}
@@ -61,7 +61,7 @@ ExpectsNone client (Object number note) status = NamesNone client number status
 -- The value went into the object of a number, and what was expected came out; or something else stands there, and the value
 -- came back. Both have a number, if they are objects. Or the call was refused, and every number names what it named.
 pub record SwapsDatumIf (call : SwapCall) (container : ℕ) (expected datum : Datum) (old new : ClientSeen)
-    (answer : Result Exchange Status) : Type 0 where
+    (answer : Result SwapTold Status) : Type 0 where
   pub swapped : IfOk answer (λ did. (entry : Entry) × IsExpectedAs old expected entry
       × PutsDatum (AsPut call entry did.swapped) old new container datum (Some did.came))
   pub refused : IfErr answer (λ status. (ExpectsNone old expected status × (new ≡ old))

@@ -12,6 +12,7 @@
 #![tactic(auto)]
 
 mod client;
+mod conditional;
 mod data;
 mod equal;
 mod keyed;
@@ -21,7 +22,6 @@ mod numbers;
 mod owner;
 mod put_value;
 mod status;
-mod swap_if;
 mod take_out;
 mod thread;
 mod told;
@@ -29,6 +29,7 @@ mod told;
 pub use brc_heap::{Key, KeyRef, Kind, Ledger, RootCounts};
 pub use brc_places::{Make, TakeBy};
 pub use client::Client;
+pub use conditional::{Conditional, SwapIfAt, SwapTold, SwappingAt, SwappingByInt, SwappingByText};
 pub use data::{Datum, PairDatum};
 pub use equal::alike_pieces_are_the_same_text;
 pub use owner::{Left, Owner};
@@ -37,7 +38,6 @@ pub use put_value::{
     Sending, Setting,
 };
 pub use status::{Status, text_of};
-pub use swap_if::{Conditional, Exchange, SwapIfAt, SwappingAt, SwappingByInt, SwappingByText};
 pub use take_out::{
     DeletingByInt, DeletingByText, FindingByInt, FindingByText, Getting, Outward, Popping,
     Receiving, Taking,

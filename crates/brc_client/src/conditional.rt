@@ -12,8 +12,8 @@ ghost use Rattle.brc_client.specs.Clients.{KeepsNames, SpendsName};
 ghost use Rattle.brc_client.specs.Swap_If.{SwapsIfAt, AsPut, IsExpectedAs, ExpectsNone};
 ghost use Rattle.brc_client.specs.Valued.{NamesDatum, PutsDatum, PutsNoDatum, SpendsDatumName};
 ghost use Rattle.brc_client.specs.declared.data.Datum.TheVariants as datums;
-ghost use Rattle.brc_client.specs.declared.swap_if.SwapIfAt.{SwapIfAt as TheSwapIfAt};
-ghost use Rattle.brc_client.specs.declared.swap_if.SwapIfAt.TheVariants as places;
+ghost use Rattle.brc_client.specs.declared.conditional.SwapIfAt.{SwapIfAt as TheSwapIfAt};
+ghost use Rattle.brc_client.specs.declared.conditional.SwapIfAt.TheVariants as places;
 
 use crate::client::{Client, find, lay};
 use crate::data::{Datum, number_value};
@@ -36,7 +36,7 @@ pub enum SwapIfAt<'k> {
 
 /// Whether it was swapped, and what came: what stood there, or the value that didn't go in.
 #[derive(Clone, Copy, Debug, PartialEq, Eq)]
-pub struct Exchange {
+pub struct SwapTold {
     pub swapped: bool,
     pub came: Datum,
 }
@@ -199,7 +199,7 @@ impl Client {
         by: B,
         expected: Datum,
         datum: Datum,
-    ) -> Result<Exchange, Status>
+    ) -> Result<SwapTold, Status>
         ensures swapped { IfOk result (λ did. (entry : EntrySeen) × IsExpectedAs self.old expected entry
             × PutsDatum (AsPut (SwapsIfAt (B.call by)) entry did.swapped) self.old self.new container datum (Some did.came)) }
         ensures refused { IfErr result (λ status. (ExpectsNone self.old expected status × (self.new ≡ self.old))
@@ -225,7 +225,7 @@ impl Client {
         by: B,
         entry: Entry,
         note: Note,
-    ) -> Result<Exchange, Status>
+    ) -> Result<SwapTold, Status>
         ensures took { IfOk result (λ did. PutsDatum (AsPut (SwapsIfAt (B.call by)) entry did.swapped) self.old self.new
             container (datums.Scalar note) (Some did.came)) }
         ensures refused { IfErr result
@@ -244,7 +244,7 @@ impl Client {
         match try_parted(by, self.mutator.frame(), none, object, entry, value) {
             Ok((swapped, came)) => {
                 let came = number_value(&mut self.handles, &self.numbers, came);
-                Ok(Exchange { swapped, came })
+                Ok(SwapTold { swapped, came })
             }
             Err(
                 HandedBack {
@@ -265,7 +265,7 @@ impl Client {
         entry: Entry,
         value: u64,
         note: Note,
-    ) -> Result<Exchange, Status>
+    ) -> Result<SwapTold, Status>
         ensures took { IfOk result (λ did. PutsDatum (AsPut (SwapsIfAt (B.call by)) entry did.swapped) self.old self.new
             container (datums.Object value note) (Some did.came)) }
         ensures refused { IfErr result
@@ -295,7 +295,7 @@ impl Client {
             Ok((swapped, came)) => {
                 self.numbers.spend(from);
                 let came = number_value(&mut self.handles, &self.numbers, came);
-                Ok(Exchange { swapped, came })
+                Ok(SwapTold { swapped, came })
             }
             Err(
                 HandedBack {

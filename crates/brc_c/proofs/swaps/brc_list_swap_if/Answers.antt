@@ -3,7 +3,7 @@ use Rattle.std.specs.Prelude.{Err}
 use Rattle.brc_client.specs.declared.status.Status.TheVariants as statuses
 use Rattle.brc_c.specs.Exports.{IsMade, HasLeft}
 use Rattle.brc_c.proofs.Made.{works_at, left_at, same_at}
-use Rattle.brc_c.proofs.swap_if.brc_list_swap_if.Goals as goal
+use Rattle.brc_c.proofs.swaps.brc_list_swap_if.Goals as goal
 
 pub returns-in-Some-clause-does : goal.returns-in-Some-clause-does
 returns-in-Some-clause-does c = record {

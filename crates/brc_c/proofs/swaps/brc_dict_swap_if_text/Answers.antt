@@ -7,7 +7,7 @@ use Rattle.brc_client.specs.declared.status.Status.TheVariants as statuses
 use Rattle.brc_c.specs.Calls.{OfTwoValues, SwapsIfByText}
 use Rattle.brc_c.specs.Exports.{IsMade, HasLeft}
 use Rattle.brc_c.proofs.Made.{works_at, left_at, same_at}
-use Rattle.brc_c.proofs.swap_if.brc_dict_swap_if_text.Goals as goal
+use Rattle.brc_c.proofs.swaps.brc_dict_swap_if_text.Goals as goal
 
 pub returns-in-Ok-clause-does : goal.returns-in-Ok-clause-does
 returns-in-Ok-clause-does c =

@@ -4,7 +4,7 @@ use Rattle.brc_client.specs.Numbers.{status_number}
 use Rattle.brc_client.specs.declared.status.Status.{Status}
 use Rattle.brc_client.specs.declared.status.Status.TheVariants as statuses
 use Rattle.brc_c.specs.Exports.{holds_in}
-use Rattle.brc_c.proofs.swap_if.swap_if_by.Goals as goal
+use Rattle.brc_c.proofs.swaps.swap_if_by.Goals as goal
 
 pub returns-in-Err-clause-does : goal.returns-in-Err-clause-does
 returns-in-Err-clause-does g c = record {

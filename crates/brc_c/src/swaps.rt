@@ -3,15 +3,15 @@
 ghost use Rattle.std.specs.Prelude.{◌≡◌, ◌≢◌};
 ghost use Rattle.brc_count.specs.block.declared.key_ref.KeyRef.TheVariants as lent;
 ghost use Rattle.brc_client.specs.Swap_If.{SwapsDatumIf, SwapsIfAt};
-ghost use Rattle.brc_client.specs.declared.swap_if.SwapIfAt.TheVariants as swapping;
-ghost use Rattle.brc_c.specs.Calls.{OfTwoValues, SwapsIfByText, WritesExchange};
+ghost use Rattle.brc_client.specs.declared.conditional.SwapIfAt.TheVariants as swapping;
+ghost use Rattle.brc_c.specs.Calls.{OfTwoValues, SwapsIfByText, WritesSwap};
 ghost use Rattle.brc_c.specs.Exports.{Carries, CarriesOut, OrNotText};
 
 use crate::outs::gone;
 use crate::slots::CThread;
 use crate::values::{CValue, datum_of};
 use brc_client::{
-    Client, Conditional, Exchange, SwappingAt, SwappingByInt, SwappingByText, text_of,
+    Client, Conditional, SwapTold, SwappingAt, SwappingByInt, SwappingByText, text_of,
 };
 
 /// The call on a client's values: `value` goes in, and is then what came.
@@ -27,7 +27,7 @@ fn swap_if_by<B: Conditional>(
 ) -> u32
     ensures kept { result ≢ 0 → (value.new ≡ value.old) × (swapped.new ≡ swapped.old) }
     ensures does { Carries (OfTwoValues bits noted value.old (SwapsDatumIf (SwapsIfAt (B.call by)) container)) client.old client.new
-        result (WritesExchange value.old value.new swapped.old swapped.new) }
+        result (WritesSwap value.old value.new swapped.old swapped.new) }
 {
     let expected = match datum_of(bits, noted) {
         Ok(expected) => expected,
@@ -39,7 +39,7 @@ fn swap_if_by<B: Conditional>(
     };
     match client.swap_if(container, by, expected, datum) {
         Ok(
-            Exchange {
+            SwapTold {
                 swapped: done,
                 came,
             },
@@ -64,7 +64,7 @@ pub extern "C" fn brc_list_swap_if(
 ) -> u32
     ensures kept { result ≢ 0 → (value.new ≡ value.old) × (swapped.new ≡ swapped.old) }
     ensures does { CarriesOut (OfTwoValues bits noted value.old (SwapsDatumIf (SwapsIfAt (swapping.Index index)) list))
-        thread.old.value thread.new.value result (WritesExchange value.old value.new swapped.old swapped.new) }
+        thread.old.value thread.new.value result (WritesSwap value.old value.new swapped.old swapped.new) }
 {
     match thread.as_mut().client() {
         Some(client) => swap_if_by(client, list, SwappingAt(index), bits, noted, value, swapped),
@@ -84,7 +84,7 @@ pub extern "C" fn brc_dict_swap_if_int(
 ) -> u32
     ensures kept { result ≢ 0 → (value.new ≡ value.old) × (swapped.new ≡ swapped.old) }
     ensures does { CarriesOut (OfTwoValues bits noted value.old (SwapsDatumIf (SwapsIfAt (swapping.Beside (lent.Int key))) dict))
-        thread.old.value thread.new.value result (WritesExchange value.old value.new swapped.old swapped.new) }
+        thread.old.value thread.new.value result (WritesSwap value.old value.new swapped.old swapped.new) }
 {
     match thread.as_mut().client() {
         Some(client) => swap_if_by(
@@ -112,7 +112,7 @@ pub extern "C" fn brc_dict_swap_if_text(
 ) -> u32
     ensures kept { result ≢ 0 → (value.new ≡ value.old) × (swapped.new ≡ swapped.old) }
     ensures does { CarriesOut (OrNotText key.now (OfTwoValues bits noted value.old (SwapsDatumIf (SwapsIfByText key.now) dict)))
-        thread.old.value thread.new.value result (WritesExchange value.old value.new swapped.old swapped.new) }
+        thread.old.value thread.new.value result (WritesSwap value.old value.new swapped.old swapped.new) }
 {
     match thread.as_mut().client() {
         Some(client) => match text_of(key) {

@@ -2,8 +2,8 @@ use Rattle.std.proofs.Common.{subst, ℤ, w64, rules}
 use Rattle.std.proofs.lemmas.Int.{to_z-of_z}
 use Rattle.brc_count.specs.block.declared.key_ref.KeyRef.TheVariants as lent
 use Rattle.brc_client.specs.Swap_If.{SwapsIfAt}
-use Rattle.brc_client.specs.declared.swap_if.SwapIfAt.TheVariants as places
-use Rattle.brc_client.proofs.swap_if.SwappingByIntConditional.try_swap_if.Goals as goal
+use Rattle.brc_client.specs.declared.conditional.SwapIfAt.TheVariants as places
+use Rattle.brc_client.proofs.conditional.SwappingByIntConditional.try_swap_if.Goals as goal
 
 pub returns-clause-did : goal.returns-clause-did
 returns-clause-did c =

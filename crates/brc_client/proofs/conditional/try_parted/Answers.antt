@@ -1,5 +1,5 @@
 use Rattle.brc_client.proofs.Beside.{back_owned, differs_back}
-use Rattle.brc_client.proofs.swap_if.try_parted.Goals as goal
+use Rattle.brc_client.proofs.conditional.try_parted.Goals as goal
 
 pub returns-in-Ok-Differs-clause-owns : goal.returns-in-Ok-Differs-clause-owns
 returns-in-Ok-Differs-clause-owns g c =
