@@ -42,7 +42,7 @@ static const uint8_t key[8] = "eight by";
 
 typedef struct {
     brc_thread *t;
-    brc_ref list, dict, box, ref;
+    brc_ref list, dict, box, ref, count;
 } Made;
 
 static int turn(const char *what, unsigned long turns, Made *made) {
@@ -60,6 +60,17 @@ static int turn(const char *what, unsigned long turns, Made *made) {
     TWO("send-recv", brc_send_value(t, box, scalar), brc_recv_value(t, box, &old))
     ONE("find-int", brc_dict_find_int_value(t, dict, 5, &old))
     ONE("find-text", brc_dict_find_text_value(t, dict, key, sizeof key, &old))
+    if (strcmp(what, "swap-if") == 0) {
+        /* the count is raised in each turn, by what a thread expects that looked before */
+        for (unsigned long i_ = 0; i_ < turns; i_++) {
+            brc_value more = brc_of_int(1, (int64_t)i_ + 1);
+            uint32_t swapped = 0;
+            brc_status s_ = brc_list_swap_if(t, made->count, 0, brc_of_int(1, (int64_t)i_), &more, &swapped);
+            if (i_ == 0) MUST(s_ == BRC_OK && swapped ? BRC_OK : BRC_WRONG_KIND);
+        }
+        return 1;
+    }
+    ONE("put-new", brc_dict_put_new_int_value(t, dict, 5, scalar, &old))
     ONE("put-int", brc_dict_put_int_value(t, dict, 5, scalar, &old))
     TWO("push-pop-reference", brc_list_push(t, list, ref), brc_list_pop(t, list, &ref))
     TWO("send-recv-reference", brc_send(t, box, ref), brc_recv(t, box, &ref))
@@ -78,6 +89,8 @@ int main(int argc, char **argv) {
     MUST(brc_new_dict(&thread, &made.dict));
     MUST(brc_new_mailbox(&thread, &made.box));
     MUST(brc_new_list(&thread, &made.ref));
+    MUST(brc_new_list(&thread, &made.count));
+    MUST(brc_list_push_value(&thread, made.count, brc_of_int(1, 0)));
     for (int i = 0; i < 16; i++) MUST(brc_list_push_value(&thread, made.list, scalar));
     for (int i = 0; i < 8; i++) MUST(brc_dict_put_int_value(&thread, made.dict, i, scalar, &old));
     MUST(brc_dict_put_text_value(&thread, made.dict, key, sizeof key, scalar, &old));

@@ -60,7 +60,7 @@ pub(crate) fn number_value(
     }
 }
 
-/// What came out for a value, if anything did.
+/// What came out for a value, if anything did. (Written over `number_value`, a put takes seven instructions more.)
 #[inline(always)]
 fn number_came(
     handles: &mut Handles<Global>,
@@ -75,7 +75,11 @@ fn number_came(
 {
     match came {
         None => None,
-        Some(value) => Some(number_value(handles, numbers, value)),
+        Some(Value::Scalar(note)) => Some(Datum::Scalar(note)),
+        Some(Value::Object(given, note)) => {
+            let number = insert(handles, numbers, given);
+            Some(Datum::Object(number, note))
+        }
     }
 }
 
