@@ -422,15 +422,18 @@ brc_status brc_dict_put_text_value(brc_thread *, brc_ref dict, const uint8_t *ke
                                    brc_value *old);
 
 /* The value goes beside the key, if that is new: `back` holds BRC_NO_VALUE then. Else the value comes
- * back as it is, a reference under a number of its own. So of two threads that put one, one puts it. */
+ * back as it is, a reference under another number, and no memory is wanted. So of two threads that put
+ * one, one puts it. */
 brc_status brc_dict_put_new_int_value(brc_thread *, brc_ref dict, int64_t key, brc_value value, brc_value *back);
 brc_status brc_dict_put_new_text_value(brc_thread *, brc_ref dict, const uint8_t *key, size_t len, brc_value value,
                                        brc_value *back);
 
-/* `value` goes in if what stands there is still `expected`: the same scalar, label and bits; or the same object, whatever
- * label it has there. Then `value` is what stood there, and `*swapped` is true. Else it comes back as it is, and `*swapped`
- * is false. A reference that comes has a number of its own. The look and the swap are one step: of two threads that expect
- * the same, one swaps. So a count that many threads raise loses none. */
+/* `value` goes in if what stands there is still `expected`: the same scalar, label and bits; or the same
+ * object, whatever label it has there. Then `value` is what stood there, and `swapped` is 1. Else it
+ * comes back as it is, a reference under another number, and `swapped` is 0. The look and the swap are
+ * one step, so of two threads that expect the same, one swaps: a count that many raise loses none.
+ * `expected` stays the caller's. NOT_VALUE comes of either; FOREIGN and STALE of `expected` come before
+ * those of the container. Without the entry it is NO_SUCH_PLACE, and without the key NO_SUCH_KEY. */
 brc_status brc_list_swap_if(brc_thread *, brc_ref list, uint32_t index, brc_value expected, brc_value *value,
                             uint32_t *swapped);
 brc_status brc_dict_swap_if_int(brc_thread *, brc_ref dict, int64_t key, brc_value expected, brc_value *value,
