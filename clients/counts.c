@@ -65,8 +65,8 @@ static int turn(const char *what, unsigned long turns, Made *made) {
         for (unsigned long i_ = 0; i_ < turns; i_++) {
             brc_value more = brc_of_int(1, (int64_t)i_ + 1);
             uint32_t swapped = 0;
-            brc_status s_ = brc_list_swap_if(t, made->count, 0, brc_of_int(1, (int64_t)i_), &more, &swapped);
-            if (i_ == 0) MUST(s_ == BRC_OK && swapped ? BRC_OK : BRC_WRONG_KIND);
+            brc_status came = brc_list_swap_if(t, made->count, 0, brc_of_int(1, (int64_t)i_), &more, &swapped);
+            if (i_ == 0 && (came != BRC_OK || !swapped)) exit(1);
         }
         return 1;
     }
