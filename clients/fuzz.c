@@ -40,16 +40,18 @@ enum { MOST_HELD = 200, MOST_OLD = 64, WORKERS = 4, STATUSES = 80, UNWRITTEN = 0
 /* ---- The calls, and the statuses that brc.h names for each */
 
 typedef enum {
-    RELEASE, PUSH, SEND, POLL, WORK, LEN_OF, INT_OF, KIND_OF, TRUTH_OF, SAME, IDENTITY, TEXT_OF, TEXT_IS, TEXT_EQUAL, SET, LEDGER,
+    RELEASE, PUSH, SEND, POLL, WORK, LEN_OF, INT_OF, KIND_OF, TRUTH_OF, SAME, IDENTITY, TEXT_OF, BYTES_OF, TEXT_IS, TEXT_EQUAL, SET, LEDGER,
     CLAIM, LEAVE, RELEASE_ALL, HAS_INT, HAS_TEXT, PLACE_INT, PLACE_TEXT, PUSH_VALUE, SEND_VALUE,
     /* from here on a call hands out a reference more */
-    RETAIN, NONE, TRUTH, GLOBALS, NEW_INT, NEW_TEXT, NEW_LIST, NEW_DICT, NEW_MAILBOX, POP, TAKE, GET, RECV, PUT_INT, FIND_INT,
-    DEL_INT, PUT_TEXT, FIND_TEXT, DEL_TEXT, PAIR,
+    RETAIN, NONE, TRUTH, GLOBALS, NEW_INT, NEW_TEXT, NEW_BYTES, NEW_LIST, NEW_DICT, NEW_DICT_FOR, NEW_LIST_FOR, NEW_MAILBOX, POP, TAKE, GET, RECV, PUT_INT, FIND_INT,
+    DEL_INT, PUT_TEXT, FIND_TEXT, DEL_TEXT, PUT_BYTES,
+    FIND_BYTES, DEL_BYTES, PAIR,
     /* and from here on a value, if its status is OK */
     POP_VALUE, TAKE_VALUE, GET_VALUE, RECV_VALUE, SET_VALUE, FIND_INT_VALUE, DEL_INT_VALUE, FIND_TEXT_VALUE, DEL_TEXT_VALUE,
+    FIND_BYTES_VALUE, DEL_BYTES_VALUE,
     PAIR_VALUE, SWAP_IF, SWAP_IF_INT, SWAP_IF_TEXT,
     /* or nothing */
-    PUT_VALUE, PUT_INT_VALUE, PUT_TEXT_VALUE, PUT_NEW_INT_VALUE, PUT_NEW_TEXT_VALUE, CALLS
+    PUT_VALUE, PUT_INT_VALUE, PUT_TEXT_VALUE, PUT_BYTES_VALUE, PUT_NEW_INT_VALUE, PUT_NEW_TEXT_VALUE, CALLS
 } call_t;
 
 /* A set of statuses. */
@@ -77,6 +79,7 @@ static const struct { int weight, numbers; uint64_t statuses; } ABOUT[CALLS] = {
     [SAME] = {1, 2, NUMBER},
     [IDENTITY] = {1, 1, NUMBER},
     [TEXT_OF] = {1, 1, OBJECT},
+    [BYTES_OF] = {1, 1, OBJECT},
     [TEXT_IS] = {1, 1, OBJECT},
     [TEXT_EQUAL] = {1, 2, OBJECT},
     [SET] = {2, 2, ENTERS | S(BRC_NO_SUCH_PLACE)},
@@ -96,8 +99,11 @@ static const struct { int weight, numbers; uint64_t statuses; } ABOUT[CALLS] = {
     [GLOBALS] = {2, 0, GIVEN | PLACE},
     [NEW_INT] = {4, 0, BORN},
     [NEW_TEXT] = {1, 0, BORN | S(BRC_NOT_TEXT)},
+    [NEW_BYTES] = {1, 0, BORN},
     [NEW_LIST] = {2, 0, BORN},
     [NEW_DICT] = {1, 0, BORN},
+    [NEW_DICT_FOR] = {1, 0, BORN},
+    [NEW_LIST_FOR] = {1, 0, BORN},
     [NEW_MAILBOX] = {1, 0, BORN},
     [POP] = {2, 1, OBJECT | PLACE | S(BRC_NO_SUCH_PLACE)},
     [TAKE] = {2, 1, OBJECT | PLACE | S(BRC_NO_SUCH_PLACE)},
@@ -109,6 +115,9 @@ static const struct { int weight, numbers; uint64_t statuses; } ABOUT[CALLS] = {
     [PUT_TEXT] = {2, 2, ENTERS | S(BRC_NOT_TEXT) | S(BRC_FULL) | S(BRC_OUT_OF_MEMORY)},
     [FIND_TEXT] = {2, 1, OBJECT | PLACE | S(BRC_NOT_TEXT) | S(BRC_NO_SUCH_KEY)},
     [DEL_TEXT] = {2, 1, OBJECT | PLACE | S(BRC_NOT_TEXT) | S(BRC_NO_SUCH_KEY)},
+    [PUT_BYTES] = {1, 2, ENTERS | S(BRC_FULL) | S(BRC_OUT_OF_MEMORY)},
+    [FIND_BYTES] = {1, 1, OBJECT | PLACE | S(BRC_NO_SUCH_KEY)},
+    [DEL_BYTES] = {1, 1, OBJECT | PLACE | S(BRC_NO_SUCH_KEY)},
     [PAIR] = {2, 1, OBJECT | PLACE | S(BRC_NO_SUCH_PLACE)},
     [POP_VALUE] = {2, 1, OBJECT | PLACE | S(BRC_NO_SUCH_PLACE)},
     [TAKE_VALUE] = {2, 1, OBJECT | PLACE | S(BRC_NO_SUCH_PLACE)},
@@ -119,6 +128,8 @@ static const struct { int weight, numbers; uint64_t statuses; } ABOUT[CALLS] = {
     [DEL_INT_VALUE] = {2, 1, OBJECT | PLACE | S(BRC_NO_SUCH_KEY)},
     [FIND_TEXT_VALUE] = {2, 1, OBJECT | PLACE | S(BRC_NOT_TEXT) | S(BRC_NO_SUCH_KEY)},
     [DEL_TEXT_VALUE] = {2, 1, OBJECT | PLACE | S(BRC_NOT_TEXT) | S(BRC_NO_SUCH_KEY)},
+    [FIND_BYTES_VALUE] = {1, 1, OBJECT | PLACE | S(BRC_NO_SUCH_KEY)},
+    [DEL_BYTES_VALUE] = {1, 1, OBJECT | PLACE | S(BRC_NO_SUCH_KEY)},
     [PAIR_VALUE] = {2, 1, OBJECT | PLACE | S(BRC_NO_SUCH_PLACE)},
     [SWAP_IF] = {3, 2, VALUE | S(BRC_NO_SUCH_PLACE)},
     [SWAP_IF_INT] = {3, 2, VALUE | S(BRC_NO_SUCH_KEY)},
@@ -126,6 +137,7 @@ static const struct { int weight, numbers; uint64_t statuses; } ABOUT[CALLS] = {
     [PUT_VALUE] = {2, 2, VALUE | S(BRC_NO_SUCH_PLACE) | S(BRC_FULL)},
     [PUT_INT_VALUE] = {4, 2, VALUE | S(BRC_FULL)},
     [PUT_TEXT_VALUE] = {4, 2, VALUE | S(BRC_NOT_TEXT) | S(BRC_FULL)},
+    [PUT_BYTES_VALUE] = {2, 2, VALUE | S(BRC_FULL)},
     [PUT_NEW_INT_VALUE] = {3, 2, VALUE | S(BRC_FULL)},
     [PUT_NEW_TEXT_VALUE] = {3, 2, VALUE | S(BRC_NOT_TEXT) | S(BRC_FULL)},
 };
@@ -267,7 +279,8 @@ static brc_kind kind_for(call_t call) {
     case PUT_INT: case FIND_INT: case DEL_INT: case PUT_TEXT: case FIND_TEXT: case DEL_TEXT: case PAIR:
     case HAS_INT: case HAS_TEXT: case PLACE_INT: case PLACE_TEXT:
     case PUT_INT_VALUE: case FIND_INT_VALUE: case DEL_INT_VALUE: case PUT_TEXT_VALUE: case FIND_TEXT_VALUE:
-    case DEL_TEXT_VALUE: case PAIR_VALUE: case PUT_NEW_INT_VALUE: case PUT_NEW_TEXT_VALUE:
+    case DEL_TEXT_VALUE: case PUT_BYTES: case FIND_BYTES: case DEL_BYTES: case PUT_BYTES_VALUE: case FIND_BYTES_VALUE:
+    case DEL_BYTES_VALUE: case PAIR_VALUE: case PUT_NEW_INT_VALUE: case PUT_NEW_TEXT_VALUE:
     case SWAP_IF_INT: case SWAP_IF_TEXT: return BRC_DICT;
     case TEXT_EQUAL: return BRC_TEXT;
     default: return 0;
@@ -331,6 +344,7 @@ static brc_status make_call(worker_t *w, call_t call, const inputs_t *in, outs_t
     case SAME: return brc_same(t, one, other, &out->word);
     case IDENTITY: return brc_identity(t, one, &out->identity);
     case TEXT_OF: return brc_text_of(t, one, out->text, in->room, &out->len);
+    case BYTES_OF: return brc_bytes_of(t, one, out->text, in->room, &out->len);
     case TEXT_IS: return brc_text_is(t, one, in->bytes, in->len, &out->word);
     case TEXT_EQUAL: return brc_text_equal(t, one, other, &out->word);
     case SET: return brc_list_set(t, one, in->index, other, &out->ref);
@@ -343,8 +357,11 @@ static brc_status make_call(worker_t *w, call_t call, const inputs_t *in, outs_t
     case GLOBALS: return brc_globals(t, &out->ref);
     case NEW_INT: return brc_new_int(t, (int64_t)in->word - 100, &out->ref);
     case NEW_TEXT: return brc_new_text(t, in->bytes, in->len, &out->ref);
+    case NEW_BYTES: return brc_new_bytes(t, in->bytes, in->len, &out->ref);
     case NEW_LIST: return brc_new_list(t, &out->ref);
     case NEW_DICT: return brc_new_dict(t, &out->ref);
+    case NEW_LIST_FOR: return brc_new_list_for(t, in->word % 100, &out->ref);
+    case NEW_DICT_FOR: return brc_new_dict_for(t, in->word % 100, &out->ref);
     case NEW_MAILBOX: return brc_new_mailbox(t, &out->ref);
     case POP: return brc_list_pop(t, one, &out->ref);
     case TAKE: return brc_list_take(t, one, in->index, &out->ref);
@@ -356,6 +373,9 @@ static brc_status make_call(worker_t *w, call_t call, const inputs_t *in, outs_t
     case PUT_TEXT: return brc_dict_put_text(t, one, in->bytes, in->len, other, &out->ref);
     case FIND_TEXT: return brc_dict_find_text(t, one, in->bytes, in->len, &out->ref);
     case DEL_TEXT: return brc_dict_del_text(t, one, in->bytes, in->len, &out->ref);
+    case PUT_BYTES: return brc_dict_put_bytes(t, one, in->bytes, in->len, other, &out->ref);
+    case FIND_BYTES: return brc_dict_find_bytes(t, one, in->bytes, in->len, &out->ref);
+    case DEL_BYTES: return brc_dict_del_bytes(t, one, in->bytes, in->len, &out->ref);
     case PAIR: return brc_dict_pair(t, one, in->index, &out->key, out->text, in->room, &out->ref);
     case HAS_INT: return brc_dict_has_int(t, one, in->key, &out->word);
     case HAS_TEXT: return brc_dict_has_text(t, one, in->bytes, in->len, &out->word);
@@ -373,6 +393,9 @@ static brc_status make_call(worker_t *w, call_t call, const inputs_t *in, outs_t
     case DEL_INT_VALUE: return brc_dict_del_int_value(t, one, in->key, &out->came);
     case FIND_TEXT_VALUE: return brc_dict_find_text_value(t, one, in->bytes, in->len, &out->came);
     case DEL_TEXT_VALUE: return brc_dict_del_text_value(t, one, in->bytes, in->len, &out->came);
+    case FIND_BYTES_VALUE: return brc_dict_find_bytes_value(t, one, in->bytes, in->len, &out->came);
+    case DEL_BYTES_VALUE: return brc_dict_del_bytes_value(t, one, in->bytes, in->len, &out->came);
+    case PUT_BYTES_VALUE: return brc_dict_put_bytes_value(t, one, in->bytes, in->len, in->put, &out->came);
     case PAIR_VALUE:
         return brc_dict_pair_value(t, one, in->index, &out->key, out->text, in->room, &out->came, &out->word);
     case PUT_VALUE: return brc_list_put_value(t, one, in->index, in->put, &out->came);
@@ -398,7 +421,7 @@ static int puts_a_value(call_t call) {
 }
 
 static int puts_a_reference(call_t call, const inputs_t *in) {
-    return call == PUSH || call == SEND || call == SET || call == PUT_INT || call == PUT_TEXT ||
+    return call == PUSH || call == SEND || call == SET || call == PUT_INT || call == PUT_TEXT || call == PUT_BYTES ||
            (puts_a_value(call) && in->put.holds == BRC_REFERENCE);
 }
 
@@ -443,7 +466,7 @@ static void check_value(worker_t *w, call_t call, brc_value came) {
     }
 }
 
-/* The two are one object, or texts. A text never changes, so both are read once more. */
+/* The two are one object, or texts or other bytes. These never change, so both are read once more. */
 static void check_texts(worker_t *w, const inputs_t *in, uint32_t is_equal) {
     uint32_t is_one;
     uint8_t texts[2][16];
@@ -454,9 +477,9 @@ static void check_texts(worker_t *w, const inputs_t *in, uint32_t is_equal) {
         CHECK(is_equal == 1);
         return;
     }
-    BRC_WAIT(&w->thread, s, brc_text_of(&w->thread, in->one, texts[0], sizeof texts[0], &lens[0]));
+    BRC_WAIT(&w->thread, s, brc_bytes_of(&w->thread, in->one, texts[0], sizeof texts[0], &lens[0]));
     MUST(s);
-    BRC_WAIT(&w->thread, s, brc_text_of(&w->thread, in->other, texts[1], sizeof texts[1], &lens[1]));
+    BRC_WAIT(&w->thread, s, brc_bytes_of(&w->thread, in->other, texts[1], sizeof texts[1], &lens[1]));
     MUST(s);
     CHECK(lens[0] <= sizeof texts[0]);
     CHECK(is_equal == (lens[0] == lens[1] && memcmp(texts[0], texts[1], lens[0]) == 0));
@@ -491,7 +514,7 @@ static int turn(worker_t *w) {
         if (call >= POP_VALUE) {
             check_value(w, call, out.came);
         } else if (call >= RETAIN || call == SET) {
-            if ((call == PUT_INT || call == PUT_TEXT) && out.ref == BRC_NONE) {
+            if ((call == PUT_INT || call == PUT_TEXT || call == PUT_BYTES) && out.ref == BRC_NONE) {
                 /* there was no value beside the key */
             } else {
                 gains(w, out.ref);
@@ -499,7 +522,7 @@ static int turn(worker_t *w) {
         }
         if (call == PAIR_VALUE) CHECK(in.index < out.word);
         if (call == TEXT_EQUAL) check_texts(w, &in, out.word);
-        if (call == TEXT_OF || call == PAIR || call == PAIR_VALUE)
+        if (call == TEXT_OF || call == BYTES_OF || call == PAIR || call == PAIR_VALUE)
             for (size_t i = in.room; i < sizeof out.text; i++) CHECK(out.text[i] == UNWRITTEN);
     }
     CHECK(brc_count(&w->thread) == (size_t)w->count);
@@ -549,7 +572,7 @@ static void clear_globals(brc_thread *t) {
     while ((s = brc_dict_pair_value(t, globals, 0, &key, name, sizeof name, &value, &pairs)) == BRC_OK) {
         MUST(brc_len_of(t, globals, &len));
         CHECK(len == pairs);
-        if (key.is_text) MUST(brc_dict_del_text(t, globals, name, key.len, &gone));
+        if (key.is_text) MUST(brc_dict_del_bytes(t, globals, name, key.len, &gone));
         else MUST(brc_dict_del_int(t, globals, key.number, &gone));
         MUST(brc_release(t, gone));
         MUST(brc_value_clear(t, &value));

@@ -277,6 +277,55 @@ static void live_by_values(brc_thread *t, int half) {
     for (int call = half; call < COMINGS; call += 2) come_by_values(t, one, call);
 }
 
+/* A dictionary with memory for its pairs asks for none while they come, and so it is of a list. */
+static void fill_room(brc_thread *t) {
+    brc_ref dict, list;
+    brc_value scalar = brc_of_int(1, 7), old;
+    TRY(brc_new_dict_for(t, ROUNDS, &dict));
+    TRY(brc_new_list_for(t, ROUNDS, &list));
+    TRY(brc_dict_put_int_value(t, dict, 0, scalar, &old));
+    is_empty = 1;
+    for (int i = 1; i < ROUNDS; i++) {
+        brc_status s = brc_dict_put_int_value(t, dict, i, scalar, &old);
+        if (s == BRC_OK) s = brc_list_push_value(t, list, scalar);
+        if (s != BRC_OK) fail(__LINE__, s);
+    }
+    is_empty = 0;
+    TRY(brc_release(t, list));
+    TRY(brc_release(t, dict));
+}
+
+/* Bytes that aren't UTF-8, as an object and as a key; texts that are compared; and a value that goes in only if it may. */
+static void use_bytes(brc_thread *t) {
+    static const uint8_t odd[3] = {0xff, 0, 'x'};
+    brc_ref bytes, other, dict, none, old;
+    brc_value scalar = brc_of_int(1, 7), came;
+    uint8_t to[8];
+    uint32_t told_so;
+    size_t len;
+    TRY(brc_new_bytes(t, odd, sizeof odd, &bytes));
+    TRY(brc_new_bytes(t, odd, sizeof odd, &other));
+    TRY(brc_bytes_of(t, bytes, to, sizeof to, &len));
+    if (len != sizeof odd || memcmp(to, odd, len) != 0) fail(__LINE__, BRC_OK);
+    TRY(brc_text_equal(t, bytes, other, &told_so));
+    if (told_so != 1) fail(__LINE__, BRC_OK);
+    TRY(brc_new_dict(t, &dict));
+    TRY(brc_none(t, &none));
+    TRY(brc_dict_put_bytes(t, dict, odd, sizeof odd, none, &old));
+    TRY(brc_dict_find_bytes(t, dict, odd, sizeof odd, &none));
+    TRY(brc_release(t, none));
+    TRY(brc_dict_put_bytes_value(t, dict, odd, 2, scalar, &came));
+    TRY(brc_dict_put_new_text_value(t, dict, odd + 2, 1, scalar, &came));
+    if (came.holds != BRC_NO_VALUE) fail(__LINE__, BRC_OK);
+    TRY(brc_dict_swap_if_text(t, dict, odd + 2, 1, scalar, &scalar, &told_so));
+    if (told_so != 1) fail(__LINE__, BRC_OK);
+    TRY(brc_dict_del_bytes(t, dict, odd, sizeof odd, &none));
+    TRY(brc_release(t, none));
+    TRY(brc_release(t, bytes));
+    TRY(brc_release(t, other));
+    TRY(brc_release(t, dict));
+}
+
 static void life(void) {
     brc_heap heap;
     brc_thread t, forked;
@@ -298,6 +347,8 @@ static void life(void) {
     for (int i = 0; i < ROUNDS; i += 2) take(&t, list, dict, mailbox, i);
     live_by_values(&t, 0);
     live_by_values(&forked, 1);
+    use_bytes(&t);
+    fill_room(&forked);
     brc_poll(&t);
     brc_work(&t, 10);
     TRY(brc_release_all(&t));

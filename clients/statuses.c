@@ -25,7 +25,7 @@
 #include <time.h>
 #include "brc.h"
 
-enum { REFERENCES = 65536, ENTRIES = 1048576, MOST_THREADS = 64, CALLS = 73 };
+enum { REFERENCES = 65536, ENTRIES = 1048576, MOST_THREADS = 64, CALLS = 83 };
 enum { LABEL = 77, UNWRITTEN = 0xa5, DEAD_ENTRIES = 100000, TRIES = 10000000, SECONDS = 60 };
 
 /* ---- What is said */
@@ -198,13 +198,13 @@ static void hold(hold_t *h, brc_thread *thread, brc_kind kind, brc_ref object) {
 /* ---- Calls by numbers */
 
 typedef enum {
-    RETAIN, RELEASE, SAME, IDENTITY, NOTHING, TRUTH, GLOBALS, NEW_INT, NEW_SMALL, NEW_TEXT, NEW_LIST, NEW_DICT, NEW_MAILBOX,
-    KIND_OF, LEN_OF, INT_OF, TRUTH_OF, TEXT_OF, TEXT_IS, TEXT_EQUAL, PUSH, POP, TAKE, GET, SET, SEND, RECV, PUT_INT, PUT_TEXT,
-    FIND_INT, FIND_TEXT, DEL_INT, DEL_TEXT, PAIR, HAS_INT, HAS_TEXT, PLACE_INT, PLACE_TEXT, LEDGER, RELEASE_ALL, CLAIM, POLL,
+    RETAIN, RELEASE, SAME, IDENTITY, NOTHING, TRUTH, GLOBALS, NEW_INT, NEW_SMALL, NEW_TEXT, NEW_BYTES, NEW_LIST, NEW_DICT, NEW_DICT_FOR, NEW_LIST_FOR, NEW_MAILBOX,
+    KIND_OF, LEN_OF, INT_OF, TRUTH_OF, TEXT_OF, BYTES_OF, TEXT_IS, TEXT_EQUAL, PUSH, POP, TAKE, GET, SET, SEND, RECV, PUT_INT, PUT_TEXT,
+    FIND_INT, FIND_TEXT, DEL_INT, DEL_TEXT, PUT_BYTES, FIND_BYTES, DEL_BYTES, PAIR, HAS_INT, HAS_TEXT, PLACE_INT, PLACE_TEXT, LEDGER, RELEASE_ALL, CLAIM, POLL,
     WORK, COUNT, PUSH_VALUE, POP_VALUE, TAKE_VALUE, GET_VALUE, SET_VALUE,
-    PUT_VALUE, SEND_VALUE, RECV_VALUE, PUT_INT_VALUE, PUT_TEXT_VALUE, PUT_NEW_INT_VALUE, PUT_NEW_TEXT_VALUE,
+    PUT_VALUE, SEND_VALUE, RECV_VALUE, PUT_INT_VALUE, PUT_TEXT_VALUE, PUT_BYTES_VALUE, PUT_NEW_INT_VALUE, PUT_NEW_TEXT_VALUE,
     SWAP_IF, SWAP_IF_INT, SWAP_IF_TEXT, FIND_INT_VALUE, FIND_TEXT_VALUE, DEL_INT_VALUE,
-    DEL_TEXT_VALUE, PAIR_VALUE
+    DEL_TEXT_VALUE, FIND_BYTES_VALUE, DEL_BYTES_VALUE, PAIR_VALUE
 } call_t;
 
 /* What a call is given, and where it writes. */
@@ -257,14 +257,18 @@ static brc_status make_call(call_t call, brc_thread *t, const inputs_t *in, outs
     case NEW_INT: return brc_new_int(t, 1000, &out->ref);
     case NEW_SMALL: return brc_new_int(t, 256, &out->ref);
     case NEW_TEXT: return brc_new_text(t, in->bytes, in->len, &out->ref);
+    case NEW_BYTES: return brc_new_bytes(t, in->bytes, in->len, &out->ref);
     case NEW_LIST: return brc_new_list(t, &out->ref);
     case NEW_DICT: return brc_new_dict(t, &out->ref);
+    case NEW_LIST_FOR: return brc_new_list_for(t, 100, &out->ref);
+    case NEW_DICT_FOR: return brc_new_dict_for(t, 100, &out->ref);
     case NEW_MAILBOX: return brc_new_mailbox(t, &out->ref);
     case KIND_OF: return brc_kind_of(t, one, &out->word);
     case LEN_OF: return brc_len_of(t, one, &out->len);
     case INT_OF: return brc_int_of(t, one, &out->value);
     case TRUTH_OF: return brc_truth_of(t, one, &out->word);
     case TEXT_OF: return brc_text_of(t, one, out->text, sizeof out->text, &out->len);
+    case BYTES_OF: return brc_bytes_of(t, one, out->text, sizeof out->text, &out->len);
     case TEXT_IS: return brc_text_is(t, one, in->bytes, in->len, &out->word);
     case TEXT_EQUAL: return brc_text_equal(t, one, other, &out->word);
     case PUSH: return brc_list_push(t, one, other);
@@ -280,6 +284,9 @@ static brc_status make_call(call_t call, brc_thread *t, const inputs_t *in, outs
     case FIND_TEXT: return brc_dict_find_text(t, one, in->bytes, in->len, &out->ref);
     case DEL_INT: return brc_dict_del_int(t, one, in->key, &out->ref);
     case DEL_TEXT: return brc_dict_del_text(t, one, in->bytes, in->len, &out->ref);
+    case PUT_BYTES: return brc_dict_put_bytes(t, one, in->bytes, in->len, other, &out->ref);
+    case FIND_BYTES: return brc_dict_find_bytes(t, one, in->bytes, in->len, &out->ref);
+    case DEL_BYTES: return brc_dict_del_bytes(t, one, in->bytes, in->len, &out->ref);
     case PAIR: return brc_dict_pair(t, one, in->index, &out->key, out->text, sizeof out->text, &out->ref);
     case HAS_INT: return brc_dict_has_int(t, one, in->key, &out->word);
     case HAS_TEXT: return brc_dict_has_text(t, one, in->bytes, in->len, &out->word);
@@ -301,6 +308,9 @@ static brc_status make_call(call_t call, brc_thread *t, const inputs_t *in, outs
     case RECV_VALUE: return brc_recv_value(t, one, &out->datum);
     case PUT_INT_VALUE: return brc_dict_put_int_value(t, one, in->key, value, &out->datum);
     case PUT_TEXT_VALUE: return brc_dict_put_text_value(t, one, in->bytes, in->len, value, &out->datum);
+    case PUT_BYTES_VALUE: return brc_dict_put_bytes_value(t, one, in->bytes, in->len, value, &out->datum);
+    case FIND_BYTES_VALUE: return brc_dict_find_bytes_value(t, one, in->bytes, in->len, &out->datum);
+    case DEL_BYTES_VALUE: return brc_dict_del_bytes_value(t, one, in->bytes, in->len, &out->datum);
     case PUT_NEW_INT_VALUE: return brc_dict_put_new_int_value(t, one, in->key, value, &out->datum);
     case PUT_NEW_TEXT_VALUE: return brc_dict_put_new_text_value(t, one, in->bytes, in->len, value, &out->datum);
     case SWAP_IF: case SWAP_IF_INT: case SWAP_IF_TEXT: return swap_if(call, t, in, value, out);
@@ -483,7 +493,7 @@ static const row_t CELL[] = {
     {"a place, and no memory for the object", READY, SOME, VALUE, FIRST, NONE, BRC_OUT_OF_MEMORY, 0},
     {"the heap is full", READY, SOME, VALUE, FIRST, ALL, BRC_HEAP_FULL, 0},
     {0}};
-static const row_t NEW_BYTES[] = {
+static const row_t TEXT_BYTES[] = {
     {"the thread has left, and the bytes aren't UTF-8", LEFT, ZERO, ZERO, BAD, NONE, BRC_GONE, 0},
     {"the bytes aren't UTF-8", FULL, ZERO, ZERO, BAD, NONE, BRC_NOT_TEXT, 0},
     {"no memory for the copy", FULL, SOME, VALUE, FIRST, NONE, BRC_OUT_OF_MEMORY, 0},
@@ -491,6 +501,24 @@ static const row_t NEW_BYTES[] = {
     {"a copy, and no memory for a place", TIGHT, SOME, VALUE, FIRST, 1, BRC_OUT_OF_MEMORY, 0},
     {"a copy and a place, and no memory for the object", READY, SOME, VALUE, FIRST, 1, BRC_OUT_OF_MEMORY, 0},
     {"the heap is full", READY, SOME, VALUE, FIRST, ALL, BRC_HEAP_FULL, 0},
+    {0}};
+
+/* Of bytes that needn't be UTF-8. */
+static const row_t ANY_BYTES[] = {
+    {"the thread has left, and the bytes aren't UTF-8", LEFT, ZERO, ZERO, BAD, NONE, BRC_GONE, 0},
+    {"bytes that aren't UTF-8, and no memory for the copy", FULL, SOME, VALUE, BAD, NONE, BRC_OUT_OF_MEMORY, 0},
+    {"a copy of bytes that aren't UTF-8, and the thread has 65,536 references", FULL, SOME, VALUE, BAD, 1, BRC_FRAME_FULL, 0},
+    {"a copy, and no memory for a place", TIGHT, SOME, VALUE, FIRST, 1, BRC_OUT_OF_MEMORY, 0},
+    {"a copy and a place, and no memory for the object", READY, SOME, VALUE, FIRST, 1, BRC_OUT_OF_MEMORY, 0},
+    {"the heap is full, and the bytes aren't UTF-8", READY, SOME, VALUE, BAD, ALL, BRC_HEAP_FULL, 0},
+    {0}};
+static const row_t BAD_KEY[] = {
+    {"the key isn't UTF-8, and the number is 0", FULL, ZERO, TWICE, BAD, NONE, BRC_FOREIGN, 0},
+    {"the key isn't UTF-8, and the reference was released", FULL, SPENT, SPENT, BAD, NONE, BRC_STALE, 0},
+    {"another thread has the dictionary, and the key isn't UTF-8", FULL, WRONG, VALUE, BAD, NONE, BRC_BUSY, BRC_WRONG_KIND},
+    {0}};
+static const row_t BAD_ABSENT[] = {
+    {"no such key, which isn't UTF-8", FULL, SOME, VALUE, BAD, NONE, BRC_NO_SUCH_KEY, 0},
     {0}};
 
 /* Of a value that holds none of the three. Its numbers would be refused, too. */
@@ -621,15 +649,19 @@ static const about_t ABOUT[] = {
     {GLOBALS, "brc_globals", ANY, {THREAD_LEFT, PLACE}},
     {NEW_SMALL, "brc_new_int", ANY, {THREAD_LEFT, PLACE}},
     {NEW_INT, "brc_new_int", ANY, {THREAD_LEFT, PLACE, CELL}},
-    {NEW_TEXT, "brc_new_text", ANY, {NEW_BYTES}},
+    {NEW_TEXT, "brc_new_text", ANY, {TEXT_BYTES}},
+    {NEW_BYTES, "brc_new_bytes", ANY, {ANY_BYTES}},
     {NEW_LIST, "brc_new_list", ANY, {THREAD_LEFT, PLACE, CELL}},
     {NEW_DICT, "brc_new_dict", ANY, {THREAD_LEFT, PLACE, CELL}},
+    {NEW_LIST_FOR, "brc_new_list_for", ANY, {THREAD_LEFT, PLACE, CELL}},
+    {NEW_DICT_FOR, "brc_new_dict_for", ANY, {THREAD_LEFT, PLACE, CELL}},
     {NEW_MAILBOX, "brc_new_mailbox", ANY, {THREAD_LEFT, PLACE, CELL}},
     {KIND_OF, "brc_kind_of", ANY, {NUMBER, LOCKED}},
     {LEN_OF, "brc_len_of", LENGTH_OF, {NUMBER, LENGTHS}},
     {INT_OF, "brc_int_of", ANY, {NUMBER, OTHER_KIND}},
     {TRUTH_OF, "brc_truth_of", ANY, {NUMBER, NOT_TRUTH}},
     {TEXT_OF, "brc_text_of", TEXTS, {NUMBER, OTHER_KIND, READS}},
+    {BYTES_OF, "brc_bytes_of", TEXTS, {NUMBER, OTHER_KIND, READS}},
     {TEXT_IS, "brc_text_is", TEXTS, {NUMBER, OTHER_KIND, READS}},
     {TEXT_EQUAL, "brc_text_equal", TEXTS, {NUMBERS_OF_TWO, OTHER_KIND, TWO_TEXTS}},
     {PUSH, "brc_list_push", LISTS, {NUMBERS_OF_TWO, ONE_TWICE, OTHER_KIND, OTHER_CONTAINER, PUTS}},
@@ -645,6 +677,9 @@ static const about_t ABOUT[] = {
     {FIND_TEXT, "brc_dict_find_text", DICTS, {KEY, NUMBER, OTHER_KIND, OTHER_CONTAINER, FINDS}},
     {DEL_INT, "brc_dict_del_int", DICTS, {NUMBER, OTHER_KIND, OTHER_CONTAINER, FINDS}},
     {DEL_TEXT, "brc_dict_del_text", DICTS, {KEY, NUMBER, OTHER_KIND, OTHER_CONTAINER, FINDS}},
+    {PUT_BYTES, "brc_dict_put_bytes", DICTS, {BAD_KEY, NUMBERS_OF_TWO, ONE_TWICE, OTHER_KIND, OTHER_CONTAINER, PUTS, COPIES}},
+    {FIND_BYTES, "brc_dict_find_bytes", DICTS, {BAD_KEY, NUMBER, OTHER_KIND, OTHER_CONTAINER, FINDS, BAD_ABSENT}},
+    {DEL_BYTES, "brc_dict_del_bytes", DICTS, {BAD_KEY, NUMBER, OTHER_KIND, OTHER_CONTAINER, FINDS, BAD_ABSENT}},
     {PAIR, "brc_dict_pair", DICTS, {NUMBER, OTHER_KIND, OTHER_CONTAINER, INDEXES, GIVES, KEY_COPY}},
     {HAS_INT, "brc_dict_has_int", DICTS, {NUMBER, OTHER_KIND, OTHER_CONTAINER, HAS}},
     {HAS_TEXT, "brc_dict_has_text", DICTS, {KEY, NUMBER, OTHER_KIND, OTHER_CONTAINER, HAS}},
@@ -666,6 +701,10 @@ static const about_t ABOUT[] = {
     {DEL_INT_VALUE, "brc_dict_del_int_value", SCALAR_DICTS, {GIVES_SCALAR}},
     {DEL_TEXT_VALUE, "brc_dict_del_text_value", DICTS, {KEY, NUMBER, OTHER_KIND, OTHER_CONTAINER, FINDS}},
     {DEL_TEXT_VALUE, "brc_dict_del_text_value", SCALAR_DICTS, {GIVES_SCALAR}},
+    {FIND_BYTES_VALUE, "brc_dict_find_bytes_value", DICTS, {BAD_KEY, NUMBER, OTHER_KIND, OTHER_CONTAINER, FINDS, BAD_ABSENT}},
+    {FIND_BYTES_VALUE, "brc_dict_find_bytes_value", SCALAR_DICTS, {LOOKS}},
+    {DEL_BYTES_VALUE, "brc_dict_del_bytes_value", DICTS, {BAD_KEY, NUMBER, OTHER_KIND, OTHER_CONTAINER, FINDS, BAD_ABSENT}},
+    {DEL_BYTES_VALUE, "brc_dict_del_bytes_value", SCALAR_DICTS, {GIVES_SCALAR}},
     {PAIR_VALUE, "brc_dict_pair_value", DICTS, {NUMBER, OTHER_KIND, OTHER_CONTAINER, INDEXES, GIVES, KEY_COPY, COPIED_KEY}},
     {PAIR_VALUE, "brc_dict_pair_value", SCALAR_DICTS, {LOOKS, LOOKS_AT_KEY}},
 };
@@ -700,6 +739,7 @@ static const put_t VALUE_PUTS[] = {
     {SEND_VALUE, "brc_send_value", MAILBOXES, SCALAR_MAILBOXES, NULL, {PUTS}, KEEPS_OLD},
     {PUT_INT_VALUE, "brc_dict_put_int_value", DICTS, SCALAR_DICTS, NULL, {PUTS}, GIVES_OLD},
     {PUT_TEXT_VALUE, "brc_dict_put_text_value", DICTS, SCALAR_DICTS, KEY, {PUTS, COPIES}, GIVES_OLD},
+    {PUT_BYTES_VALUE, "brc_dict_put_bytes_value", DICTS, SCALAR_DICTS, NULL, {PUTS, COPIES}, GIVES_OLD},
     {PUT_NEW_INT_VALUE, "brc_dict_put_new_int_value", DICTS, SCALAR_DICTS, NULL, {PUTS}, GIVES_BACK},
     {PUT_NEW_TEXT_VALUE, "brc_dict_put_new_text_value", DICTS, SCALAR_DICTS, KEY, {PUTS, COPIES}, GIVES_BACK},
     {SWAP_IF, "brc_list_swap_if", LISTS, SCALAR_LISTS, NULL, {SETS}, GIVES_BACK},

@@ -251,6 +251,7 @@ static brc_status put_by(worker *w, brc_ref dict, int key, brc_value v, brc_valu
     char text[32];
     if (key % 2) return brc_dict_put_int_value(&w->t, dict, key - 12, v, old);
     snprintf(text, sizeof text, "key %d", key);
+    if (draw(w, 2)) return brc_dict_put_bytes_value(&w->t, dict, (const uint8_t *)text, strlen(text), v, old);
     return brc_dict_put_text_value(&w->t, dict, (const uint8_t *)text, strlen(text), v, old);
 }
 
@@ -272,6 +273,7 @@ static brc_status find_by(worker *w, brc_ref dict, int key, brc_value *v) {
     char text[32];
     if (key % 2) return brc_dict_find_int_value(&w->t, dict, key - 12, v);
     snprintf(text, sizeof text, "key %d", key);
+    if (draw(w, 2)) return brc_dict_find_bytes_value(&w->t, dict, (const uint8_t *)text, strlen(text), v);
     return brc_dict_find_text_value(&w->t, dict, (const uint8_t *)text, strlen(text), v);
 }
 
@@ -279,6 +281,7 @@ static brc_status del_by(worker *w, brc_ref dict, int key, brc_value *v) {
     char text[32];
     if (key % 2) return brc_dict_del_int_value(&w->t, dict, key - 12, v);
     snprintf(text, sizeof text, "key %d", key);
+    if (draw(w, 2)) return brc_dict_del_bytes_value(&w->t, dict, (const uint8_t *)text, strlen(text), v);
     return brc_dict_del_text_value(&w->t, dict, (const uint8_t *)text, strlen(text), v);
 }
 

@@ -271,6 +271,15 @@ brc_status brc_new_int(brc_thread *, int64_t, brc_ref *made);
  * GONE, NOT_TEXT, OUT_OF_MEMORY for the copy, FRAME_FULL, LEDGER_FULL, OUT_OF_MEMORY, HEAP_FULL. */
 brc_status brc_new_text(brc_thread *, const uint8_t *bytes, size_t len, brc_ref *made);
 
+/* The same of any bytes. Its kind is BRC_TEXT: a text is bytes that are UTF-8, and these may be so, too.
+ * GONE, OUT_OF_MEMORY for the copy, FRAME_FULL, LEDGER_FULL, OUT_OF_MEMORY, HEAP_FULL. */
+brc_status brc_new_bytes(brc_thread *, const uint8_t *bytes, size_t len, brc_ref *made);
+
+/* An empty list with memory for so many entries, and a dictionary with memory for so many pairs: it grows no
+ * more until they are there. GONE, FRAME_FULL, LEDGER_FULL, OUT_OF_MEMORY, HEAP_FULL. */
+brc_status brc_new_list_for(brc_thread *, uint32_t entries, brc_ref *made);
+brc_status brc_new_dict_for(brc_thread *, uint32_t pairs, brc_ref *made);
+
 /* An empty list, dictionary, mailbox.
  * GONE, FRAME_FULL, LEDGER_FULL, OUT_OF_MEMORY, HEAP_FULL. */
 brc_status brc_new_list(brc_thread *, brc_ref *made);
@@ -295,11 +304,14 @@ brc_status brc_int_of(brc_thread *, brc_ref, int64_t *value);
 brc_status brc_truth_of(brc_thread *, brc_ref, uint32_t *is_true);
 
 /* The first bytes of a text, as many as `room` allows. `len` is the length of the whole text. A text
- * never changes, so a second call with enough room finds the same. No memory is taken.
- * GONE, FOREIGN, STALE, BUSY, WRONG_KIND. */
+ * never changes, so a second call with enough room finds the same. No memory is taken. Bytes that aren't
+ * UTF-8 are of another kind: so all of it is read each time. GONE, FOREIGN, STALE, BUSY, WRONG_KIND. */
 brc_status brc_text_of(brc_thread *, brc_ref, uint8_t *to, size_t room, size_t *len);
 
-/* Whether a text has just these bytes: 1 or 0. No memory is taken.
+/* The same of any bytes, those of a text, too. What isn't copied isn't read. */
+brc_status brc_bytes_of(brc_thread *, brc_ref, uint8_t *to, size_t room, size_t *len);
+
+/* Whether a text, or other bytes, are just these: 1 or 0. No memory is taken.
  * GONE, FOREIGN, STALE, BUSY, WRONG_KIND. */
 brc_status brc_text_is(brc_thread *, brc_ref, const uint8_t *bytes, size_t len, uint32_t *is_same);
 
@@ -342,23 +354,26 @@ brc_status brc_send(brc_thread *, brc_ref mailbox, brc_ref value);
 brc_status brc_recv(brc_thread *, brc_ref mailbox, brc_ref *value);
 
 
-/* ---- Dictionaries. A key is an integer or a text. Pairs stand in the order in which their keys came. */
+/* ---- Dictionaries. A key is an integer, or a text or other bytes: a text and the same bytes are one key. Pairs stand in the order in which their keys came. */
 
 /* The value goes beside the key. `old` is the value that was there, now the caller's, or 0 if there
  * was none. GONE; NOT_TEXT of a text; of `dict` FOREIGN, STALE; of `value` FOREIGN, STALE; SAME, BUSY,
  * WRONG_KIND, FULL, OUT_OF_MEMORY. */
 brc_status brc_dict_put_int(brc_thread *, brc_ref dict, int64_t key, brc_ref value, brc_ref *old);
 brc_status brc_dict_put_text(brc_thread *, brc_ref dict, const uint8_t *key, size_t len, brc_ref value, brc_ref *old);
+brc_status brc_dict_put_bytes(brc_thread *, brc_ref dict, const uint8_t *key, size_t len, brc_ref value, brc_ref *old);
 
 /* One more reference to the value beside the key, which stays.
  * GONE, NOT_TEXT of a text, FOREIGN, STALE, BUSY, WRONG_KIND, NO_SUCH_KEY, FRAME_FULL, OUT_OF_MEMORY. */
 brc_status brc_dict_find_int(brc_thread *, brc_ref dict, int64_t key, brc_ref *value);
 brc_status brc_dict_find_text(brc_thread *, brc_ref dict, const uint8_t *key, size_t len, brc_ref *value);
+brc_status brc_dict_find_bytes(brc_thread *, brc_ref dict, const uint8_t *key, size_t len, brc_ref *value);
 
 /* The value beside the key, out of the dictionary, and its pair ends: later pairs move up.
  * GONE, NOT_TEXT of a text, FOREIGN, STALE, BUSY, WRONG_KIND, NO_SUCH_KEY, FRAME_FULL, OUT_OF_MEMORY. */
 brc_status brc_dict_del_int(brc_thread *, brc_ref dict, int64_t key, brc_ref *value);
 brc_status brc_dict_del_text(brc_thread *, brc_ref dict, const uint8_t *key, size_t len, brc_ref *value);
+brc_status brc_dict_del_bytes(brc_thread *, brc_ref dict, const uint8_t *key, size_t len, brc_ref *value);
 
 /* The pair at an index: its key, and one more reference to its value. Of a text the first bytes go to
  * `to`, as many as `room` allows.
@@ -420,6 +435,8 @@ brc_status brc_recv_value(brc_thread *, brc_ref mailbox, brc_value *value);
 brc_status brc_dict_put_int_value(brc_thread *, brc_ref dict, int64_t key, brc_value value, brc_value *old);
 brc_status brc_dict_put_text_value(brc_thread *, brc_ref dict, const uint8_t *key, size_t len, brc_value value,
                                    brc_value *old);
+brc_status brc_dict_put_bytes_value(brc_thread *, brc_ref dict, const uint8_t *key, size_t len, brc_value value,
+                                    brc_value *old);
 
 /* The value goes beside the key, if that is new: `back` holds BRC_NO_VALUE then. Else the value comes
  * back as it is, a reference under another number, and no memory is wanted. So of two threads that put
@@ -444,10 +461,12 @@ brc_status brc_dict_swap_if_text(brc_thread *, brc_ref dict, const uint8_t *key,
 /* What is beside the key, which stays. Of a reference it is one more. */
 brc_status brc_dict_find_int_value(brc_thread *, brc_ref dict, int64_t key, brc_value *value);
 brc_status brc_dict_find_text_value(brc_thread *, brc_ref dict, const uint8_t *key, size_t len, brc_value *value);
+brc_status brc_dict_find_bytes_value(brc_thread *, brc_ref dict, const uint8_t *key, size_t len, brc_value *value);
 
 /* What is beside the key, out of the dictionary, and its pair ends: later pairs move up. */
 brc_status brc_dict_del_int_value(brc_thread *, brc_ref dict, int64_t key, brc_value *value);
 brc_status brc_dict_del_text_value(brc_thread *, brc_ref dict, const uint8_t *key, size_t len, brc_value *value);
+brc_status brc_dict_del_bytes_value(brc_thread *, brc_ref dict, const uint8_t *key, size_t len, brc_value *value);
 
 /* The pair at an index, as brc_dict_pair has it, and how many pairs there are, which is the index to
  * stop at: all as one look found them. */
@@ -561,10 +580,10 @@ static inline brc_status brc_value_clear(brc_thread *thread, brc_value *variable
     return brc_release(thread, (brc_ref)old.bits);
 }
 
-/* The length of a text. */
+/* The length of a text, or of other bytes, in bytes. None of them is read. */
 static inline brc_status brc_text_len(brc_thread *thread, brc_ref text, size_t *len) {
     uint8_t none;
-    return brc_text_of(thread, text, &none, 0, len);
+    return brc_bytes_of(thread, text, &none, 0, len);
 }
 
 /* The name of a status, as the heap's own pages print it. */

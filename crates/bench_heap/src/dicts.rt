@@ -162,7 +162,7 @@ impl Sought {
     pub fn key(self) -> KeyRef<'static> {
         match self {
             Sought::Number => KeyRef::Int(1),
-            Sought::Name => KeyRef::Text(NAME),
+            Sought::Name => KeyRef::Text(NAME.as_bytes()),
         }
     }
 }

@@ -1,7 +1,7 @@
 //! Entries by their keys, in the order in which the keys came.
 
 ghost use Rattle.std.specs.Prelude.{◌≡◌, ◌≢◌, ◌+◌, ◌<◌, ◌≤◌, ◌++◌, [], ◌∷◌, length, take, All, Some, OnOk, OnErr};
-ghost use Rattle.std.specs.Prelude.{IfSome, IfNone, is_some, position, slice_get, slice_set, remove};
+ghost use Rattle.std.specs.Prelude.{IfOk, IfSome, IfNone, is_some, position, slice_get, slice_set, remove};
 ghost use Rattle.std.specs.Map.{lookup};
 ghost use Rattle.std.specs.Option.{option_to_list};
 ghost use Rattle.brc_words.specs.Keys.{same_key};
@@ -43,6 +43,16 @@ impl<A: Allocator + Copy> KeyMap<A> {
         KeyMap {
             map: IndexMap::new(alloc),
         }
+    }
+
+    /// No pairs, and room for so many: that many puts take no memory.
+    pub(crate) fn with_room(alloc: A, pairs: usize) -> Result<Self, AllocError>
+        ensures items { IfOk result (λ map. map.items ≡ []) }
+        ensures room { IfOk result (λ map. pairs ≤ map.spare) }
+    {
+        let mut made = KeyMap::new(alloc);
+        made.map.reserve(pairs)?;
+        Ok(made)
     }
 }
 

@@ -7,16 +7,16 @@ ghost use Rattle.std.proofs.Common.{rules};
 ghost use Rattle.brc_words.specs.Keys.{same_key, same_key-equiv};
 ghost use Rattle.brc_block.specs.Lent_Keys.{key_lent, lent_fed, lent_alike};
 
-use brc_words::{Key, Text};
+use brc_words::{Key, Text, hash_bytes};
 use indexmap::Equivalent;
 use std::alloc::{AllocError, Allocator};
 use std::hash::{Hash, Hasher};
 
-/// A key that is lent: what a dictionary is asked by. Its text stands where it stood.
+/// A key that is lent: what a dictionary is asked by. The bytes of its text, or other bytes, stand where they stood.
 #[derive(Clone, Copy, Debug, PartialEq, Eq)]
 pub enum KeyRef<'k> {
     Int(i64),
-    Text(&'k str),
+    Text(&'k [u8]),
 }
 
 impl<'k> KeyRef<'k> {
@@ -27,17 +27,17 @@ impl<'k> KeyRef<'k> {
     {
         match key {
             Key::Int(number) => KeyRef::Int(*number),
-            Key::Text(text) => KeyRef::Text(text.as_str()),
+            Key::Text(text) => KeyRef::Text(text.as_bytes()),
         }
     }
 
-    /// The same key with memory of its own; only a text's asks for it.
+    /// The same key with memory of its own; only one of bytes asks for it.
     pub fn copy<A: Allocator>(self, alloc: A) -> Result<Key<A>, AllocError>
         ensures { IfOk result (λ copy. copy ≡ key_lent self.entry) }
     {
         match self {
             KeyRef::Int(number) => Ok(Key::Int(number)),
-            KeyRef::Text(text) => Ok(Key::Text(Text::new(String::from_str(alloc, text)?))),
+            KeyRef::Text(bytes) => Ok(Key::Text(Text::of_bytes(Vec::from_slice(alloc, bytes)?))),
         }
     }
 }
@@ -52,7 +52,7 @@ impl<'k> Hash for KeyRef<'k> {
     fn hash<H: Hasher>(&self, state: &mut H) {
         match self {
             KeyRef::Int(number) => number.hash(state),
-            KeyRef::Text(text) => text.hash(state),
+            KeyRef::Text(bytes) => hash_bytes(bytes, state),
         }
     }
 }
@@ -68,16 +68,16 @@ impl<'k, A: Allocator> Equivalent<Key<A>> for KeyRef<'k> {
     fn equivalent(&self, key: &Key<A>) -> bool {
         match (self, key) {
             (KeyRef::Int(number), Key::Int(other)) => number == other,
-            (KeyRef::Text(text), Key::Text(other)) => is_text(text, other),
+            (KeyRef::Text(bytes), Key::Text(other)) => has_bytes(other, bytes),
             _ => false,
         }
     }
 }
 
-/// Whether it is this text. It is a function of its own, so that a search for a number doesn't carry its code.
+/// Whether the text is these bytes. It is a function of its own, so that a search for a number doesn't carry its code.
 #[inline(never)]
-fn is_text<A: Allocator>(text: &str, other: &Text<A>) -> bool
-    ensures { result ≡ bytes_eq text.now other.now }
+fn has_bytes<A: Allocator>(text: &Text<A>, bytes: &[u8]) -> bool
+    ensures { result ≡ bytes_eq bytes.now text.now }
 {
-    text == other.as_str()
+    bytes == text.as_bytes()
 }

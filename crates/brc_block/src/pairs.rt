@@ -158,6 +158,21 @@ impl<A: Allocator> Pairs<A> {
 }
 
 impl<A: Allocator + Copy> Pairs<A> {
+    /// No entries, and room for so many: that many puts take no memory.
+    pub fn with_room(alloc: A, pairs: usize) -> Result<Self, AllocError>
+        ensures items { IfOk result (λ made. made.items ≡ []) }
+        ensures room { IfOk result (λ made. pairs ≤ made.spare) }
+    {
+        let map = KeyMap::with_room(alloc, pairs)?;
+        match Box::new(alloc, map) {
+            Ok(map) => Ok(Pairs {
+                alloc,
+                map: Some(map),
+            }),
+            Err(_refused) => Err(AllocError),
+        }
+    }
+
     /// Makes room for one more entry: the next put takes no memory then.
     #[inline(always)]
     pub fn reserve(&mut self) -> Result<(), AllocError>

@@ -66,7 +66,7 @@ pub extern "C" fn brc_dict_put_text(
 {
     match thread.as_mut().client() {
         Some(client) => match text_of(key) {
-            Ok(key) => write_old(
+            Ok(_text) => write_old(
                 client.take(alloc, dict, TakeBy::Put(KeyRef::Text(key)), value),
                 old,
             ),
@@ -103,7 +103,7 @@ pub extern "C" fn brc_dict_find_text(
 {
     match thread.as_mut().client() {
         Some(client) => match text_of(key) {
-            Ok(key) => write(client.give(dict, FindingByText(key)), value),
+            Ok(_text) => write(client.give(dict, FindingByText(key)), value),
             Err(status) => status.number(),
         },
         None => gone(),
@@ -137,7 +137,7 @@ pub extern "C" fn brc_dict_del_text(
 {
     match thread.as_mut().client() {
         Some(client) => match text_of(key) {
-            Ok(key) => write(client.give(dict, DeletingByText(key)), value),
+            Ok(_text) => write(client.give(dict, DeletingByText(key)), value),
             Err(status) => status.number(),
         },
         None => gone(),
@@ -183,7 +183,7 @@ pub(crate) fn write_key(found: &Key<Global>, key: &mut CKey, to: &mut [u8])
         }
         Key::Text(text) => {
             key.number = 0;
-            key.len = copy_prefix(text.as_str().as_bytes(), to);
+            key.len = copy_prefix(text.as_bytes(), to);
             key.is_text = 1;
         }
     }

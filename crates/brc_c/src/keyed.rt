@@ -35,7 +35,7 @@ pub extern "C" fn brc_dict_has_text(
 {
     match thread.as_mut().client() {
         Some(client) => match text_of(key) {
-            Ok(key) => write_truth(client.has(dict, KeyRef::Text(key)), has),
+            Ok(_text) => write_truth(client.has(dict, KeyRef::Text(key)), has),
             Err(status) => status.number(),
         },
         None => gone(),
@@ -72,7 +72,7 @@ pub extern "C" fn brc_dict_place_text(
 {
     match thread.as_mut().client() {
         Some(client) => match text_of(key) {
-            Ok(key) => write(client.place(dict, KeyRef::Text(key)), index),
+            Ok(_text) => write(client.place(dict, KeyRef::Text(key)), index),
             Err(status) => status.number(),
         },
         None => gone(),

@@ -78,6 +78,34 @@ pub extern "C" fn brc_new_dict(alloc: Global, thread: &mut CThread, made: &mut u
 }
 
 #[unsafe(no_mangle)]
+pub extern "C" fn brc_new_list_for(
+    alloc: Global,
+    thread: &mut CThread,
+    entries: u32,
+    made: &mut u64,
+) -> u32
+    ensures kept { result ≢ 0 → made.new ≡ made.old }
+    ensures does { CarriesOut (Makes (MadeBy (making.ListFor entries))) thread.old.value thread.new.value result
+        (Writes itself made.old made.new) }
+{
+    make_by(alloc, thread, Make::ListFor(entries), made)
+}
+
+#[unsafe(no_mangle)]
+pub extern "C" fn brc_new_dict_for(
+    alloc: Global,
+    thread: &mut CThread,
+    pairs: u32,
+    made: &mut u64,
+) -> u32
+    ensures kept { result ≢ 0 → made.new ≡ made.old }
+    ensures does { CarriesOut (Makes (MadeBy (making.DictFor pairs))) thread.old.value thread.new.value result
+        (Writes itself made.old made.new) }
+{
+    make_by(alloc, thread, Make::DictFor(pairs), made)
+}
+
+#[unsafe(no_mangle)]
 pub extern "C" fn brc_new_mailbox(alloc: Global, thread: &mut CThread, made: &mut u64) -> u32
     ensures kept { result ≢ 0 → made.new ≡ made.old }
     ensures does { CarriesOut (Makes (MadeBy making.Mailbox)) thread.old.value thread.new.value result

@@ -116,7 +116,7 @@ pub extern "C" fn brc_dict_swap_if_text(
 {
     match thread.as_mut().client() {
         Some(client) => match text_of(key) {
-            Ok(key) => swap_if_by(
+            Ok(_text) => swap_if_by(
                 client,
                 dict,
                 SwappingByText(key),

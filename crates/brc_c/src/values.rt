@@ -132,7 +132,7 @@ fn write_came(made: Result<Option<Datum>, Status>, old: &mut CValue) -> u32
 }
 
 #[inline(always)]
-fn take_out_value_by<B: Outward>(
+pub(crate) fn take_out_value_by<B: Outward>(
     thread: &mut CThread,
     container: u64,
     by: B,
@@ -171,7 +171,7 @@ fn put_value_by<B: Inward>(
 }
 
 #[inline(always)]
-fn exchange_value_by<B: Inward>(
+pub(crate) fn exchange_value_by<B: Inward>(
     alloc: Global,
     thread: &mut CThread,
     container: u64,
@@ -359,7 +359,7 @@ pub extern "C" fn brc_dict_find_text_value(
 {
     match thread.as_mut().client() {
         Some(client) => match text_of(key) {
-            Ok(key) => write_value(client.take_out_value(dict, FindingByText(key)), value),
+            Ok(_text) => write_value(client.take_out_value(dict, FindingByText(key)), value),
             Err(status) => status.number(),
         },
         None => gone(),
@@ -379,7 +379,7 @@ pub extern "C" fn brc_dict_del_text_value(
 {
     match thread.as_mut().client() {
         Some(client) => match text_of(key) {
-            Ok(key) => write_value(client.take_out_value(dict, DeletingByText(key)), value),
+            Ok(_text) => write_value(client.take_out_value(dict, DeletingByText(key)), value),
             Err(status) => status.number(),
         },
         None => gone(),
@@ -402,7 +402,7 @@ pub extern "C" fn brc_dict_put_text_value(
 {
     match thread.as_mut().client() {
         Some(client) => match text_of(key) {
-            Ok(key) => match datum_of(bits, noted) {
+            Ok(_text) => match datum_of(bits, noted) {
                 Ok(datum) => write_came(
                     client.put_value(alloc, dict, PuttingByText(key), datum),
                     old,
@@ -448,7 +448,7 @@ pub extern "C" fn brc_dict_put_new_text_value(
 {
     match thread.as_mut().client() {
         Some(client) => match text_of(key) {
-            Ok(key) => match datum_of(bits, noted) {
+            Ok(_text) => match datum_of(bits, noted) {
                 Ok(datum) => write_came(
                     client.put_value(alloc, dict, PuttingNewByText(key), datum),
                     back,

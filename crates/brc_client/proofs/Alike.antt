@@ -8,7 +8,7 @@ use Rattle.std.proofs.lemmas.List.{length-take, length-drop, take_all}
 use Rattle.std.proofs.lemmas.Slice.Eq.{bytes_eq-Decides}
 use Rattle.brc_words.specs.declared.fault.Fault.{Fault}
 use Rattle.brc_count.specs.Frames.{FrameSeen}
-use Rattle.brc_things.specs.Looking.{TextShown, shown_from}
+use Rattle.brc_things.specs.Looking.{BytesShown, shown_from}
 use Rattle.brc_client.specs.Equal.{TextFound, IsAlike, BothFound, ComparesPiece}
 
 -- ---- texts
@@ -53,17 +53,17 @@ alike_whole text beside n long few alike =
 
 -- a look that shows a text has found it
 found : {old new : FrameSeen Global} {k len : ℕ} {has : List ℕ} (from : ℕ) (had : List ℕ)
-    → TextShown old new k from had has (Ok len) → (text : List ℕ) × TextFound old new k (Ok text) × (length text ≡ len) × (has ≡ shown_from text from had)
+    → BytesShown old new k from had has (Ok len) → (text : List ℕ) × TextFound old new k (Ok text) × (length text ≡ len) × (has ≡ shown_from text from had)
 found from had shown =
     let (text, looks, long, is) = shown.found in
     (text, record { thread = shown.thread; frame = shown.frame; found = looks; refused = tt }, long, is)
 
 pub refused : {old new : FrameSeen Global} {k : ℕ} {fault : Fault} (from : ℕ) (had has : List ℕ)
-    → TextShown old new k from had has (Err fault) → TextFound old new k (Err fault)
+    → BytesShown old new k from had has (Err fault) → TextFound old new k (Err fault)
 refused from had has shown = record { thread = shown.thread; frame = shown.frame; found = tt; refused = shown.refused }
 
 pub found_one : {old new : FrameSeen Global} {k len : ℕ} (from : ℕ) (had has : List ℕ)
-    → TextShown old new k from had has (Ok len) → (text : List ℕ) × TextFound old new k (Ok text)
+    → BytesShown old new k from had has (Ok len) → (text : List ℕ) × TextFound old new k (Ok text)
 found_one from had has shown = let (text, looks, long, is) = found from had shown in (text, looks)
 
 -- ---- a look at each
@@ -76,12 +76,12 @@ pub record ShowsBoth (old new : FrameSeen Global) (one other from size : ℕ) (l
   other_had : List ℕ
   room : length had ≡ size
   other_room : length other_had ≡ size
-  first : TextShown old between one from had has (Ok len)
-  second : TextShown between new other from other_had other_has (Ok other_len)
+  first : BytesShown old between one from had has (Ok len)
+  second : BytesShown between new other from other_had other_has (Ok other_len)
 
 pub shows_both : {old new : FrameSeen Global} {one other from len other_len : ℕ} {has other_has : List ℕ}
     (between : FrameSeen Global) (had other_had : List ℕ) → length other_had ≡ length had
-    → TextShown old between one from had has (Ok len) → TextShown between new other from other_had other_has (Ok other_len)
+    → BytesShown old between one from had has (Ok len) → BytesShown between new other from other_had other_has (Ok other_len)
     → ShowsBoth old new one other from (length had) len other_len has other_has
 shows_both between had other_had rooms first second = record {
   between = between;

@@ -10,7 +10,7 @@ use Rattle.brc_count.specs.declared.handed.HandedBack.{HandedBack}
 use Rattle.brc_count.specs.Frames.{FrameSeen, HandleSeen, GivenHandle, Refused, IsAsBefore, place_seen}
 use Rattle.brc_count.specs.Locking.{cell_in}
 use Rattle.brc_count.specs.Owned.{Loses}
-use Rattle.brc_things.specs.Looking.{TextShown, TextIs}
+use Rattle.brc_things.specs.Looking.{BytesShown, TextShown, TextIs}
 use Rattle.brc_handles.specs.Handles.{slot}
 use Rattle.brc_client.specs.declared.status.Status.{Status}
 use Rattle.brc_client.specs.declared.status.Status.TheVariants as statuses
@@ -113,6 +113,10 @@ module _ {T : Type 0} where
 -- how long the text in the place is, and its bytes from one on, in room that had `had` and has `has`
 abbrev pub Shown : ℕ → List ℕ → List ℕ → FrameSeen Global → FrameSeen Global → ℕ → Result ℕ Fault → Type 0
 Shown from had has old new k result = TextShown old new k from had has result
+
+-- the same of any bytes
+abbrev pub ShownBytes : ℕ → List ℕ → List ℕ → FrameSeen Global → FrameSeen Global → ℕ → Result ℕ Fault → Type 0
+ShownBytes from had has old new k result = BytesShown old new k from had has result
 
 -- whether it has just these bytes
 abbrev pub IsBytes : List ℕ → FrameSeen Global → FrameSeen Global → ℕ → Result Bool Fault → Type 0

@@ -13,7 +13,7 @@ use Rattle.brc_count.specs.law.declared.rule.told.LogItem.TheVariants.{Stepped}
 use Rattle.brc_count.specs.Frames.{FrameSeen}
 use Rattle.brc_count.specs.Locking.{cell_in}
 use Rattle.brc_things.specs.Called.{Looked}
-use Rattle.brc_things.specs.Looking.{LooksAt, RefusedLook, IsText}
+use Rattle.brc_things.specs.Looking.{LooksAt, RefusedLook, HoldsBytes}
 use Rattle.brc_client.specs.declared.status.Status.{Status}
 use Rattle.brc_client.specs.Calls.{OfNamed, ByHeap}
 use Rattle.brc_client.specs.Clients.{ClientSeen, Names, NamesNone}
@@ -23,7 +23,7 @@ use Rattle.brc_client.specs.Clients.{ClientSeen, Names, NamesNone}
 -- the text in the place, as one look found it; or why it was refused
 abbrev pub TextFound : FrameSeen Global → FrameSeen Global → ℕ → Result (List ℕ) Fault → Type 0
 TextFound old new k result =
-    Looked old new (λ text. LooksAt old new k (contents.Text text)) (RefusedLook old new k IsText) result
+    Looked old new (λ text. LooksAt old new k (contents.Text text)) (RefusedLook old new k HoldsBytes) result
 
 -- Two texts are alike in a piece: they are of one length, and have the same bytes from a byte on, as many as these.
 pub record IsAlike (from size : ℕ) (text beside : List ℕ) : Type 0 where

@@ -112,9 +112,9 @@ impl Conditional for SwappingByInt {
     }
 }
 
-/// The same beside this text.
+/// The same beside this text, or other bytes.
 #[derive(Clone, Copy, Debug, PartialEq, Eq)]
-pub struct SwappingByText<'k>(pub &'k str);
+pub struct SwappingByText<'k>(pub &'k [u8]);
 
 impl<'k> Conditional for SwappingByText<'k> {
     ghost call = { λ by. places.Beside (lent.Text by.0) };

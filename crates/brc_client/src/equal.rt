@@ -12,7 +12,7 @@ use crate::client::{Client, find};
 use crate::status::Status;
 use brc_count::{Frame, Handle};
 use brc_heap::{Shared, same_object};
-use brc_things::try_text_shown;
+use brc_things::try_bytes_shown;
 use brc_words::Fault;
 use std::alloc::Global;
 
@@ -41,8 +41,8 @@ fn piece_alike(
     ensures keeps { Keeps frame.old frame.new }
     ensures unlocked { IsUnlocked frame.new }
 {
-    let len = try_text_shown(frame, one, from, room)?;
-    let other_len = try_text_shown(frame, other, from, beside)?;
+    let len = try_bytes_shown(frame, one, from, room)?;
+    let other_len = try_bytes_shown(frame, other, from, beside)?;
     if len != other_len {
         return Ok(Some(false));
     }
@@ -118,7 +118,7 @@ pub fn alike_pieces_are_the_same_text()
 
 impl Client {
     /// Whether two texts have the same bytes. One object is equal at once, whatever it is. Foreign, Stale for the first,
-    /// then for the other; then Busy, and WrongKind if one is no text, of the first before the other. After Busy the call
+    /// then for the other; then Busy, and WrongKind if one is neither a text nor other bytes, of the first before the other. After Busy the call
     /// can be made again. It takes no memory.
     #[tactic(auto, using(crate::proofs::Placed::keeps))]
     pub fn text_equal(&mut self, one: u64, other: u64) -> Result<bool, Status>

@@ -6,14 +6,14 @@ ghost use Rattle.brc_count.specs.Locking.{cell_in};
 ghost use Rattle.brc_things.specs.Makers.{truth_cell};
 ghost use Rattle.brc_things.specs.Looking.{LenOf};
 ghost use Rattle.brc_client.specs.Clients.{Names, NamesNone, KeepsNumbers};
-ghost use Rattle.brc_client.specs.Calls.{OfNamed, RefusedOf, Looks, Shown, IsBytes, IsOne};
+ghost use Rattle.brc_client.specs.Calls.{OfNamed, RefusedOf, Looks, Shown, ShownBytes, IsBytes, IsOne};
 ghost use Rattle.brc_client.specs.Told.{KindTold, IntTold};
 
 use crate::client::{Client, find};
 use crate::status::Status;
 use crate::told::{int_told, kind_told};
 use brc_heap::{same_object, truth_of};
-use brc_things::{try_len_of, try_text_is, try_text_shown};
+use brc_things::{try_bytes_shown, try_len_of, try_text_is, try_text_shown};
 use brc_words::Kind;
 
 impl Client {
@@ -111,7 +111,26 @@ impl Client {
         }
     }
 
-    /// Whether the text has just these bytes. Foreign, Stale; then Busy, and WrongKind if it is no text. It takes no memory.
+    /// How many bytes the object has, and these from one on, as many as there is room for. Foreign, Stale; then Busy, and
+    /// WrongKind if it is neither a text nor other bytes. It takes no memory.
+    #[tactic(auto, using(crate::proofs::Placed::keeps))]
+    pub fn bytes(&mut self, number: u64, from: usize, to: &mut [u8]) -> Result<usize, Status>
+        ensures looked { Looks (ShownBytes from to.old to.new self.old.frame self.new.frame) self.old self.new number result }
+        ensures unchanged { OnErr result (to.new ≡ to.old) }
+        ensures keeps { KeepsNumbers self.old self.new }
+    {
+        let place = self.place_of(number)?;
+        let Some(object) = self.handles.get(place) else {
+            unreachable!()
+        };
+        match try_bytes_shown(self.mutator.frame(), object, from, to) {
+            Ok(len) => Ok(len),
+            Err(fault) => Err(Status::Fault(fault)),
+        }
+    }
+
+    /// Whether a text, or other bytes, are just these. Foreign, Stale; then Busy, and WrongKind if it is neither. It takes no
+    /// memory.
     #[tactic(auto, using(crate::proofs::Placed::keeps))]
     pub fn text_is(&mut self, number: u64, bytes: &[u8]) -> Result<bool, Status>
         ensures looked { Looks (IsBytes bytes.now self.old.frame self.new.frame) self.old self.new number result }

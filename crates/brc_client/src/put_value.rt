@@ -159,9 +159,9 @@ impl Inward for PuttingByInt {
     }
 }
 
-/// The same beside this text.
+/// The same beside this text, or other bytes.
 #[derive(Clone, Copy, Debug, PartialEq, Eq)]
-pub struct PuttingByText<'k>(pub &'k str);
+pub struct PuttingByText<'k>(pub &'k [u8]);
 
 impl<'k> Inward for PuttingByText<'k> {
     ghost call = { λ by. puts.Put (lent.Text by.0) };
@@ -199,9 +199,9 @@ impl Inward for PuttingNewByInt {
     }
 }
 
-/// The same beside this text.
+/// The same beside this text, or other bytes.
 #[derive(Clone, Copy, Debug, PartialEq, Eq)]
-pub struct PuttingNewByText<'k>(pub &'k str);
+pub struct PuttingNewByText<'k>(pub &'k [u8]);
 
 impl<'k> Inward for PuttingNewByText<'k> {
     ghost call = { λ by. puts.PutNew (lent.Text by.0) };

@@ -184,9 +184,9 @@ impl Outward for FindingByInt {
     }
 }
 
-/// The same beside this text.
+/// The same beside this text, or other bytes.
 #[derive(Clone, Copy, Debug, PartialEq, Eq)]
-pub struct FindingByText<'k>(pub &'k str);
+pub struct FindingByText<'k>(pub &'k [u8]);
 
 impl<'k> Outward for FindingByText<'k> {
     ghost call = { λ by. gives.Find (lent.Text by.0) };
@@ -236,9 +236,9 @@ impl Outward for DeletingByInt {
     }
 }
 
-/// The same beside this text.
+/// The same beside this text, or other bytes.
 #[derive(Clone, Copy, Debug, PartialEq, Eq)]
-pub struct DeletingByText<'k>(pub &'k str);
+pub struct DeletingByText<'k>(pub &'k [u8]);
 
 impl<'k> Outward for DeletingByText<'k> {
     ghost call = { λ by. gives.Delete (lent.Text by.0) };

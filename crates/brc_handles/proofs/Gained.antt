@@ -11,7 +11,7 @@ use Rattle.brc_handles.specs.Standing.{Stands, Besides, KeepsStanding}
 use Rattle.brc_handles.proofs.Places.{counted_less, each_at, each_less, each_swapped}
 
 -- what is so of each that is there stays so as another thing
-each : {P Q : HandleSeen → Type 0} → ((h : HandleSeen) → P h → Q h) → (found : Option HandleSeen) → IfSome found P
+pub each : {P Q : HandleSeen → Type 0} → ((h : HandleSeen) → P h → Q h) → (found : Option HandleSeen) → IfSome found P
     → IfSome found Q
 each step None all = tt
 each step (Some h) all = step h all

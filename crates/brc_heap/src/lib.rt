@@ -51,12 +51,12 @@ pub use brc_things::{new_dict, new_int, new_list, new_mailbox, new_text, none, t
 // what they are and hold
 pub use brc_count::block::KeyRef;
 pub use brc_things::{
-    dict_del, dict_del_by, dict_find, dict_find_by, dict_key, dict_key_by, dict_pair, dict_put,
-    dict_set, int_of, kind_of, len_of, list_get, list_pop, list_push, list_set, list_take, recv,
-    send, text_into, text_of, try_dict_del, try_dict_del_by, try_dict_find, try_dict_find_by,
-    try_dict_key, try_dict_key_by, try_dict_pair, try_dict_put, try_dict_set, try_int_of,
-    try_kind_of, try_len_of, try_list_get, try_list_pop, try_list_push, try_list_set,
-    try_list_take, try_recv, try_send, try_text_into, try_text_of,
+    bytes_of, dict_del, dict_del_by, dict_find, dict_find_by, dict_key, dict_key_by, dict_pair,
+    dict_put, dict_set, int_of, kind_of, len_of, list_get, list_pop, list_push, list_set,
+    list_take, recv, send, text_into, text_of, try_bytes_of, try_dict_del, try_dict_del_by,
+    try_dict_find, try_dict_find_by, try_dict_key, try_dict_key_by, try_dict_pair, try_dict_put,
+    try_dict_set, try_int_of, try_kind_of, try_len_of, try_list_get, try_list_pop, try_list_push,
+    try_list_set, try_list_take, try_recv, try_send, try_text_into, try_text_of,
 };
 
 // the same by values: scalars without an object, and references with a label

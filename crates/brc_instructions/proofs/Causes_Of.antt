@@ -16,7 +16,7 @@ use Rattle.brc_count.specs.Making.{RefusedMaking}
 use Rattle.brc_things.specs.Makers.{RefusedTo}
 use Rattle.brc_things.specs.Called.{Late}
 use Rattle.brc_things.specs.Changing.{PlainCall, RefusedPlainly, RefusedCall, RefusedEntry, RefusedPlace}
-use Rattle.brc_things.specs.Looking.{RefusedLook, RefusedCopy, LenOf, IntOf, TextOf}
+use Rattle.brc_things.specs.Looking.{RefusedLook, RefusedCopy, LenOf, IntOf, BytesOf}
 use Rattle.brc_things.specs.List_Calls.{PutsValue, SwapsValue, TakesEntry, SharesEntry}
 use Rattle.brc_things.specs.Dict_Calls.{DictPut}
 use Rattle.brc_things.specs.Plain_Dicts.{plain_put}
@@ -237,6 +237,6 @@ module _ {A : Type 0} where
   int_room old new k (Err fault) late = look_room late.0 new k _ fault late.2.refused
 
   pub text_room : (old new : FrameSeen A) (k : ℕ) (result : Result (List ℕ) Fault)
-      → Late old k (λ mid. TextOf mid new k result) → IfErr result WantsNoRoom
+      → Late old k (λ mid. BytesOf mid new k result) → IfErr result WantsNoRoom
   text_room old new k (Ok text) late = tt
   text_room old new k (Err fault) late = copy_room late.0 new k _ fault late.2.refused

@@ -6,7 +6,7 @@ use Rattle.brc_words.specs.declared.kind.Kind.{Kind}
 use Rattle.brc_count.specs.law.declared.rule.contents.Contents.{Contents}
 use Rattle.brc_count.specs.Frames.{FrameSeen}
 use Rattle.brc_things.specs.Called.{Late}
-use Rattle.brc_things.specs.Looking.{RefusedLook, RefusedCopy, LenOf, IntOf, TextOf, KindOf}
+use Rattle.brc_things.specs.Looking.{RefusedLook, RefusedCopy, LenOf, IntOf, BytesOf, KindOf}
 use Rattle.brc_count.specs.law.living.Later.{IsLater}
 use Rattle.law_isolation.proofs.Later_Calls.{later_looks, later_late}
 use Rattle.brc_instructions.proofs.Follows_Of.{later_busy}
@@ -37,7 +37,7 @@ module _ {A : Type 0} where
   told_int old new k (Ok number) is = later_looks is.found
   told_int old new k (Err fault) is = later_look old new k _ fault is.refused
 
-  told_text : (old new : FrameSeen A) (k : ℕ) (result : Result (List ℕ) Fault) → TextOf old new k result
+  told_text : (old new : FrameSeen A) (k : ℕ) (result : Result (List ℕ) Fault) → BytesOf old new k result
       → IsLater old.seat.log new.seat.log
   told_text old new k (Ok text) is = later_looks is.found
   told_text old new k (Err fault) is = later_copy old new k _ fault is.refused
@@ -56,6 +56,6 @@ module _ {A : Type 0} where
         → IsLater old.seat.log new.seat.log
     later_int result = later_late new (λ mid. told_int mid new k result)
 
-    pub later_text : (result : Result (List ℕ) Fault) → Late old k (λ mid. TextOf mid new k result)
+    pub later_text : (result : Result (List ℕ) Fault) → Late old k (λ mid. BytesOf mid new k result)
         → IsLater old.seat.log new.seat.log
     later_text result = later_late new (λ mid. told_text mid new k result)

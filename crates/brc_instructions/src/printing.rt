@@ -16,7 +16,7 @@ ghost use Rattle.brc_instructions.specs.Printing.{ShownAs};
 use crate::shown::Shown;
 use brc_count::biased::HasTable;
 use brc_count::{Frame, Handle};
-use brc_heap::{int_of, kind_of, len_of, text_of};
+use brc_heap::{int_of, kind_of, len_of, bytes_of};
 use brc_words::{Fault, Kind};
 use std::alloc::Allocator;
 use std::sync::Wait;
@@ -43,7 +43,7 @@ pub(crate) fn show<R: Wait, H: HasTable<A>, A: Allocator>(
 {
     match kind_of(rt, frame, handle) {
         Kind::Int => Ok(Shown::Integer(int_of(rt, frame, handle)?)),
-        Kind::Text => Ok(Shown::Text(text_of(rt, alloc, frame, handle)?)),
+        Kind::Text => Ok(Shown::Text(bytes_of(rt, alloc, frame, handle)?)),
         Kind::List => Ok(Shown::List(len_of(rt, frame, handle)?)),
         Kind::Dict => Ok(Shown::Dict(len_of(rt, frame, handle)?)),
         Kind::Mailbox => Ok(Shown::Mailbox(len_of(rt, frame, handle)?)),

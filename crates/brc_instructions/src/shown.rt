@@ -52,7 +52,7 @@ pub fn add_shown<A: Allocator>(lines: &mut Vec<u8, A>, shown: &Shown<A>) -> Done
 {
     match shown {
         Shown::Integer(number) => add_line(lines, b"", Buffer::new().format(*number).as_bytes()),
-        Shown::Text(text) => add_line(lines, b"", text.as_str().as_bytes()),
+        Shown::Text(text) => add_line(lines, b"", text.as_bytes()),
         Shown::List(entries) => add_line(
             lines,
             b"list ",

@@ -153,7 +153,7 @@ impl<A: Allocator> Object<A> {
     {
         match self {
             Object::Int(number) => printed.add_integer(*number),
-            Object::Text(text) => printed.add_line(text.as_str().as_bytes()),
+            Object::Text(text) => printed.add_line(text.as_bytes()),
             Object::List(entries) => printed.add_counted(b"list ", entries.len()),
             Object::Dict(pairs) => printed.add_counted(b"dict ", pairs.len()),
             Object::Mailbox(entries) => printed.add_counted(b"mailbox ", entries.len()),

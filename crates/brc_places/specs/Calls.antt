@@ -59,8 +59,12 @@ module _ {A : Type 0} where
       HandleOr (Answered old new (small_cell number) (contents.Int number)) (RefusedTo old new (small_cell number)) result
   MadeBy (makes.Text text) old new result =
       HandleOr (Made old new (contents.Text text.now)) (RefusedText old new) result
+  MadeBy (makes.Bytes bytes) old new result =
+      HandleOr (Made old new (contents.Text bytes.now)) (RefusedText old new) result
   MadeBy makes.«List» old new result = HandleOr (Made old new (contents.«List» [])) (RefusedMaking old new) result
+  MadeBy (makes.ListFor entries) old new result = HandleOr (Made old new (contents.«List» [])) (RefusedMaking old new) result
   MadeBy makes.Dict old new result = HandleOr (Made old new (contents.Dict [])) (RefusedMaking old new) result
+  MadeBy (makes.DictFor pairs) old new result = HandleOr (Made old new (contents.Dict [])) (RefusedMaking old new) result
   MadeBy makes.Mailbox old new result = HandleOr (Made old new (contents.Mailbox [])) (RefusedMaking old new) result
 
   -- a call that gives a handle

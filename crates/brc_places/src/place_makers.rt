@@ -14,7 +14,10 @@ use crate::placing::{To, close, fill, open};
 use brc_count::biased::HasTable;
 use brc_count::{Frame, Handle};
 use brc_handles::Handles;
-use brc_things::{new_dict, new_int, new_list, new_mailbox, new_text, none, truth};
+use brc_things::{
+    new_dict, new_dict_with_room, new_int, new_list, new_list_with_room, new_mailbox, new_text,
+    none, truth,
+};
 use brc_words::{Fault, Text};
 use std::alloc::Allocator;
 
@@ -31,10 +34,16 @@ pub enum Make<'t> {
     Int(i64),
     /// A text of its own, with these bytes.
     Text(&'t str),
+    /// The same of any bytes.
+    Bytes(&'t [u8]),
     /// An empty list.
     List,
+    /// An empty list, with memory for so many entries.
+    ListFor(u32),
     /// An empty dictionary.
     Dict,
+    /// An empty dictionary, with memory for so many pairs.
+    DictFor(u32),
     /// An empty mailbox.
     Mailbox,
 }
@@ -61,6 +70,28 @@ fn made_text<H: HasTable<A>, A: Allocator + Copy>(
     }
 }
 
+/// A copy of the bytes, as an object.
+fn made_bytes<H: HasTable<A>, A: Allocator + Copy>(
+    alloc: A,
+    frame: &mut Frame<H, A>,
+    bytes: &[u8],
+) -> Result<Handle<A>, Fault>
+    requires unlocked { IsUnlocked frame.old }
+    ensures made { IfOk result (Made frame.old frame.new (contents.Text bytes.now)) }
+    ensures refused { IfErr result (RefusedText frame.old frame.new) }
+    ensures gains { IfOk result (Gains frame.old frame.new) }
+    ensures keeps { OnErr result (Keeps frame.old frame.new) }
+    ensures unlocked { IsUnlocked frame.new }
+{
+    let Ok(copy) = Vec::from_slice(alloc, bytes) else {
+        return Err(Fault::OutOfMemory);
+    };
+    match new_text(alloc, frame, Text::of_bytes(copy)) {
+        Ok(handle) => Ok(handle),
+        Err(handed) => Err(handed.fault),
+    }
+}
+
 /// What is made. OutOfMemory for the copy of a text comes first, then what its maker answers (`brc_things`).
 #[inline(always)]
 pub fn make_by<H: HasTable<A>, A: Allocator + Copy>(
@@ -80,8 +111,11 @@ pub fn make_by<H: HasTable<A>, A: Allocator + Copy>(
         Make::Globals => frame.globals(),
         Make::Int(number) => new_int(alloc, frame, number),
         Make::Text(text) => made_text(alloc, frame, text),
+        Make::Bytes(bytes) => made_bytes(alloc, frame, bytes),
         Make::List => new_list(alloc, frame),
+        Make::ListFor(entries) => new_list_with_room(alloc, frame, entries as usize),
         Make::Dict => new_dict(alloc, frame),
+        Make::DictFor(pairs) => new_dict_with_room(alloc, frame, pairs as usize),
         Make::Mailbox => new_mailbox(alloc, frame),
     }
 }

@@ -25,8 +25,7 @@ fn put_sections<A: Allocator, W: Write>(
         let Some(end) = ends.get(at) else {
             return Ok(());
         };
-        let name = section.name.as_str();
-        write_section(writer, name.as_bytes(), end.lines.as_slice(), end.fault)?;
+        write_section(writer, section.name.as_bytes(), end.lines.as_slice(), end.fault)?;
     }
     Ok(())
 }

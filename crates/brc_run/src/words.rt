@@ -31,12 +31,12 @@ pub(crate) const NOTHING: NoteWord = NoteWord::Said(Phrase::Nothing);
 
 /// A text of the script, by its first bytes.
 pub(crate) fn quoted<A: Allocator>(text: &Text<A>) -> NoteWord {
-    NoteWord::Quoted(Excerpt::of(text.as_str().as_bytes()))
+    NoteWord::Quoted(Excerpt::of(text.as_bytes()))
 }
 
 /// A section's name.
 pub(crate) fn name<A: Allocator>(text: &Text<A>) -> NoteWord {
-    NoteWord::Name(Excerpt::of(text.as_str().as_bytes()))
+    NoteWord::Name(Excerpt::of(text.as_bytes()))
 }
 
 fn put_text<W: Write>(errors: &mut W, text: &[u8]) -> Result<(), Fault>

@@ -28,7 +28,7 @@ pub(crate) struct Progress<A: Allocator> {
 fn is_same_name<A: Allocator>(name: &Text<A>, other: &Text<A>) -> bool
     ensures { result ≡ bytes_eq name.now other.now }
 {
-    name.as_str().as_bytes() == other.as_str().as_bytes()
+    name.as_bytes() == other.as_bytes()
 }
 
 /// Whether one of the sections has this name.

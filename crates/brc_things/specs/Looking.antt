@@ -1,6 +1,6 @@
 -- What a call on one object finds there, and the calls that look at one: each is told once, and both its forms cite it.
 use Rattle.std.specs.Prelude.{◌≡◌, ◌<◌, ◌+◌, ◌++◌, ℕ, ℤ, Bool, true, List, ◌∷◌, Some, Result, length, take, drop}
-use Rattle.std.specs.Str.{bytes_eq}
+use Rattle.std.specs.Str.{IsUtf8, bytes_eq}
 use Rattle.std.specs.declared.string.String.{String}
 use Rattle.std.specs.String.{string_bytes, string_len, string_capacity}
 use Rattle.brc_words.specs.declared.fault.Fault.{Fault}
@@ -23,8 +23,13 @@ use Rattle.brc_things.specs.Called.{Looked}
 abbrev pub IsInt : Contents → Type 0
 IsInt found = kind_in found ≡ kinds.Int
 
+-- a list of bytes; and one that is a text, since its bytes are UTF-8
+abbrev pub HoldsBytes : Contents → Type 0
+HoldsBytes found = kind_in found ≡ kinds.Text
+
 abbrev pub IsText : Contents → Type 0
-IsText found = kind_in found ≡ kinds.Text
+IsText (contents.Text text) = IsUtf8 text
+IsText _ = ⊥
 
 abbrev pub HoldsContainer : Contents → Type 0
 HoldsContainer found = is_container (kind_in found) ≡ true
@@ -74,15 +79,20 @@ module _ {A : Type 0} where
   IntOf old new k result = Looked old new (λ number. LooksAt old new k (contents.Int number))
       (RefusedLook old new k IsInt) result
 
-  -- the text in the place, of which memory for a copy may be missing
+  -- the bytes in the place, of which memory for a copy may be missing
+  abbrev pub BytesOf : FrameSeen A → FrameSeen A → ℕ → Result (List ℕ) Fault → Type 0
+  BytesOf old new k result = Looked old new (λ bytes. LooksAt old new k (contents.Text bytes))
+      (RefusedCopy old new k HoldsBytes) result
+
+  -- the same of a text: other bytes are of another kind
   abbrev pub TextOf : FrameSeen A → FrameSeen A → ℕ → Result (List ℕ) Fault → Type 0
-  TextOf old new k result = Looked old new (λ text. LooksAt old new k (contents.Text text))
+  TextOf old new k result = Looked old new (λ text. LooksAt old new k (contents.Text text) × IsUtf8 text)
       (RefusedCopy old new k IsText) result
 
   -- the same of a call that puts a text into a buffer, and wants memory only where the buffer has no room for it
   abbrev pub RefusedInto : {B : Type 0} → FrameSeen A → FrameSeen A → ℕ → String B → Fault → Type 0
   RefusedInto old new k buffer faults.OutOfMemory =
-      (text : List ℕ) × LooksAt old new k (contents.Text text)
+      (text : List ℕ) × LooksAt old new k (contents.Text text) × IsUtf8 text
       × (string_capacity buffer < string_len buffer + length text)
   RefusedInto old new k buffer fault = RefusedLook old new k IsText fault
 
@@ -90,19 +100,26 @@ module _ {A : Type 0} where
   abbrev pub TextInto : {B : Type 0} → FrameSeen A → FrameSeen A → ℕ → String B → String B
       → Result (Unit {0}) Fault → Type 0
   TextInto old new k had has result =
-      Looked old new (λ done. (text : List ℕ) × LooksAt old new k (contents.Text text)
+      Looked old new (λ done. (text : List ℕ) × LooksAt old new k (contents.Text text) × IsUtf8 text
       × (string_bytes has ≡ string_bytes had ++ text))
       (RefusedInto old new k had) result
 
-  -- how long the text in the place is, and its bytes from one on, in room that had `had` and has `has`
+  -- how many bytes are in the place, and these from one on, in room that had `had` and has `has`
+  abbrev pub BytesShown : FrameSeen A → FrameSeen A → ℕ → ℕ → List ℕ → List ℕ → Result ℕ Fault → Type 0
+  BytesShown old new k from had has result =
+      Looked old new (λ len. (bytes : List ℕ) × LooksAt old new k (contents.Text bytes) × (length bytes ≡ len)
+      × (has ≡ shown_from bytes from had))
+      (RefusedLook old new k HoldsBytes) result
+
+  -- the same of a text
   abbrev pub TextShown : FrameSeen A → FrameSeen A → ℕ → ℕ → List ℕ → List ℕ → Result ℕ Fault → Type 0
   TextShown old new k from had has result =
-      Looked old new (λ len. (text : List ℕ) × LooksAt old new k (contents.Text text) × (length text ≡ len)
+      Looked old new (λ len. (text : List ℕ) × LooksAt old new k (contents.Text text) × IsUtf8 text × (length text ≡ len)
       × (has ≡ shown_from text from had))
       (RefusedLook old new k IsText) result
 
-  -- whether the text in the place has just these bytes
+  -- whether the bytes in the place are just these
   abbrev pub TextIs : FrameSeen A → FrameSeen A → ℕ → List ℕ → Result Bool Fault → Type 0
   TextIs old new k bytes result =
       Looked old new (λ same. (text : List ℕ) × LooksAt old new k (contents.Text text) × (same ≡ bytes_eq text bytes))
-      (RefusedLook old new k IsText) result
+      (RefusedLook old new k HoldsBytes) result

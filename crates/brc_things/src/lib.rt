@@ -48,11 +48,15 @@ pub use laws::{calls_on_an_object_are_one_history, lost_tries_change_nothing};
 pub use lists::{try_list_get, try_list_pop, try_list_push, try_list_set, try_list_take};
 pub use looking::{copy_prefix, show_from};
 pub use mailboxes::{try_recv, try_send};
-pub use makers::{new_dict, new_int, new_list, new_mailbox, new_text, none, truth};
+pub use makers::{
+    new_dict, new_dict_with_room, new_int, new_list, new_list_with_room, new_mailbox, new_text,
+    none, truth,
+};
 pub use placing::{dict_key_by, try_dict_key_by};
 pub use putting::{dict_put, dict_set, try_dict_put, try_dict_set};
 pub use readers::{
-    try_int_of, try_kind_of, try_len_of, try_text_into, try_text_is, try_text_of, try_text_shown,
+    try_bytes_of, try_bytes_shown, try_int_of, try_kind_of, try_len_of, try_text_into, try_text_is,
+    try_text_of, try_text_shown,
 };
 pub use swap_if::{dict_swap_if, list_swap_if, try_dict_swap_if, try_list_swap_if};
 pub use value::{Pair, SwapIf, Value};
@@ -65,4 +69,4 @@ pub use valued_late::{
     list_take_value, recv_value, send_value,
 };
 pub use waiting_calls::{list_get, list_pop, list_push, list_set, list_take, recv, send};
-pub use waiting_readers::{int_of, kind_of, len_of, text_into, text_of};
+pub use waiting_readers::{bytes_of, int_of, kind_of, len_of, text_into, text_of};

@@ -2,12 +2,12 @@
 
 ghost use Rattle.std.specs.Prelude.{◌≡◌, ◌<◌, ◌+◌, ◌++◌, ℕ, List, IfSome, IfNone, OnOk, OnErr, IsTrue, IsFalse};
 ghost use Rattle.std.specs.Prelude.{length, take, drop};
-ghost use Rattle.std.specs.Str.{bytes_eq};
+ghost use Rattle.std.specs.Str.{IsUtf8, bytes_eq};
 ghost use Rattle.std.specs.String.{string_bytes, string_len, string_capacity};
 ghost use Rattle.brc_count.specs.law.declared.rule.contents.Contents.TheVariants as contents;
 ghost use Rattle.brc_count.specs.law.rule.Logs.{entries_in};
 ghost use Rattle.brc_count.specs.table.Shown.{contents_of};
-ghost use Rattle.brc_things.specs.Looking.{IsInt, IsText, HoldsContainer, shown_from};
+ghost use Rattle.brc_things.specs.Looking.{IsInt, IsText, HoldsBytes, HoldsContainer, shown_from};
 
 use brc_count::block::{Entries, Payload};
 use brc_words::Text;
@@ -38,10 +38,21 @@ pub(crate) fn int_in<A: Allocator>(payload: &Payload<A>) -> Option<i64>
     }
 }
 
-/// Whether it is a text's.
+/// Whether it is a text's: bytes that are UTF-8.
 pub(crate) fn is_text<A: Allocator>(payload: &Payload<A>) -> bool
     ensures text { IsTrue result → IsText (contents_of payload.now) }
     ensures other { IsFalse result → IsText (contents_of payload.now) → ⊥ }
+{
+    match payload {
+        Payload::Text(text) => text.as_str().is_some(),
+        _ => false,
+    }
+}
+
+/// Whether it has bytes, of a text or not.
+pub(crate) fn holds_bytes<A: Allocator>(payload: &Payload<A>) -> bool
+    ensures bytes { IsTrue result → HoldsBytes (contents_of payload.now) }
+    ensures other { IsFalse result → HoldsBytes (contents_of payload.now) → ⊥ }
 {
     match payload {
         Payload::Text(_) => true,
@@ -49,14 +60,15 @@ pub(crate) fn is_text<A: Allocator>(payload: &Payload<A>) -> bool
     }
 }
 
-/// A copy of a text's; None where memory is missing.
-pub(crate) fn copy_of_text<A: Allocator>(alloc: A, payload: &Payload<A>) -> Option<Text<A>>
-    requires text { IsText (contents_of payload.now) }
-    ensures { IfSome result (λ text. contents_of payload.now ≡ contents.Text text) }
+/// A copy of its bytes; None where memory is missing.
+pub(crate) fn copy_of_bytes<A: Allocator>(alloc: A, payload: &Payload<A>) -> Option<Text<A>>
+    requires bytes { HoldsBytes (contents_of payload.now) }
+    ensures copied { IfSome result (λ bytes. contents_of payload.now ≡ contents.Text bytes) }
+    ensures text { IfSome result (λ bytes. IsText (contents_of payload.now) → IsUtf8 bytes) }
 {
     match payload {
-        Payload::Text(text) => match String::from_str(alloc, text.as_str()) {
-            Ok(copy) => Some(Text::new(copy)),
+        Payload::Text(text) => match text.copy(alloc) {
+            Ok(copy) => Some(copy),
             Err(_) => None,
         },
         _ => unreachable!(),
@@ -69,15 +81,18 @@ pub(crate) fn append_text<A: Allocator, B: Allocator>(
     buffer: &mut String<B>,
 ) -> Result<(), AllocError>
     requires text { IsText (contents_of payload.now) }
-    ensures appended { OnOk result ((text : List ℕ) × (contents_of payload.now ≡ contents.Text text)
+    ensures appended { OnOk result ((text : List ℕ) × (contents_of payload.now ≡ contents.Text text) × IsUtf8 text
         × (string_bytes buffer.new ≡ string_bytes buffer.old ++ text)) }
-    ensures full { OnErr result ((text : List ℕ) × (contents_of payload.now ≡ contents.Text text)
+    ensures full { OnErr result ((text : List ℕ) × (contents_of payload.now ≡ contents.Text text) × IsUtf8 text
         × (string_capacity buffer.old < string_len buffer.old + length text)) }
     ensures unchanged { OnErr result (string_bytes buffer.new ≡ string_bytes buffer.old) }
 {
-    match payload {
-        Payload::Text(text) => buffer.push_str(text.as_str()),
-        _ => unreachable!(),
+    let Payload::Text(text) = payload else {
+        unreachable!()
+    };
+    match text.as_str() {
+        Some(text) => buffer.push_str(text),
+        None => unreachable!(),
     }
 }
 
@@ -102,31 +117,51 @@ pub fn show_from(text: &[u8], from: usize, to: &mut [u8]) -> usize
     text.len()
 }
 
-/// How long a text's is, and its bytes from one on, as many as there is room for; None for anything else.
+/// How many bytes it has, and these from one on, as many as there is room for; None where it has none.
+pub(crate) fn show_bytes<A: Allocator>(
+    payload: &Payload<A>,
+    from: usize,
+    to: &mut [u8],
+) -> Option<usize>
+    ensures shown { IfSome result (λ len. (bytes : List ℕ) × (contents_of payload.now ≡ contents.Text bytes)
+        × (length bytes ≡ len) × (to.new ≡ shown_from bytes from to.old)) }
+    ensures other { IfNone result (HoldsBytes (contents_of payload.now) → ⊥) }
+    ensures unchanged { IfNone result (to.new ≡ to.old) }
+{
+    match payload {
+        Payload::Text(text) => Some(show_from(text.as_bytes(), from, to)),
+        _ => None,
+    }
+}
+
+/// The same of a text's alone.
 pub(crate) fn show_text<A: Allocator>(
     payload: &Payload<A>,
     from: usize,
     to: &mut [u8],
 ) -> Option<usize>
-    ensures shown { IfSome result (λ len. (text : List ℕ) × (contents_of payload.now ≡ contents.Text text)
+    ensures shown { IfSome result (λ len. (text : List ℕ) × (contents_of payload.now ≡ contents.Text text) × IsUtf8 text
         × (length text ≡ len) × (to.new ≡ shown_from text from to.old)) }
     ensures other { IfNone result (IsText (contents_of payload.now) → ⊥) }
     ensures unchanged { IfNone result (to.new ≡ to.old) }
 {
     match payload {
-        Payload::Text(text) => Some(show_from(text.as_str().as_bytes(), from, to)),
+        Payload::Text(text) => match text.as_str() {
+            Some(text) => Some(show_from(text.as_bytes(), from, to)),
+            None => None,
+        },
         _ => None,
     }
 }
 
-/// Whether a text's has just these bytes; None for anything else.
-pub(crate) fn text_has<A: Allocator>(payload: &Payload<A>, bytes: &[u8]) -> Option<bool>
+/// Whether it has just these bytes; None where it has none.
+pub(crate) fn bytes_are<A: Allocator>(payload: &Payload<A>, bytes: &[u8]) -> Option<bool>
     ensures same { IfSome result (λ same. (text : List ℕ) × (contents_of payload.now ≡ contents.Text text)
         × (same ≡ bytes_eq text bytes.now)) }
-    ensures other { IfNone result (IsText (contents_of payload.now) → ⊥) }
+    ensures other { IfNone result (HoldsBytes (contents_of payload.now) → ⊥) }
 {
     match payload {
-        Payload::Text(text) => Some(text.as_str().as_bytes() == bytes),
+        Payload::Text(text) => Some(text.as_bytes() == bytes),
         _ => None,
     }
 }

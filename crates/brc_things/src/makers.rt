@@ -12,7 +12,7 @@ ghost use Rattle.brc_things.specs.Makers.{small_cell, truth_cell, Answered, Refu
 use brc_count::biased::HasTable;
 use brc_count::block::{CellList, Letters, Pairs, Payload};
 use brc_count::{Frame, HandedBack, Handle};
-use brc_words::{Fault, MOST_BIRTHS, MOST_PLACES, Text};
+use brc_words::{Fault, MOST_BIRTHS, MOST_ENTRIES, MOST_PLACES, Text};
 use std::alloc::Allocator;
 
 /// None, which is cell 0. FrameFull, then OutOfMemory; a refusal changes nothing.
@@ -171,6 +171,63 @@ fn may_be_born<H: HasTable<A>, A: Allocator>(frame: &Frame<H, A>) -> Result<(), 
         return Err(Fault::LedgerFull);
     }
     Ok(())
+}
+
+/// A new empty list, with memory for so many entries, at most as many as there can be. The faults come in the order
+/// FrameFull, LedgerFull, OutOfMemory, HeapFull.
+#[inline(always)]
+pub fn new_list_with_room<H: HasTable<A>, A: Allocator + Copy>(
+    alloc: A,
+    frame: &mut Frame<H, A>,
+    entries: usize,
+) -> Result<Handle<A>, Fault>
+    requires unlocked { IsUnlocked frame.old }
+    ensures heap { frame.new.heap ≡ frame.old.heap }
+    ensures made { IfOk result (Made frame.old frame.new (contents.«List» [])) }
+    ensures refused { IfErr result (RefusedMaking frame.old frame.new) }
+
+    ensures gains { IfOk result (Gains frame.old frame.new) }
+    ensures keeps { OnErr result (Keeps frame.old frame.new) }
+    ensures unlocked { IsUnlocked frame.new }
+{
+    if let Err(fault) = may_be_born(frame) {
+        return Err(fault);
+    }
+    let Ok(room) = Vec::with_capacity(alloc, entries.min(MOST_ENTRIES as usize)) else {
+        return Err(Fault::OutOfMemory);
+    };
+    match frame.born(alloc, Payload::List(CellList::new(room))) {
+        Ok(handle) => Ok(handle),
+        Err(handed) => Err(handed.fault),
+    }
+}
+
+/// A new empty dictionary, with memory for so many pairs, at most as many as there can be. The faults come in the order
+/// FrameFull, LedgerFull, OutOfMemory, HeapFull.
+pub fn new_dict_with_room<H: HasTable<A>, A: Allocator + Copy>(
+    alloc: A,
+    frame: &mut Frame<H, A>,
+    pairs: usize,
+) -> Result<Handle<A>, Fault>
+    requires unlocked { IsUnlocked frame.old }
+    ensures heap { frame.new.heap ≡ frame.old.heap }
+    ensures made { IfOk result (Made frame.old frame.new (contents.Dict [])) }
+    ensures refused { IfErr result (RefusedMaking frame.old frame.new) }
+
+    ensures gains { IfOk result (Gains frame.old frame.new) }
+    ensures keeps { OnErr result (Keeps frame.old frame.new) }
+    ensures unlocked { IsUnlocked frame.new }
+{
+    if let Err(fault) = may_be_born(frame) {
+        return Err(fault);
+    }
+    let Ok(room) = Pairs::with_room(alloc, pairs.min(MOST_ENTRIES as usize)) else {
+        return Err(Fault::OutOfMemory);
+    };
+    match frame.born(alloc, Payload::Dict(room)) {
+        Ok(handle) => Ok(handle),
+        Err(handed) => Err(handed.fault),
+    }
 }
 
 /// A new empty mailbox, with memory for its queue. The faults come in the order FrameFull, LedgerFull, OutOfMemory, HeapFull.

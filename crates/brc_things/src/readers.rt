@@ -4,10 +4,11 @@ ghost use Rattle.std.specs.Prelude.{◌≡◌, OnErr};
 ghost use Rattle.std.specs.String.{string_bytes};
 ghost use Rattle.brc_count.specs.Frames.{IsUnlocked, Owns};
 ghost use Rattle.brc_count.specs.Owned.{Keeps};
-ghost use Rattle.brc_things.specs.Looking.{KindOf, LenOf, IntOf, TextOf, TextInto, TextShown, TextIs};
+ghost use Rattle.brc_things.specs.Looking.{KindOf, LenOf, IntOf, BytesOf, TextOf, TextInto, BytesShown, TextShown, TextIs};
 
 use crate::looking::{
-    append_text, container_len, copy_of_text, int_in, is_text, show_text, text_has,
+    append_text, bytes_are, container_len, copy_of_bytes, holds_bytes, int_in, is_text, show_bytes,
+    show_text,
 };
 use brc_count::biased::HasTable;
 use brc_count::{Frame, Handle};
@@ -78,8 +79,36 @@ pub fn try_int_of<H: HasTable<A>, A: Allocator>(
     }
 }
 
-/// A copy of a text. Busy where another thread has the object locked, then WrongKind where it is no text, then
-/// OutOfMemory.
+/// A copy of a list of bytes, of a text or not. Busy where another thread has the object locked, then WrongKind where it is
+/// none, then OutOfMemory.
+pub fn try_bytes_of<H: HasTable<A>, A: Allocator>(
+    alloc: A,
+    frame: &mut Frame<H, A>,
+    handle: &Handle<A>,
+) -> Result<Text<A>, Fault>
+    requires owned { Owns frame.old handle.now }
+    requires unlocked { IsUnlocked frame.old }
+    ensures looked { BytesOf frame.old frame.new handle.now.place result }
+    ensures keeps { Keeps frame.old frame.new }
+    ensures unlocked { IsUnlocked frame.new }
+{
+    let Some(block) = frame.begin(handle) else {
+        return Err(Fault::Busy);
+    };
+    if !holds_bytes(block.payload()) {
+        frame.end_keep(block);
+        return Err(Fault::WrongKind);
+    }
+    let copy = copy_of_bytes(alloc, block.payload());
+    frame.end_keep(block);
+    match copy {
+        Some(bytes) => Ok(bytes),
+        None => Err(Fault::OutOfMemory),
+    }
+}
+
+/// A copy of a text. Busy where another thread has the object locked, then WrongKind where it is no text, as bytes are that
+/// aren't UTF-8, then OutOfMemory.
 pub fn try_text_of<H: HasTable<A>, A: Allocator>(
     alloc: A,
     frame: &mut Frame<H, A>,
@@ -98,7 +127,7 @@ pub fn try_text_of<H: HasTable<A>, A: Allocator>(
         frame.end_keep(block);
         return Err(Fault::WrongKind);
     }
-    let copy = copy_of_text(alloc, block.payload());
+    let copy = copy_of_bytes(alloc, block.payload());
     frame.end_keep(block);
     match copy {
         Some(text) => Ok(text),
@@ -136,6 +165,32 @@ pub fn try_text_into<H: HasTable<A>, A: Allocator, B: Allocator>(
     }
 }
 
+/// How many bytes a list of bytes has, and these from one on, as many as there is room for. Busy where another thread has the
+/// object locked, then WrongKind where it is none. It takes no memory.
+pub fn try_bytes_shown<H: HasTable<A>, A: Allocator>(
+    frame: &mut Frame<H, A>,
+    handle: &Handle<A>,
+    from: usize,
+    to: &mut [u8],
+) -> Result<usize, Fault>
+    requires owned { Owns frame.old handle.now }
+    requires unlocked { IsUnlocked frame.old }
+    ensures looked { BytesShown frame.old frame.new handle.now.place from to.old to.new result }
+    ensures unchanged { OnErr result (to.new ≡ to.old) }
+    ensures keeps { Keeps frame.old frame.new }
+    ensures unlocked { IsUnlocked frame.new }
+{
+    let Some(block) = frame.begin(handle) else {
+        return Err(Fault::Busy);
+    };
+    let len = show_bytes(block.payload(), from, to);
+    frame.end_keep(block);
+    match len {
+        Some(len) => Ok(len),
+        None => Err(Fault::WrongKind),
+    }
+}
+
 /// How long a text is, and its bytes from one on, as many as there is room for. Busy where another thread has the object
 /// locked, then WrongKind where it is no text. It takes no memory.
 pub fn try_text_shown<H: HasTable<A>, A: Allocator>(
@@ -162,8 +217,8 @@ pub fn try_text_shown<H: HasTable<A>, A: Allocator>(
     }
 }
 
-/// Whether a text has just these bytes. Busy where another thread has the object locked, then WrongKind where it is no
-/// text. It takes no memory.
+/// Whether a list of bytes has just these. Busy where another thread has the object locked, then WrongKind where it is none.
+/// It takes no memory.
 pub fn try_text_is<H: HasTable<A>, A: Allocator>(
     frame: &mut Frame<H, A>,
     handle: &Handle<A>,
@@ -178,7 +233,7 @@ pub fn try_text_is<H: HasTable<A>, A: Allocator>(
     let Some(block) = frame.begin(handle) else {
         return Err(Fault::Busy);
     };
-    let same = text_has(block.payload(), bytes);
+    let same = bytes_are(block.payload(), bytes);
     frame.end_keep(block);
     match same {
         Some(same) => Ok(same),

@@ -8,10 +8,10 @@ ghost use Rattle.brc_words.specs.declared.fault.Fault.TheVariants as faults;
 ghost use Rattle.brc_count.specs.Frames.{IsUnlocked, Owns};
 ghost use Rattle.brc_count.specs.Owned.{Keeps};
 ghost use Rattle.brc_things.specs.Called.{Late};
-ghost use Rattle.brc_things.specs.Looking.{KindOf, LenOf, IntOf, TextOf, TextInto};
+ghost use Rattle.brc_things.specs.Looking.{KindOf, LenOf, IntOf, BytesOf, TextOf, TextInto};
 
 use crate::late::begin_late;
-use crate::looking::{append_text, container_len, copy_of_text, int_in, is_text};
+use crate::looking::{append_text, container_len, copy_of_bytes, holds_bytes, int_in, is_text};
 use brc_count::biased::HasTable;
 use brc_count::{Frame, Handle};
 use brc_words::{Fault, Kind, Text};
@@ -81,6 +81,34 @@ pub fn int_of<H: HasTable<A>, A: Allocator>(
     }
 }
 
+/// A copy of a list of bytes, of a text or not; WrongKind where the object is none, then OutOfMemory. It waits while another
+/// thread has it locked.
+pub fn bytes_of<H: HasTable<A>, A: Allocator>(
+    rt: &impl Wait,
+    alloc: A,
+    frame: &mut Frame<H, A>,
+    handle: &Handle<A>,
+) -> Result<Text<A>, Fault>
+    requires owned { Owns frame.old handle.now }
+    requires unlocked { IsUnlocked frame.old }
+    ensures looked { Late frame.old handle.now.place (λ mid. BytesOf mid frame.new handle.now.place result) }
+    ensures keeps { Keeps frame.old frame.new }
+    ensures unlocked { IsUnlocked frame.new }
+    ensures waited { IfErr result (λ fault. fault ≢ faults.Busy) }
+{
+    let block = begin_late(rt, frame, handle);
+    if !holds_bytes(block.payload()) {
+        frame.end_keep(block);
+        return Err(Fault::WrongKind);
+    }
+    let copy = copy_of_bytes(alloc, block.payload());
+    frame.end_keep(block);
+    match copy {
+        Some(bytes) => Ok(bytes),
+        None => Err(Fault::OutOfMemory),
+    }
+}
+
 /// A copy of a text; WrongKind where the object is none, then OutOfMemory. It waits while another thread has it locked.
 pub fn text_of<H: HasTable<A>, A: Allocator>(
     rt: &impl Wait,
@@ -100,7 +128,7 @@ pub fn text_of<H: HasTable<A>, A: Allocator>(
         frame.end_keep(block);
         return Err(Fault::WrongKind);
     }
-    let copy = copy_of_text(alloc, block.payload());
+    let copy = copy_of_bytes(alloc, block.payload());
     frame.end_keep(block);
     match copy {
         Some(text) => Ok(text),

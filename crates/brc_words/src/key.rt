@@ -1,6 +1,7 @@
 //! The keys of a dictionary.
 
-ghost use Rattle.std.specs.Prelude.{◌≡◌, ◌↔◌, nat_eq, IfOk, IsTrue};
+ghost use Rattle.std.specs.Prelude.{◌≡◌, ◌↔◌, nat_eq, fold, IfOk, IfSome, IfNone, IsTrue};
+ghost use Rattle.std.specs.Str.{IsUtf8};
 ghost use Rattle.std.specs.String.{string_bytes};
 ghost use Rattle.std.specs.Cmp.{partial_equiv_from_equiv, partial_order_from_own_ties};
 ghost use Rattle.std.specs.Cmp.Lexicographic.{pointwise, slice_cmp};
@@ -16,20 +17,19 @@ use std::cmp::Ordering;
 use std::hash::{Hash, Hasher};
 use std::marker::Model;
 
-/// A text, seen as its bytes.
+/// A list of bytes, seen as these. It is a text if they are UTF-8; whoever wants to know reads them.
 #[derive(Drop)]
 #[derive_where(Debug)]
 pub struct Text<A: Allocator> {
-    text: String<A>,
+    bytes: Vec<u8, A>,
 }
 
 impl<A: Allocator> Model for Text<A> {
     ghost use Rattle.std.specs.Prelude.{List, ℕ};
-    ghost use Rattle.std.specs.String.{string_bytes};
 
     ghost Value = { List ℕ };
 
-    ghost view = { λ t. string_bytes t.text };
+    ghost view = { λ t. t.bytes.items };
 }
 
 impl<A: Allocator> Text<A> {
@@ -37,23 +37,54 @@ impl<A: Allocator> Text<A> {
     pub fn new(text: String<A>) -> Self
         ensures { result ≡ string_bytes text }
     {
-        Text { text }
+        Text {
+            bytes: text.into_bytes(),
+        }
     }
 
-    /// The text as a string slice.
+    /// The bytes, whatever they are.
+    pub fn of_bytes(bytes: Vec<u8, A>) -> Self
+        ensures { result ≡ bytes.items }
+    {
+        Text { bytes }
+    }
+
+    /// The bytes.
     #[inline(always)]
-    pub fn as_str(&self) -> &str
+    pub fn as_bytes(&self) -> &[u8]
         ensures { result.now ≡ self.now }
     {
-        self.text.as_str()
+        self.bytes.as_slice()
     }
 
-    /// The same text once more, in memory of its own.
+    /// The bytes as a string slice, if they are UTF-8. It reads all of them to see.
+    pub fn as_str(&self) -> Option<&str>
+        ensures text { IfSome result (λ text. (text.now ≡ self.now) × IsUtf8 self.now) }
+        ensures other { IfNone result (IsUtf8 self.now → ⊥) }
+    {
+        match str::from_utf8(self.bytes.as_slice()) {
+            Ok(text) => Some(text),
+            Err(_other) => None,
+        }
+    }
+
+    /// The same bytes once more, in memory of their own.
     pub fn copy(&self, alloc: A) -> Result<Text<A>, AllocError>
         ensures { IfOk result (λ copy. copy ≡ self.now) }
     {
-        Ok(Text::new(String::from_str(alloc, self.as_str())?))
+        Ok(Text {
+            bytes: Vec::from_slice(alloc, self.bytes.as_slice())?,
+        })
     }
+}
+
+/// Feeds a hasher as a string slice of these bytes does.
+#[inline(always)]
+pub fn hash_bytes<H: Hasher>(bytes: &[u8], state: &mut H)
+    ensures { state.new ≡ fold H.write state.old (fed.str bytes.now) }
+{
+    state.write(bytes);
+    state.write_u8(0xff);
 }
 
 impl<A: Allocator> PartialEq for Text<A> {
@@ -62,7 +93,7 @@ impl<A: Allocator> PartialEq for Text<A> {
     ghost laws = { partial_equiv_from_equiv nat_list_eq_equiv };
 
     fn eq(&self, other: &Self) -> bool {
-        self.as_str() == other.as_str()
+        self.as_bytes() == other.as_bytes()
     }
 }
 
@@ -81,7 +112,7 @@ impl<A: Allocator> Ord for Text<A> {
     ghost matches_eq = { Prim.search (comparing, rules) };
 
     fn cmp(&self, other: &Self) -> Ordering {
-        self.as_str().cmp(other.as_str())
+        self.as_bytes().cmp(other.as_bytes())
     }
 }
 
@@ -102,7 +133,7 @@ impl<A: Allocator> Hash for Text<A> {
     ghost respects_eq = { Prim.search (hashing, rules) };
 
     fn hash<H: Hasher>(&self, state: &mut H) {
-        self.as_str().hash(state);
+        hash_bytes(self.as_bytes(), state);
     }
 }
 

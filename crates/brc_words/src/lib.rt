@@ -17,7 +17,7 @@ mod state;
 
 pub use entry::Entry;
 pub use fault::{Fault, Reason};
-pub use key::{Key, Text};
+pub use key::{Key, Text, hash_bytes};
 pub use kind::{Kind, is_container_kind, is_mortal_kind};
 pub use limits::{
     COUNTED_FROM, FEWEST_CELLS, FIRST_MORTAL, GLOBALS, IMMORTAL_LOCAL, MOST_BIRTHS, MOST_CELLS,

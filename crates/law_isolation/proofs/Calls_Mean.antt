@@ -14,7 +14,7 @@ use Rattle.brc_count.specs.declared.handed.HandedBack.{HandedBack}
 use Rattle.brc_count.specs.Frames.{FrameSeen, HandleSeen}
 use Rattle.brc_handles.specs.Handles.{slot, IsApart}
 use Rattle.brc_things.specs.Called.{Late}
-use Rattle.brc_things.specs.Looking.{LenOf, IntOf, TextOf, KindOf}
+use Rattle.brc_things.specs.Looking.{LenOf, IntOf, BytesOf, KindOf}
 use Rattle.brc_things.specs.List_Calls.{ListPush, ListPop, ListGet, ListSet, MailboxSend, MailboxReceive}
 use Rattle.brc_things.specs.Dict_Calls.{DictPut, DictFind, DictDel}
 use Rattle.brc_meaning.specs.declared.reference.Reference.{Reference}
@@ -181,7 +181,7 @@ module _ {A : Type 0} (base : ℕ) (old new : FrameSeen A) (registers : List (Op
     int_means result late busy = int_read base old new registers s own container h in_register means result late busy
 
     -- a refusal for want of memory says that there is a text all the same
-    pub text_means : (result : Result (List ℕ) Fault) → Late old h.place (λ mid. TextOf mid new h.place result)
+    pub text_means : (result : Result (List ℕ) Fault) → Late old h.place (λ mid. BytesOf mid new h.place result)
         → IfErr result (λ fault. fault ≢ faults.Busy)
         → Means base new registers s × Finds container s (λ object. MatchResult result
         (λ text. object ≡ objects.Text text)

@@ -21,8 +21,8 @@ use Rattle.brc_count.specs.Locking.{KeepsThread, KeepsFrame}
 use Rattle.brc_handles.specs.Handles.{slot}
 use Rattle.brc_things.specs.Waiting.{Waits}
 use Rattle.brc_things.proofs.Waited.{waits_frame}
-use Rattle.brc_things.specs.Looking.{IsInt, IsText, HoldsContainer, LooksAt, RefusedLook, RefusedCopy, LenOf, IntOf}
-use Rattle.brc_things.specs.Looking.{TextOf, KindOf}
+use Rattle.brc_things.specs.Looking.{IsInt, HoldsBytes, HoldsContainer, LooksAt, RefusedLook, RefusedCopy, LenOf, IntOf}
+use Rattle.brc_things.specs.Looking.{BytesOf, KindOf}
 use Rattle.brc_things.specs.Called.{Late}
 use Rattle.brc_meaning.specs.declared.reference.Reference.{Reference}
 use Rattle.brc_meaning.specs.declared.object.Object.{Object}
@@ -194,7 +194,7 @@ module _ {A : Type 0} (base : ℕ) (old new : FrameSeen A) (registers : List (Op
       looked late.0 late.1 late.2.thread late.2.frame why.1.0 why.1.1 (λ object. number_in object ≡ Err fault)
       (λ object is. number_none means.cells object (λ fits. why.1.2 (subst IsInt (sym is) fits)) ∙ ap Err (sym why.0))
 
-  pub text_read : (result : Result (List ℕ) Fault) → Late old h.place (λ mid. TextOf mid new h.place result)
+  pub text_read : (result : Result (List ℕ) Fault) → Late old h.place (λ mid. BytesOf mid new h.place result)
       → IfErr result (λ fault. fault ≢ faults.Busy)
       → Means base new registers s × Finds container s (λ object. MatchResult result
       (λ text. object ≡ objects.Text text)
@@ -204,7 +204,7 @@ module _ {A : Type 0} (base : ℕ) (old new : FrameSeen A) (registers : List (Op
       (λ object. object ≡ objects.Text text)
       (λ object is. text_shown means.cells object text is)
   text_read (Err fault) late busy =
-      let why = copy_misfit late.0 new h.place IsText fault busy late.2.refused in
+      let why = copy_misfit late.0 new h.place HoldsBytes fault busy late.2.refused in
       looked late.0 late.1 late.2.thread late.2.frame why.0 why.1 (λ object. fault ≢ faults.OutOfMemory
       → (fault ≡ faults.WrongKind) × (kind_meant object ≢ kinds.Text))
       (λ object is other. (

@@ -11,7 +11,7 @@ ghost use Rattle.brc_count.specs.declared.handed.HandedBack.{HandedBack as hande
 ghost use Rattle.brc_count.specs.Frames.{FrameSeen as frame, HandleSeen as handle};
 ghost use Rattle.brc_handles.specs.Handles.{slot, IsApart};
 ghost use Rattle.brc_things.specs.Called.{Late};
-ghost use Rattle.brc_things.specs.Looking.{KindOf, LenOf, IntOf, TextOf};
+ghost use Rattle.brc_things.specs.Looking.{KindOf, LenOf, IntOf, BytesOf};
 ghost use Rattle.brc_things.specs.List_Calls.{ListPush, ListPop, ListGet, ListSet, MailboxSend, MailboxReceive};
 ghost use Rattle.brc_things.specs.Dict_Calls.{DictPut, DictFind, DictDel};
 ghost use Rattle.brc_meaning.specs.declared.reference.Reference.{Reference as reference};
@@ -135,7 +135,7 @@ pub fn looks_tell_what_is_meant<A>()
     ensures text { (base : ℕ) (old new : frame A) (registers : List (Option handle)) (s : state A)
         → OwnLog new.heap.cells new.seat.log → (container : ℕ) (h : handle)
         → slot registers container ≡ Some h → Means base old registers s
-        → (result : Result (List ℕ) fault) → Late old h.place (λ mid. TextOf mid new h.place result)
+        → (result : Result (List ℕ) fault) → Late old h.place (λ mid. BytesOf mid new h.place result)
         → IfErr result (λ fault. fault ≢ faults.Busy)
         → Means base new registers s × Finds container s (λ object. MatchResult result
         (λ text. object ≡ objects.Text text) (λ fault. fault ≢ faults.OutOfMemory

@@ -88,13 +88,13 @@ impl<'p> Machine<'p> {
             Instruction::Store(place) => stack.store(frame, place),
             Instruction::Append => stack.take(rt, alloc, frame, TakeBy::Push),
             Instruction::Put(name) => {
-                stack.take(rt, alloc, frame, TakeBy::Put(KeyRef::Text(name)))
+                stack.take(rt, alloc, frame, TakeBy::Put(KeyRef::Text(name.as_bytes())))
             }
             Instruction::Send => stack.take(rt, alloc, frame, TakeBy::Send),
             Instruction::Last => stack.give(rt, frame, GiveBy::Pop),
             Instruction::Get(index) => stack.give(rt, frame, GiveBy::Get(index)),
-            Instruction::Find(name) => stack.give(rt, frame, GiveBy::Find(KeyRef::Text(name))),
-            Instruction::Delete(name) => stack.give(rt, frame, GiveBy::Delete(KeyRef::Text(name))),
+            Instruction::Find(name) => stack.give(rt, frame, GiveBy::Find(KeyRef::Text(name.as_bytes()))),
+            Instruction::Delete(name) => stack.give(rt, frame, GiveBy::Delete(KeyRef::Text(name.as_bytes()))),
             Instruction::Receive => stack.give(rt, frame, GiveBy::Receive),
             Instruction::Add => self.add(rt, frame, stack),
             Instruction::Tell | Instruction::Jump(_) | Instruction::JumpIfZero(_) => Ok(()),

@@ -1,7 +1,7 @@
 //! How an instruction is shown.
 
 use brc_script::{Instruction, Register};
-use brc_words::Key;
+use brc_words::{Key, Text};
 use std::alloc::{AllocError, Global};
 
 /// Text was added, or memory is wanting.
@@ -30,10 +30,15 @@ fn put_number(text: &mut String, number: i64) -> Put {
     write!(text, " {number}")
 }
 
+/// A text of a script, which is UTF-8.
+fn shown(text: &Text<Global>) -> &str {
+    text.as_str().unwrap_or("NOT UTF-8")
+}
+
 fn put_key(text: &mut String, key: &Key<Global>) -> Put {
     match key {
         Key::Int(number) => put_number(text, *number),
-        Key::Text(name) => write!(text, " '{}", name.as_str()),
+        Key::Text(name) => write!(text, " '{}", shown(name)),
     }
 }
 
@@ -65,7 +70,7 @@ fn put_with_words(text: &mut String, instruction: &Instruction<Global>) -> Put {
         }
         Instruction::Text { to, text: letters } => {
             put(text, "Text", &[*to])?;
-            put_word(text, letters.as_str())
+            put_word(text, shown(letters))
         }
         Instruction::Get { to, list, index } => {
             put(text, "Get", &[*to, *list])?;
@@ -98,16 +103,16 @@ fn put_with_names(text: &mut String, instruction: &Instruction<Global>) -> Put {
     match instruction {
         Instruction::Share { name, value } => {
             text.push_str("Share")?;
-            put_word(text, name.as_str())?;
+            put_word(text, shown(name))?;
             put_registers(text, &[*value])
         }
         Instruction::Fetch { to, name } => {
             put(text, "Fetch", &[*to])?;
-            put_word(text, name.as_str())
+            put_word(text, shown(name))
         }
         Instruction::Unshare { to, name } => {
             put(text, "Unshare", &[*to])?;
-            put_word(text, name.as_str())
+            put_word(text, shown(name))
         }
         _ => text.push_str("NOT SHOWN"),
     }

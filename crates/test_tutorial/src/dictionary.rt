@@ -63,9 +63,9 @@ pub(crate) fn puts_and_finds(rt: &impl Wait, alloc: Global, frame: &mut Frame<'_
     let Ok(dict) = new_dict(alloc, frame) else {
         return None;
     };
-    let _first = puts(rt, alloc, frame, &dict, KeyRef::Text("width"), 640);
-    let _second = puts(rt, alloc, frame, &dict, KeyRef::Text("width"), 1_280);
-    let width = finds(rt, frame, &dict, KeyRef::Text("width"));
+    let _first = puts(rt, alloc, frame, &dict, KeyRef::Text(b"width"), 640);
+    let _second = puts(rt, alloc, frame, &dict, KeyRef::Text(b"width"), 1_280);
+    let width = finds(rt, frame, &dict, KeyRef::Text(b"width"));
     frame.release(dict);
     width
 }

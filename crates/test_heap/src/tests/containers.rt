@@ -172,7 +172,7 @@ pub(super) fn reads<R: Abort + Wait, H: HasTable<A>, A: Allocator + Copy>(
                 Way::AtOnce => try_text_at(asked.objects, frame, handles, place),
             };
             match text {
-                Ok(text) => Came::Said(text.as_str() == asked.given.answer),
+                Ok(text) => Came::Said(text.as_bytes() == asked.given.answer.as_bytes()),
                 Err(fault) => Came::Refused(fault),
             }
         }

@@ -123,7 +123,7 @@ fn makes_text<H: HasTable<A>, A: Allocator + Copy>(
             Came::Cell(cell)
         }
         Err(HandedBack { fault, value: back }) => {
-            assert!(rt; back.as_str() == asked.given.what);
+            assert!(rt; back.as_bytes() == asked.given.what.as_bytes());
             Came::Refused(fault)
         }
     }

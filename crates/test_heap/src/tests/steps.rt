@@ -268,7 +268,7 @@ impl<'s, A: Allocator + Copy> Asked<'s, A> {
     pub(super) fn key_ref(&self) -> KeyRef<'s> {
         match self.given.beside {
             Beside::Int(number) => KeyRef::Int(number),
-            Beside::Text(text) => KeyRef::Text(text),
+            Beside::Text(text) => KeyRef::Text(text.as_bytes()),
             Beside::Count => KeyRef::Int(i64::from(self.count)),
         }
     }
@@ -278,8 +278,8 @@ impl<'s, A: Allocator + Copy> Asked<'s, A> {
         let (ample, key) = (self.ample, self.key_ref());
         match key {
             KeyRef::Int(number) => Key::Int(number),
-            KeyRef::Text(text) => {
-                Key::Text(Text::new(String::from_str(ample, text).expect(rt, "memory")))
+            KeyRef::Text(bytes) => {
+                Key::Text(Text::of_bytes(Vec::from_slice(ample, bytes).expect(rt, "memory")))
             }
         }
     }

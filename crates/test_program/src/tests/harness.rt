@@ -18,7 +18,7 @@ fn add_end(
     end: &SectionEnd<Global>,
     told: &mut String,
 ) -> Result<(), Fault> {
-    let name = section.name.as_str();
+    let name = section.name.as_str().unwrap_or("NOT UTF-8");
     if let Ok(lines) = str::from_utf8(end.lines.as_slice()) {
         for line in lines.lines() {
             let told_line = format!(in alloc; "{name}: {line}\n")?;

@@ -11,7 +11,7 @@ use Rattle.brc_c.proofs.dicts.brc_dict_del_text.Goals as goal
 
 pub returns-in-Ok-clause-does : goal.returns-in-Ok-clause-does
 returns-in-Ok-clause-does c =
-    let did : Gives (DeletesByText c.in-Ok.key.now) c.args.dict
+    let did : Gives (DeletesByText c.args.key.now) c.args.dict
     c.in-Some.client.now c.give.new.self c.give.result =
     record {
       gave = c.give.ensures.gave;
@@ -24,8 +24,7 @@ returns-in-Ok-clause-does c =
       answer = c.give.result;
       made = IsMade c.in-Some.client.now c.give.new.self
           (works_at _ _ _ c.in-Some.ensures.value c.as_mut.ensures.value) refl
-          (inl (subst (λ (text : List ℕ). Gives (DeletesByText text) c.args.dict
-          c.in-Some.client.now c.give.new.self c.give.result) c.in-Ok.ensures.text did));
+          (inl did);
       told = c.write.ensures.code;
       written = c.write.ensures.written;
     }

@@ -11,7 +11,7 @@ use Rattle.brc_c.proofs.dicts.brc_dict_put_text.Goals as goal
 
 pub returns-in-Ok-clause-does : goal.returns-in-Ok-clause-does
 returns-in-Ok-clause-does c =
-    let did : Takes (PutsByText c.in-Ok.key.now) c.args.dict c.args.value
+    let did : Takes (PutsByText c.args.key.now) c.args.dict c.args.value
     c.in-Some.client.now c.take.new.self c.take.result =
     record {
       took = c.take.ensures.took;
@@ -24,8 +24,7 @@ returns-in-Ok-clause-does c =
       answer = c.take.result;
       made = IsMade c.in-Some.client.now c.take.new.self
           (works_at _ _ _ c.in-Some.ensures.value c.as_mut.ensures.value) refl
-          (inl (subst (λ (text : List ℕ). Takes (PutsByText text) c.args.dict c.args.value
-          c.in-Some.client.now c.take.new.self c.take.result) c.in-Ok.ensures.text did));
+          (inl did);
       told = c.write_old.ensures.code;
       written = c.write_old.ensures.written;
     }

@@ -12,14 +12,13 @@ use Rattle.brc_c.proofs.keyed.brc_dict_has_text.Goals as goal
 
 pub returns-in-Ok-clause-does : goal.returns-in-Ok-clause-does
 returns-in-Ok-clause-does c =
-    let did : FindsOut (HasKey (keys.Text c.in-Ok.key.now)) c.args.dict c.in-Some.client.now c.has.new.self
+    let did : FindsOut (HasKey (keys.Text c.args.key.now)) c.args.dict c.in-Some.client.now c.has.new.self
     c.has.result = record { looked = c.has.ensures.looked; keeps = c.has.ensures.keeps } in
     record {
       answer = c.has.result;
       made = IsMade c.in-Some.client.now c.has.new.self
           (works_at _ _ _ c.in-Some.ensures.value c.as_mut.ensures.value) refl
-          (inl (subst (λ (text : List ℕ). FindsOut (HasKey (keys.Text text)) c.args.dict c.in-Some.client.now
-          c.has.new.self c.has.result) c.in-Ok.ensures.text did));
+          (inl did);
       told = c.write_truth.ensures.code;
       written = c.write_truth.ensures.written;
     }

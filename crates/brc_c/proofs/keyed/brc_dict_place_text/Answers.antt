@@ -12,14 +12,13 @@ use Rattle.brc_c.proofs.keyed.brc_dict_place_text.Goals as goal
 
 pub returns-in-Ok-clause-does : goal.returns-in-Ok-clause-does
 returns-in-Ok-clause-does c =
-    let did : FindsOut (PlaceOf (keys.Text c.in-Ok.key.now)) c.args.dict c.in-Some.client.now c.place.new.self
+    let did : FindsOut (PlaceOf (keys.Text c.args.key.now)) c.args.dict c.in-Some.client.now c.place.new.self
     c.place.result = record { looked = c.place.ensures.looked; keeps = c.place.ensures.keeps } in
     record {
       answer = c.place.result;
       made = IsMade c.in-Some.client.now c.place.new.self
           (works_at _ _ _ c.in-Some.ensures.value c.as_mut.ensures.value) refl
-          (inl (subst (λ (text : List ℕ). FindsOut (PlaceOf (keys.Text text)) c.args.dict c.in-Some.client.now
-          c.place.new.self c.place.result) c.in-Ok.ensures.text did));
+          (inl did);
       told = c.write.ensures.code;
       written = c.write.ensures.written;
     }

@@ -16,9 +16,7 @@ returns-in-Ok-clause-does c =
       answer = did.answer;
       made = IsMade c.in-Some.client.now c.swap_if_by.new.client
           (works_at _ _ _ c.in-Some.ensures.value c.as_mut.ensures.value) refl
-          (inl (subst (λ (text : List ℕ). OfTwoValues c.args.bits c.args.noted c.args.value.now
-          (SwapsDatumIf (SwapsIfByText text) c.args.dict) c.in-Some.client.now c.swap_if_by.new.client did.answer)
-          c.in-Ok.ensures.text did.made));
+          (inl did.made);
       told = did.told;
       written = did.written;
     }

@@ -11,7 +11,7 @@ use Rattle.brc_c.proofs.values.brc_dict_find_text_value.Goals as goal
 
 pub returns-in-Ok-clause-does : goal.returns-in-Ok-clause-does
 returns-in-Ok-clause-does c =
-    let did : GivesDatum (FindsValueByText c.in-Ok.key.now) c.args.dict
+    let did : GivesDatum (FindsValueByText c.args.key.now) c.args.dict
     c.in-Some.client.now c.take_out_value.new.self c.take_out_value.result =
     record {
       gave = c.take_out_value.ensures.gave;
@@ -25,8 +25,7 @@ returns-in-Ok-clause-does c =
       answer = c.take_out_value.result;
       made = IsMade c.in-Some.client.now c.take_out_value.new.self
           (works_at _ _ _ c.in-Some.ensures.value c.as_mut.ensures.value) refl
-          (inl (subst (λ (text : List ℕ). GivesDatum (FindsValueByText text) c.args.dict
-          c.in-Some.client.now c.take_out_value.new.self c.take_out_value.result) c.in-Ok.ensures.text did));
+          (inl did);
       told = c.write_value.ensures.code;
       written = c.write_value.ensures.written;
     }

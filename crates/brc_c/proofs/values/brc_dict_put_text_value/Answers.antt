@@ -11,7 +11,7 @@ use Rattle.brc_c.proofs.values.brc_dict_put_text_value.Goals as goal
 
 pub returns-in-Ok-datum_of-clause-does : goal.returns-in-Ok-datum_of-clause-does
 returns-in-Ok-datum_of-clause-does c =
-    let did : TakesDatum (PutsValueByText c.in-Ok.key.now) c.args.dict c.in-Ok-datum_of.datum
+    let did : TakesDatum (PutsValueByText c.args.key.now) c.args.dict c.in-Ok-datum_of.datum
     c.in-Some.client.now c.put_value.new.self c.put_value.result =
     record {
       took = c.put_value.ensures.took;
@@ -28,8 +28,7 @@ returns-in-Ok-datum_of-clause-does c =
           (inl (inl (
             c.in-Ok-datum_of.datum,
             c.in-Ok-datum_of.ensures.handed,
-            subst (λ (text : List ℕ). TakesDatum (PutsValueByText text) c.args.dict c.in-Ok-datum_of.datum
-                c.in-Some.client.now c.put_value.new.self c.put_value.result) c.in-Ok.ensures.text did,
+            did,
           )));
       told = c.write_came.ensures.code;
       written = c.write_came.ensures.written;

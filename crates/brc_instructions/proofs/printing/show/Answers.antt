@@ -47,44 +47,44 @@ returns-in_ok-int_of-in-Int-clause-shows g c base registers r s own is means =
     let fits : FitsSigned w64 c.in_ok-int_of-in-Int.field-0 = search rules in
     (told.0, shows_held_number r s c.in_ok-int_of-in-Int.field-0 fits told.1)
 
-pub returns-in_err-text_of-in-Text-clause-later : goal.returns-in_err-text_of-in-Text-clause-later
-returns-in_err-text_of-in-Text-clause-later g c =
-    later_both c.args.frame.now.seat.log c.kind_of.new.frame.seat.log c.text_of.new.frame.seat.log
+pub returns-in_err-bytes_of-in-Text-clause-later : goal.returns-in_err-bytes_of-in-Text-clause-later
+returns-in_err-bytes_of-in-Text-clause-later g c =
+    later_both c.args.frame.now.seat.log c.kind_of.new.frame.seat.log c.bytes_of.new.frame.seat.log
     (later_kind c.args.frame.now c.kind_of.new.frame c.args.handle.now.place c.kind_of.result c.kind_of.ensures.looked)
-    (later_text c.kind_of.new.frame c.text_of.new.frame c.args.handle.now.place c.text_of.result
-    c.text_of.ensures.looked)
+    (later_text c.kind_of.new.frame c.bytes_of.new.frame c.args.handle.now.place c.bytes_of.result
+    c.bytes_of.ensures.looked)
 
-pub returns-in_err-text_of-in-Text-clause-shows : goal.returns-in_err-text_of-in-Text-clause-shows
-returns-in_err-text_of-in-Text-clause-shows g c =
-    let p = err_from_is_err_and c.from_residual-in_err-text_of-in-Text.result
-    c.from_residual-in_err-text_of-in-Text.ensures.1 in
-    let fault = c.in_err-text_of-in-Text.field-0.0 in
+pub returns-in_err-bytes_of-in-Text-clause-shows : goal.returns-in_err-bytes_of-in-Text-clause-shows
+returns-in_err-bytes_of-in-Text-clause-shows g c =
+    let p = err_from_is_err_and c.from_residual-in_err-bytes_of-in-Text.result
+    c.from_residual-in_err-bytes_of-in-Text.ensures.1 in
+    let fault = c.in_err-bytes_of-in-Text.field-0.0 in
     rw (p.1, p.2) (λ base registers r s own is means.
     let kind = kind_means base c.args.frame.now c.kind_of.new.frame registers s
-    (own_at c.kind_of.new.frame c.text_of.new.frame c.text_of.ensures.keeps.heap
-    (later_text c.kind_of.new.frame c.text_of.new.frame c.args.handle.now.place c.text_of.result
-    c.text_of.ensures.looked) own) r c.args.handle.now is means c.kind_of.result c.kind_of.ensures.looked in
-    let told = text_means base c.kind_of.new.frame c.text_of.new.frame registers s own r c.args.handle.now is kind.0
-    (Err fault) c.in_err-text_of-in-Text.ensures.looked c.in_err-text_of-in-Text.ensures.waited in
+    (own_at c.kind_of.new.frame c.bytes_of.new.frame c.bytes_of.ensures.keeps.heap
+    (later_text c.kind_of.new.frame c.bytes_of.new.frame c.args.handle.now.place c.bytes_of.result
+    c.bytes_of.ensures.looked) own) r c.args.handle.now is means c.kind_of.result c.kind_of.ensures.looked in
+    let told = text_means base c.kind_of.new.frame c.bytes_of.new.frame registers s own r c.args.handle.now is kind.0
+    (Err fault) c.in_err-bytes_of-in-Text.ensures.looked c.in_err-bytes_of-in-Text.ensures.waited in
     (told.0, refuses_text r s c.kind_of.result c.in-Text.is kind.1 fault told.1))
 
-pub returns-in_ok-text_of-in-Text-clause-later : goal.returns-in_ok-text_of-in-Text-clause-later
-returns-in_ok-text_of-in-Text-clause-later g c =
-    later_both c.args.frame.now.seat.log c.kind_of.new.frame.seat.log c.text_of.new.frame.seat.log
+pub returns-in_ok-bytes_of-in-Text-clause-later : goal.returns-in_ok-bytes_of-in-Text-clause-later
+returns-in_ok-bytes_of-in-Text-clause-later g c =
+    later_both c.args.frame.now.seat.log c.kind_of.new.frame.seat.log c.bytes_of.new.frame.seat.log
     (later_kind c.args.frame.now c.kind_of.new.frame c.args.handle.now.place c.kind_of.result c.kind_of.ensures.looked)
-    (later_text c.kind_of.new.frame c.text_of.new.frame c.args.handle.now.place c.text_of.result
-    c.text_of.ensures.looked)
+    (later_text c.kind_of.new.frame c.bytes_of.new.frame c.args.handle.now.place c.bytes_of.result
+    c.bytes_of.ensures.looked)
 
-pub returns-in_ok-text_of-in-Text-clause-shows : goal.returns-in_ok-text_of-in-Text-clause-shows
-returns-in_ok-text_of-in-Text-clause-shows g c base registers r s own is means =
+pub returns-in_ok-bytes_of-in-Text-clause-shows : goal.returns-in_ok-bytes_of-in-Text-clause-shows
+returns-in_ok-bytes_of-in-Text-clause-shows g c base registers r s own is means =
     let kind = kind_means base c.args.frame.now c.kind_of.new.frame registers s
-    (own_at c.kind_of.new.frame c.text_of.new.frame c.text_of.ensures.keeps.heap
-    (later_text c.kind_of.new.frame c.text_of.new.frame c.args.handle.now.place c.text_of.result
-    c.text_of.ensures.looked) own) r c.args.handle.now is means c.kind_of.result c.kind_of.ensures.looked in
-    let told = text_means base c.kind_of.new.frame c.text_of.new.frame registers s own r c.args.handle.now is kind.0
-    (Ok c.in_ok-text_of-in-Text.field-0) c.in_ok-text_of-in-Text.ensures.looked
-    c.in_ok-text_of-in-Text.ensures.waited in
-    (told.0, shows_text r s c.in_ok-text_of-in-Text.field-0 told.1)
+    (own_at c.kind_of.new.frame c.bytes_of.new.frame c.bytes_of.ensures.keeps.heap
+    (later_text c.kind_of.new.frame c.bytes_of.new.frame c.args.handle.now.place c.bytes_of.result
+    c.bytes_of.ensures.looked) own) r c.args.handle.now is means c.kind_of.result c.kind_of.ensures.looked in
+    let told = text_means base c.kind_of.new.frame c.bytes_of.new.frame registers s own r c.args.handle.now is kind.0
+    (Ok c.in_ok-bytes_of-in-Text.field-0) c.in_ok-bytes_of-in-Text.ensures.looked
+    c.in_ok-bytes_of-in-Text.ensures.waited in
+    (told.0, shows_text r s c.in_ok-bytes_of-in-Text.field-0 told.1)
 
 pub returns-in_err-len_of-in-List-clause-later : goal.returns-in_err-len_of-in-List-clause-later
 returns-in_err-len_of-in-List-clause-later g c =
@@ -217,12 +217,12 @@ returns-in_err-int_of-in-Int-clause-room g c =
     rw (p.1, p.2) (int_room c.kind_of.new.frame c.int_of.new.frame c.args.handle.now.place (Err _)
     c.in_err-int_of-in-Int.ensures.looked)
 
-pub returns-in_err-text_of-in-Text-clause-room : goal.returns-in_err-text_of-in-Text-clause-room
-returns-in_err-text_of-in-Text-clause-room g c =
-    let p = err_from_is_err_and c.from_residual-in_err-text_of-in-Text.result
-    c.from_residual-in_err-text_of-in-Text.ensures.1 in
-    rw (p.1, p.2) (text_room c.kind_of.new.frame c.text_of.new.frame c.args.handle.now.place (Err _)
-    c.in_err-text_of-in-Text.ensures.looked)
+pub returns-in_err-bytes_of-in-Text-clause-room : goal.returns-in_err-bytes_of-in-Text-clause-room
+returns-in_err-bytes_of-in-Text-clause-room g c =
+    let p = err_from_is_err_and c.from_residual-in_err-bytes_of-in-Text.result
+    c.from_residual-in_err-bytes_of-in-Text.ensures.1 in
+    rw (p.1, p.2) (text_room c.kind_of.new.frame c.bytes_of.new.frame c.args.handle.now.place (Err _)
+    c.in_err-bytes_of-in-Text.ensures.looked)
 
 pub returns-in_err-len_of-in-List-clause-room : goal.returns-in_err-len_of-in-List-clause-room
 returns-in_err-len_of-in-List-clause-room g c =

@@ -1,7 +1,7 @@
-use Rattle.std.proofs.Common.{◌≡◌, Some, arith}
-use Rattle.brc_handles.specs.Handles.{slot}
-use Rattle.brc_handles.proofs.Places.{pushed_to}
-use Rattle.brc_handles.proofs.Gained.{given_each, given_stands}
+use Rattle.std.proofs.Common.{[], ◌∷◌, ◌++◌, ◌≡◌, Some, arith, subst, sym}
+use Rattle.brc_handles.specs.Handles.{slot, AreApart}
+use Rattle.brc_handles.proofs.Places.{apart_pushed, pushed_to}
+use Rattle.brc_handles.proofs.Gained.{each, given_each, given_stands}
 use Rattle.brc_handles.proofs.handles.Handles.retain.Goals as goal
 
 pub returns-clause-stands : goal.returns-clause-stands
@@ -37,3 +37,12 @@ returns-clause-more g c = record {
       in let same : h ≡ c.in-Some.handle.now = cc (found, is)
       in rw same (c.in_ok-given.ensures.given cell (rw same at has));
 }
+
+pub invariant_of-self-3 : goal.invariant_of-self-3
+invariant_of-self-3 g c =
+    let items = c.self.inside.slots.items in
+    let given = c.in_ok-given.given in
+    let now : c.push_reserved.new.self.items ≡ items ++ Some given ∷ []
+    = cc (c.reserve.ensures.items, c.push_reserved.ensures.items) in
+    subst AreApart (sym now) (apart_pushed items given c.self.invariant
+        (λ k. each c.in_ok-given.ensures.gains.apart (slot items k) (rw c.self.view_is (c.requires.each k))))
