@@ -4,7 +4,7 @@
  *
  * What a turn takes is the difference of two runs by that of their TURNS; `.ci/c` counts so, by callgrind, over the library
  * that is proved and over the one that isn't, and holds each against `clients/counts.most`. The containers have 16 entries and 9
- * pairs, and what goes in and comes out are scalars, where the name doesn't say else. */
+ * pairs, and what goes in and comes out are scalars, where the name doesn't say else. A list of 3 is released and freed, too. */
 #include <stdio.h>
 #include <stdlib.h>
 #include <string.h>
@@ -45,10 +45,19 @@ typedef struct {
     brc_ref list, dict, box, ref, count;
 } Made;
 
+/* A list of three scalars is made, released and freed. */
+static brc_status list_of_3(brc_thread *t, const brc_value *three) {
+    brc_ref made;
+    brc_status s = brc_new_list_of(t, three, 3, &made);
+    if (s == BRC_OK) s = brc_release(t, made);
+    (void)brc_work(t, 64);
+    return s;
+}
+
 static int turn(const char *what, unsigned long turns, Made *made) {
     brc_thread *t = made->t;
     brc_ref list = made->list, dict = made->dict, box = made->box, ref = made->ref;
-    brc_value scalar = brc_of_int(1, 1000), old;
+    brc_value scalar = brc_of_int(1, 1000), three[] = {scalar, scalar, scalar}, old;
     if (strcmp(what, "nothing") == 0) {
         for (unsigned long i_ = 1; i_ < turns; i_++) __asm__ volatile("" ::: "memory");
         return 1;
@@ -74,6 +83,7 @@ static int turn(const char *what, unsigned long turns, Made *made) {
     ONE("put-int", brc_dict_put_int_value(t, dict, 5, scalar, &old))
     TWO("push-pop-reference", brc_list_push(t, list, ref), brc_list_pop(t, list, &ref))
     TWO("send-recv-reference", brc_send(t, box, ref), brc_recv(t, box, &ref))
+    ONE("list-of-3", list_of_3(t, three))
     return 0;
 }
 

@@ -43,8 +43,8 @@ typedef enum {
     RELEASE, PUSH, SEND, POLL, WORK, LEN_OF, INT_OF, KIND_OF, TRUTH_OF, SAME, IDENTITY, TEXT_OF, BYTES_OF, TEXT_IS, TEXT_EQUAL, SET, LEDGER,
     CLAIM, LEAVE, RELEASE_ALL, HAS_INT, HAS_TEXT, PLACE_INT, PLACE_TEXT, PUSH_VALUE, SEND_VALUE,
     /* from here on a call hands out a reference more */
-    RETAIN, NONE, TRUTH, GLOBALS, NEW_INT, NEW_TEXT, NEW_BYTES, NEW_LIST, NEW_DICT, NEW_DICT_FOR, NEW_LIST_FOR, NEW_MAILBOX, POP, TAKE, GET, RECV, PUT_INT, FIND_INT,
-    DEL_INT, PUT_TEXT, FIND_TEXT, DEL_TEXT, PUT_BYTES,
+    RETAIN, NONE, TRUTH, GLOBALS, NEW_INT, NEW_TEXT, NEW_BYTES, NEW_LIST, NEW_LIST_OF, NEW_DICT, NEW_DICT_FOR, NEW_LIST_FOR, NEW_MAILBOX,
+    POP, TAKE, GET, RECV, PUT_INT, FIND_INT, DEL_INT, PUT_TEXT, FIND_TEXT, DEL_TEXT, PUT_BYTES,
     FIND_BYTES, DEL_BYTES, PAIR,
     /* and from here on a value, if its status is OK */
     POP_VALUE, TAKE_VALUE, GET_VALUE, RECV_VALUE, SET_VALUE, FIND_INT_VALUE, DEL_INT_VALUE, FIND_TEXT_VALUE, DEL_TEXT_VALUE,
@@ -101,6 +101,7 @@ static const struct { int weight, numbers; uint64_t statuses; } ABOUT[CALLS] = {
     [NEW_TEXT] = {1, 0, BORN | S(BRC_NOT_TEXT)},
     [NEW_BYTES] = {1, 0, BORN},
     [NEW_LIST] = {2, 0, BORN},
+    [NEW_LIST_OF] = {4, 2, BORN | NUMBER | S(BRC_SAME) | S(BRC_NOT_VALUE)},
     [NEW_DICT] = {1, 0, BORN},
     [NEW_DICT_FOR] = {1, 0, BORN},
     [NEW_LIST_FOR] = {1, 0, BORN},
@@ -331,6 +332,7 @@ static brc_status swap_if(brc_thread *t, call_t call, const inputs_t *in, outs_t
 static brc_status make_call(worker_t *w, call_t call, const inputs_t *in, outs_t *out) {
     brc_thread *t = &w->thread;
     const brc_ref one = in->one, other = in->other;
+    const brc_value values[] = {brc_of_ref(OF_REFERENCE, one), in->put, brc_of_bits(OF_BITS, bits_of(OF_BITS))};
     switch (call) {
     case RELEASE: return brc_release(t, one);
     case PUSH: return brc_list_push(t, one, other);
@@ -359,6 +361,7 @@ static brc_status make_call(worker_t *w, call_t call, const inputs_t *in, outs_t
     case NEW_TEXT: return brc_new_text(t, in->bytes, in->len, &out->ref);
     case NEW_BYTES: return brc_new_bytes(t, in->bytes, in->len, &out->ref);
     case NEW_LIST: return brc_new_list(t, &out->ref);
+    case NEW_LIST_OF: return brc_new_list_of(t, values, 3, &out->ref);
     case NEW_DICT: return brc_new_dict(t, &out->ref);
     case NEW_LIST_FOR: return brc_new_list_for(t, in->word % 100, &out->ref);
     case NEW_DICT_FOR: return brc_new_dict_for(t, in->word % 100, &out->ref);
@@ -417,7 +420,7 @@ static int has_bytes(call_t call) {
 static int expects(call_t call) { return call == SWAP_IF || call == SWAP_IF_INT || call == SWAP_IF_TEXT; }
 
 static int puts_a_value(call_t call) {
-    return call == PUSH_VALUE || call == SEND_VALUE || call == SET_VALUE || expects(call) || call >= PUT_VALUE;
+    return call == PUSH_VALUE || call == SEND_VALUE || call == SET_VALUE || call == NEW_LIST_OF || expects(call) || call >= PUT_VALUE;
 }
 
 static int puts_a_reference(call_t call, const inputs_t *in) {
@@ -510,6 +513,7 @@ static int turn(worker_t *w) {
         w->done++;
         if (call == RELEASE) loses(w, in.one);
         if (puts_a_reference(call, &in)) loses(w, in.other);
+        if (call == NEW_LIST_OF) loses(w, in.one);
         while (call == RELEASE_ALL && w->count > 0) loses(w, w->held[0]);
         if (call >= POP_VALUE) {
             check_value(w, call, out.came);

@@ -71,6 +71,31 @@ static void fill_with_scalars(brc_thread *t) {
     while (brc_work(t, 4096) == 0) { }
 }
 
+/* A list is made with so many values, and with no more. Of 65,535 references each is found to stand once. */
+static void make_with_values(brc_thread *t) {
+    static brc_value values[ENTRIES + 1];
+    brc_ref list = BRC_NONE, one, more;
+    size_t len;
+    for (int i = 0; i <= ENTRIES; i++) values[i] = brc_of_int(1, i);
+    CHECK(brc_new_list_of(t, values, ENTRIES + 1, &list) == BRC_FULL && list == BRC_NONE);
+    CHECK(brc_new_list_of(t, values, ENTRIES, &list) == BRC_OK && brc_len_of(t, list, &len) == BRC_OK && len == ENTRIES);
+    CHECK(brc_list_push_value(t, list, values[0]) == BRC_FULL);
+    CHECK(brc_list_get_value(t, list, ENTRIES - 1, &values[0]) == BRC_OK && brc_int_in(values[0]) == ENTRIES - 1);
+    CHECK(brc_release(t, list) == BRC_OK);
+    CHECK(brc_new_int(t, 1000, &one) == BRC_OK);
+    for (int i = 0; i < REFERENCES - 2; i++) {
+        CHECK(brc_retain(t, one, &more) == BRC_OK);
+        values[i] = brc_of_ref(1, more);
+    }
+    CHECK(brc_new_list_of(t, values, REFERENCES - 2, &more) == BRC_FRAME_FULL);
+    CHECK(brc_release(t, one) == BRC_OK);
+    values[REFERENCES - 2] = values[REFERENCES / 2];
+    CHECK(brc_new_list_of(t, values, REFERENCES - 1, &list) == BRC_SAME);
+    CHECK(brc_new_list_of(t, values, REFERENCES - 2, &list) == BRC_OK && brc_count(t) == 1);
+    CHECK(brc_release(t, values[0].bits) == BRC_STALE && brc_release(t, list) == BRC_OK);
+    while (brc_work(t, 4096) == 0) { }
+}
+
 /* So many threads are registered at a time, and so many in the heap's life. */
 static void register_all(brc_heap *heap, uint32_t registered) {
     brc_thread threads[THREADS], one;
@@ -103,15 +128,16 @@ int main(void) {
     fill_the_frame(&t);
     fill_the_containers(&t);
     fill_with_scalars(&t);
+    make_with_values(&t);
     CHECK(brc_heap_close(&heap, &live, &cycles) == BRC_MISSING);
     CHECK(brc_thread_leave(&t) == BRC_OK);
     brc_thread_drop(t);
     register_all(&heap, 1);
     CHECK(brc_heap_counts(&heap, &registered, &left, &allocs, &frees) == BRC_OK);
-    CHECK(registered == REGISTRATIONS && left == REGISTRATIONS && allocs == 6 && frees == 6);
+    CHECK(registered == REGISTRATIONS && left == REGISTRATIONS && allocs == 9 && frees == 9);
     CHECK(brc_heap_close(&heap, &live, &cycles) == BRC_OK && live == 0 && cycles == 0);
     CHECK(brc_heap_close(&heap, &live, &cycles) == BRC_OK && brc_thread_open(&heap, &t) == BRC_GONE);
-    CHECK(brc_heap_report(&heap, 0, text, sizeof text, &len) == BRC_OK && len == 13 && !memcmp(text, "ledger 6 6 0\n", 13));
+    CHECK(brc_heap_report(&heap, 0, text, sizeof text, &len) == BRC_OK && len == 13 && !memcmp(text, "ledger 9 9 0\n", 13));
     brc_heap_drop(heap);
     printf("%d references, %d entries, %d threads, %d registrations\n", REFERENCES, ENTRIES, THREADS, REGISTRATIONS);
     return 0;

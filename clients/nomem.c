@@ -256,6 +256,20 @@ static void come_by_values(brc_thread *t, brc_ref one, int call) {
     TRY(brc_release(t, from));
 }
 
+/* A list that is made with its values: memory for them and for the object is asked for, and a place. */
+static void make_by_values(brc_thread *t, brc_ref one) {
+    brc_value values[5];
+    brc_ref list;
+    for (int i = 0; i < 5; i++) values[i] = value_of(t, one, i);
+    tighten(t, one);
+    TRY(brc_new_list_of(t, values, 5, &list));
+    for (int i = 4; i >= 0; i--) {
+        TRY(brc_list_pop_value(t, list, &values[i]));
+        is_value_of(t, values[i], i);
+    }
+    TRY(brc_release(t, list));
+}
+
 /* All calls by values. The first put asks for a place for None: it puts a scalar in one half, and a reference in the other.
  * Each half has half of the calls by which values come out, since the thread's places double with each. */
 static void live_by_values(brc_thread *t, int half) {
@@ -275,6 +289,7 @@ static void live_by_values(brc_thread *t, int half) {
     is_value_of(t, value, half);
     for (int i = 0; i < ROUNDS; i++) fill_by_values(t, one, list, dict, mailbox, i);
     for (int call = half; call < COMINGS; call += 2) come_by_values(t, one, call);
+    make_by_values(t, one);
 }
 
 /* A dictionary with memory for its pairs asks for none while they come, and so it is of a list. */

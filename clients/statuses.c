@@ -25,7 +25,7 @@
 #include <time.h>
 #include "brc.h"
 
-enum { REFERENCES = 65536, ENTRIES = 1048576, MOST_THREADS = 64, CALLS = 83 };
+enum { REFERENCES = 65536, ENTRIES = 1048576, MOST_THREADS = 64, CALLS = 84 };
 enum { LABEL = 77, UNWRITTEN = 0xa5, DEAD_ENTRIES = 100000, TRIES = 10000000, SECONDS = 60 };
 
 /* ---- What is said */
@@ -201,7 +201,7 @@ typedef enum {
     RETAIN, RELEASE, SAME, IDENTITY, NOTHING, TRUTH, GLOBALS, NEW_INT, NEW_SMALL, NEW_TEXT, NEW_BYTES, NEW_LIST, NEW_DICT, NEW_DICT_FOR, NEW_LIST_FOR, NEW_MAILBOX,
     KIND_OF, LEN_OF, INT_OF, TRUTH_OF, TEXT_OF, BYTES_OF, TEXT_IS, TEXT_EQUAL, PUSH, POP, TAKE, GET, SET, SEND, RECV, PUT_INT, PUT_TEXT,
     FIND_INT, FIND_TEXT, DEL_INT, DEL_TEXT, PUT_BYTES, FIND_BYTES, DEL_BYTES, PAIR, HAS_INT, HAS_TEXT, PLACE_INT, PLACE_TEXT, LEDGER, RELEASE_ALL, CLAIM, POLL,
-    WORK, COUNT, PUSH_VALUE, POP_VALUE, TAKE_VALUE, GET_VALUE, SET_VALUE,
+    WORK, COUNT, NEW_LIST_OF, PUSH_VALUE, POP_VALUE, TAKE_VALUE, GET_VALUE, SET_VALUE,
     PUT_VALUE, SEND_VALUE, RECV_VALUE, PUT_INT_VALUE, PUT_TEXT_VALUE, PUT_BYTES_VALUE, PUT_NEW_INT_VALUE, PUT_NEW_TEXT_VALUE,
     SWAP_IF, SWAP_IF_INT, SWAP_IF_TEXT, FIND_INT_VALUE, FIND_TEXT_VALUE, DEL_INT_VALUE,
     DEL_TEXT_VALUE, FIND_BYTES_VALUE, DEL_BYTES_VALUE, PAIR_VALUE
@@ -246,6 +246,7 @@ static brc_status swap_if(call_t call, brc_thread *t, const inputs_t *in, brc_va
 static brc_status make_call(call_t call, brc_thread *t, const inputs_t *in, outs_t *out) {
     const brc_ref one = in->one, other = in->other;
     const brc_value value = {other, LABEL, in->holds};
+    const brc_value three[] = {{one, LABEL, in->holds}, {7, LABEL, BRC_SCALAR}, value};
     switch (call) {
     case RETAIN: return brc_retain(t, one, &out->ref);
     case RELEASE: return brc_release(t, one);
@@ -259,6 +260,7 @@ static brc_status make_call(call_t call, brc_thread *t, const inputs_t *in, outs
     case NEW_TEXT: return brc_new_text(t, in->bytes, in->len, &out->ref);
     case NEW_BYTES: return brc_new_bytes(t, in->bytes, in->len, &out->ref);
     case NEW_LIST: return brc_new_list(t, &out->ref);
+    case NEW_LIST_OF: return brc_new_list_of(t, three, 3, &out->ref);
     case NEW_DICT: return brc_new_dict(t, &out->ref);
     case NEW_LIST_FOR: return brc_new_list_for(t, 100, &out->ref);
     case NEW_DICT_FOR: return brc_new_dict_for(t, 100, &out->ref);
@@ -544,6 +546,22 @@ static const row_t MAKES_NONE[] = {
      BRC_OUT_OF_MEMORY},
     {"no memory for None, and the container is full", BARE, MOST, VALUE, ABSENT, NONE, BRC_OUT_OF_MEMORY, BRC_OUT_OF_MEMORY},
     {"no memory for None, and there is the entry", BARE, SOME, VALUE, FIRST, NONE, BRC_OUT_OF_MEMORY, BRC_OUT_OF_MEMORY},
+    {0}};
+
+/* A list that is made with a value, a scalar, and another value. */
+static const row_t MAKES_A_LIST[] = {
+    {"no place for None", FULL, ZERO, ZERO, FIRST, NONE, BRC_FRAME_FULL, 0},
+    {"no memory for None", BARE, ZERO, ZERO, FIRST, NONE, BRC_OUT_OF_MEMORY, 0},
+    {"None is kept, and no place for the list", KEEPS, ZERO, ZERO, FIRST, NONE, BRC_FRAME_FULL, 0},
+    {"no memory for the values", TIGHT, ZERO, ZERO, FIRST, NONE, BRC_OUT_OF_MEMORY, 0},
+    {"memory for the values, and none for a place", TIGHT, ZERO, ZERO, FIRST, 1, BRC_OUT_OF_MEMORY, 0},
+    {"memory for the values and a place, and none for the list", READY, ZERO, ZERO, FIRST, 1, BRC_OUT_OF_MEMORY, 0},
+    {"the heap is full", READY, ZERO, ZERO, FIRST, ALL, BRC_HEAP_FULL, 0},
+    {0}};
+static const row_t MAKES_OF_REFERENCES[] = {
+    {"references, and no place for None", FULL, WRONG, VALUE, FIRST, NONE, BRC_FRAME_FULL, 0},
+    {"references, and no place for the list", KEEPS, WRONG, VALUE, FIRST, NONE, BRC_FRAME_FULL, 0},
+    {"references, and the heap is full", READY, WRONG, VALUE, FIRST, ALL, BRC_HEAP_FULL, 0},
     {0}};
 
 /* A scalar is no number, whatever its bits are. */
@@ -1161,6 +1179,34 @@ static void play_puts(void) {
     }
 }
 
+/* More values than a container has entries, of which the first is none of the three, or names nothing. */
+static void play_too_many(uint32_t holds, brc_status wanted) {
+    static brc_value many[ENTRIES + 1];
+    look_t before, after;
+    brc_ref made = BRC_NONE;
+    begin_row("brc_new_list_of", "more values than a container has");
+    many[0].holds = holds;
+    look(&before);
+    given = NONE;
+    settle(brc_new_list_of(&threads[FULL], many, ENTRIES + 1, &made), wanted);
+    given = ALL;
+    look(&after);
+    CHECK(made == BRC_NONE && memcmp(&before, &after, sizeof before) == 0);
+}
+
+static void play_lists(void) {
+    static const put_t LIST_OF = {NEW_LIST_OF, "brc_new_list_of", ANY, ANY, NULL, {NULL}, 0};
+    play_part(&LIST_OF, FULL, BRC_REFERENCE + 1, NOT_VALUES);
+    play_part(&LIST_OF, FULL, UINT32_MAX, LARGEST);
+    play_too_many(BRC_REFERENCE + 1, BRC_NOT_VALUE);
+    play_too_many(BRC_REFERENCE, BRC_FULL);
+    play_part(&LIST_OF, FULL, BRC_REFERENCE, NUMBERS_OF_TWO);
+    play_part(&LIST_OF, FULL, BRC_REFERENCE, ONE_TWICE);
+    play_part(&LIST_OF, FULL, BRC_REFERENCE, MAKES_OF_REFERENCES);
+    play_part(&LIST_OF, FULL, BRC_SCALAR, MAKES_A_LIST);
+    play_part(&LIST_OF, FULL, BRC_NO_VALUE, MAKES_A_LIST);
+}
+
 /* Calls that are never BUSY, while the object and the register are locked. */
 static void play_unlocked(void) {
     brc_thread *t = &threads[READY];
@@ -1702,6 +1748,41 @@ static void mixes_its_calls(void) {
     end_life(&l);
 }
 
+/* The values are the list's entries, in their order, and its numbers are spent. */
+static void makes_a_list(void) {
+    life_t l;
+    brc_thread *t;
+    brc_ref list, made;
+    brc_value values[3], value;
+    size_t len;
+    uint64_t allocs, frees;
+    arrange(&l, OPEN);
+    t = &l.threads[0];
+    MUST(brc_new_list_of(t, values, 0, &list));
+    MUST(brc_len_of(t, list, &len));
+    CHECK(len == 0 && brc_count(t) == 1);
+    MUST(brc_new_int(t, 1000, &made));
+    values[0] = scalar();
+    values[1] = brc_of_ref(LABEL, made);
+    values[2] = brc_of_ref(LABEL + 1, list);
+    MUST(brc_new_list_of(t, values, 3, &list));
+    CHECK(brc_count(t) == 1);
+    settle(brc_release(t, made), BRC_STALE);
+    settle(brc_release(t, values[2].bits), BRC_STALE);
+    MUST(brc_list_pop_value(t, list, &value));
+    CHECK(value.holds == BRC_REFERENCE && value.label == LABEL + 1);
+    MUST(brc_len_of(t, value.bits, &len));
+    CHECK(len == 0);
+    MUST(brc_list_push_value(t, list, value));
+    MUST(brc_list_get_value(t, list, 1, &value));
+    CHECK(value.holds == BRC_REFERENCE && value.label == LABEL);
+    MUST(brc_list_get_value(t, list, 0, &value));
+    CHECK(is_scalar(&value));
+    MUST(brc_ledger(t, &allocs, &frees));
+    CHECK(allocs == 3 && frees == 0);
+    end_life(&l);
+}
+
 static void looks_at_pairs(void) {
     life_t l;
     brc_thread *t;
@@ -1770,6 +1851,7 @@ static const struct { const char *name, *what; void (*play)(void); } STEPS[] = {
     {"brc_ledger", "the thread is on its way out", reports_its_ledger},
     {"brc_list_push_value", "a reference to None is kept", keeps_a_none},
     {"brc_list_pop_value", "None, and scalars, by both kinds of calls", mixes_its_calls},
+    {"brc_new_list_of", "no values, a scalar and references", makes_a_list},
     {"brc_dict_pair_value", "each pair, and how many there are", looks_at_pairs},
 };
 
@@ -1868,6 +1950,7 @@ int main(void) {
     build();
     play_all();
     play_puts();
+    play_lists();
     play_unlocked();
     play_second_locked();
     take_down();

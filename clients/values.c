@@ -233,6 +233,38 @@ static void on_list(worker *w) {
     }
 }
 
+/* One of the lists goes, and a list of other values takes its place. A refusal leaves each value, so that is let go of. */
+static void on_new_list(worker *w) {
+    int which = (int)draw(w, LISTS), n = (int)draw(w, 9), refused = refused_in, twice = -1;
+    row r = { .len = n };
+    brc_value values[9];
+    brc_ref list = BRC_NONE;
+    brc_status s;
+    refused_in = 0;
+    for (int i = 0; i < n; i++) values[i] = given(w, r.at[i] = some_value(w));
+    if (n > 1 && r.at[0].object >= 0 && draw(w, 4) == 0) {
+        twice = 1 + (int)draw(w, (uint64_t)n - 1);
+        MUST(brc_value_clear(&w->t, &values[twice]));
+        values[twice] = values[0];
+    }
+    refused_in = refused;
+    s = brc_new_list_of(&w->t, values, (size_t)n, &list);
+    refused_in = 0;
+    if (twice >= 0) {
+        CHECK(s == BRC_SAME);
+        values[twice].holds = BRC_NO_VALUE;
+    }
+    if (s == BRC_SAME || !made(w, s, NULL)) {
+        CHECK(list == BRC_NONE);
+        for (int i = 0; i < n; i++) MUST(brc_value_clear(&w->t, &values[i]));
+        return;
+    }
+    for (int i = 0; i < n; i++) CHECK(values[i].holds != BRC_REFERENCE || brc_release(&w->t, values[i].bits) == BRC_STALE);
+    MUST(brc_release(&w->t, w->lists[which]));
+    w->lists[which] = list;
+    w->in_lists[which] = r;
+}
+
 static void on_mailbox(worker *w) {
     int which = (int)draw(w, BOXES);
     row *r = &w->in_boxes[which];
@@ -498,10 +530,11 @@ static void *live(void *of) {
     begin(w);
     for (uint64_t i = 0; i < w->calls; i++) {
         if (draw(w, 16) == 0) refused_in = 1 + (int)draw(w, 2);
-        switch (draw(w, threads > 1 ? 8 : 7)) {
+        switch (draw(w, threads > 1 ? 9 : 8)) {
         case 0: case 1: case 2: on_list(w); break;
         case 3: on_mailbox(w); break;
         case 4: case 5: case 6: on_dict(w); break;
+        case 7: on_new_list(w); break;
         default: on_common(w);
         }
         refused_in = 0;

@@ -409,6 +409,16 @@ brc_status brc_dict_place_text(brc_thread *, brc_ref dict, const uint8_t *key, s
  * thread for a moment, and no memory for it, so FRAME_FULL may come; a look at a scalar wants none. A
  * scalar put where a reference stands wants one for what comes out: FRAME_FULL, OUT_OF_MEMORY. */
 
+/* A new list of these values, in their order. It has memory for just so many, which is had at once. For
+ * few values this takes about a tenth fewer instructions than making a list and pushing them. After OK
+ * each reference among the values belongs to the list. A refusal leaves all of them the caller's.
+ * Should the heap refuse a value of the new list, the list is released with those before it: a new list
+ * is known to no other thread and has room, so the heap refuses none; but that is not proved.
+ * GONE; NOT_VALUE of any value; FULL for more than 1,048,576; of the first number that names nothing
+ * FOREIGN, STALE; SAME if a number stands twice; FRAME_FULL and OUT_OF_MEMORY for the None that the
+ * thread keeps; FRAME_FULL, LEDGER_FULL, OUT_OF_MEMORY, HEAP_FULL. Never BUSY. */
+brc_status brc_new_list_of(brc_thread *, const brc_value *values, size_t n, brc_ref *made);
+
 /* The value becomes the last entry. */
 brc_status brc_list_push_value(brc_thread *, brc_ref list, brc_value value);
 

@@ -9,6 +9,7 @@
 //! An `alloc: Global` takes no bytes, so C passes nothing for it. A slice is a pointer and a length.
 #![tactic(auto)]
 
+mod born;
 mod bytes;
 mod calls;
 mod dicts;

@@ -28,7 +28,7 @@ const NO_VALUE: u32 = 0;
 
 const SCALAR: u32 = 1;
 
-const REFERENCE: u32 = 2;
+pub(crate) const REFERENCE: u32 = 2;
 
 /// A value as C has it where it comes out: `brc_value`.
 #[repr(C)]

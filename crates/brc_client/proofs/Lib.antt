@@ -3,6 +3,8 @@ mod Named
 mod Placed
 mod Beside
 mod Putting
+mod Born_Lists
+mod Marking
 mod Spending
 pub mod Statuses
 mod Alike

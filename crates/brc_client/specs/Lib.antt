@@ -2,6 +2,9 @@ pub mod Numbers
 pub mod Clients
 pub mod Calls
 pub mod Answers
+pub mod Reach
+pub mod Sequence
+pub mod Born
 pub mod Desks
 pub mod Ends
 pub mod Lending

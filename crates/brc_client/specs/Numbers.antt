@@ -45,6 +45,9 @@ place_in number = number % 65536
 abbrev pub stamp_in : ℕ → ℕ
 stamp_in number = number / 281474976710656
 
+abbrev pub uses_in : ℕ → ℕ
+uses_in number = number / 65536 % 4294967296
+
 -- vacated once more: after 2^32 times it begins again at 0
 abbrev pub once_more : ℕ → ℕ
 once_more uses = (uses + 1) % 4294967296

@@ -93,6 +93,13 @@ pub record NoneMade (old new : ClientSeen) : Type 0 where
   pub readies : ReadiesNone old.frame new.frame old.none none
   pub cell : cell_in new.frame none.place ≡ Some 0
 
+-- so of a client, which keeps none then
+pub record LacksNoneOf (old new : ClientSeen) (status : Status) : Type 0 where
+  pub fault : Fault
+  pub told : status ≡ statuses.Fault fault
+  pub lacks : LacksNone old.frame new.frame old.none fault
+  pub gone : new.none ≡ None
+
 -- the number names a handle of this client, by its stamp, too
 abbrev pub IsFound : ClientSeen → ℕ → Type 0
 IsFound client number = Names client number × (stamp_in number ≡ client.numbers.stamp)

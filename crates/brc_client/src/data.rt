@@ -8,7 +8,7 @@ ghost use Rattle.brc_things.specs.Value_Calls.{DictPairValue};
 ghost use Rattle.brc_places.specs.Value_Calls.{TookOutValueBy, PutValueBy};
 ghost use Rattle.brc_client.specs.Clients.{KeepsNumbers, KeepsNames, SpendsName};
 ghost use Rattle.brc_client.specs.Calls.{OfNamed, RefusedOf};
-ghost use Rattle.brc_client.specs.Valued.{AddsDatum, WithPair, NamesDatum, NoneMade, NoneRefused};
+ghost use Rattle.brc_client.specs.Valued.{AddsDatum, WithPair, NamesDatum, NoneMade, NoneRefused, LacksNoneOf};
 ghost use Rattle.brc_client.specs.Valued.{PutsDatum, PutsNoDatum, SpendsDatumName};
 ghost use Rattle.brc_client.specs.Valued.{ComesBack, IsFound, IsLoose, LiesThen, NamesDatumIn};
 ghost use Rattle.brc_client.specs.declared.data.Datum.TheVariants as datums;
@@ -194,6 +194,18 @@ impl Client {
         ensures numbers { self.new.numbers ≡ self.old.numbers }
     {
         let _place = self.place_of(container)?;
+        self.new_none()
+    }
+
+    /// A handle to None is made, and kept, in place of one that was kept and isn't to None. FrameFull, OutOfMemory.
+    #[cold]
+    #[inline(never)]
+    fn new_none(&mut self) -> Result<(), Status>
+        ensures made { OnOk result (NoneMade self.old self.new) }
+        ensures refused { IfErr result (LacksNoneOf self.old self.new) }
+        ensures handles { self.new.handles ≡ self.old.handles }
+        ensures numbers { self.new.numbers ≡ self.old.numbers }
+    {
         self.let_none_go();
         match self.mutator.frame().immortal(0) {
             Ok(none) => {
@@ -204,6 +216,24 @@ impl Client {
                 Ok(())
             }
             Err(fault) => Err(Status::Fault(fault)),
+        }
+    }
+
+    /// A handle to None is kept, as one was, or a new one. FrameFull, OutOfMemory.
+    #[inline(always)]
+    pub(crate) fn keep_none(&mut self) -> Result<(), Status>
+        ensures made { OnOk result (NoneMade self.old self.new) }
+        ensures refused { IfErr result (LacksNoneOf self.old self.new) }
+        ensures handles { self.new.handles ≡ self.old.handles }
+        ensures numbers { self.new.numbers ≡ self.old.numbers }
+    {
+        if self.has_none() {
+            return Ok(());
+        }
+        // What the call returns into is set to zero here, and not where none is made.
+        match self.new_none() {
+            Ok(()) => Ok(()),
+            Err(status) => Err(status),
         }
     }
 

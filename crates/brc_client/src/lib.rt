@@ -11,6 +11,7 @@
 //! to its report: both can be dropped at any moment.
 #![tactic(auto)]
 
+mod born;
 mod client;
 mod conditional;
 mod data;
@@ -21,6 +22,8 @@ mod moving;
 mod numbers;
 mod owner;
 mod put_value;
+mod reach;
+mod sequence;
 mod status;
 mod take_out;
 mod thread;
@@ -37,6 +40,7 @@ pub use put_value::{
     Inward, Pushing, PuttingAt, PuttingByInt, PuttingByText, PuttingNewByInt, PuttingNewByText,
     Sending, Setting,
 };
+pub use sequence::Sequence;
 pub use status::{Status, text_of};
 pub use take_out::{
     DeletingByInt, DeletingByText, FindingByInt, FindingByText, Getting, Outward, Popping,

@@ -1,7 +1,7 @@
 //! Numbers for the places of a frame.
 
 ghost use Rattle.std.specs.Prelude.{◌≡◌, ◌≢◌, ◌<◌, ℕ, get_or, length, replicate, slice_set, IfOk, IfErr, OnOk};
-ghost use Rattle.brc_client.specs.Numbers.{number_at, place_in, stamp_in, once_more, MisSpelt, IsStamped};
+ghost use Rattle.brc_client.specs.Numbers.{number_at, place_in, stamp_in, uses_in, once_more, MisSpelt, IsStamped};
 
 use crate::status::Status;
 use brc_heap::Registration;
@@ -83,6 +83,7 @@ impl Numbers {
         requires inside { place < 65536 }
         ensures number { result ≡ number_at self.now place }
         ensures stamp { stamp_in result ≡ self.now.stamp }
+        ensures uses { uses_in result ≡ get_or self.now.uses place 0 }
     {
         self.base + u64::from(self.uses[place]) * 65_536 + place as u64
     }
@@ -121,6 +122,18 @@ impl Numbers {
     {
         let uses = self.uses[place];
         self.uses[place] = uses.wrapping_add(1);
+    }
+
+    /// The number's place was vacated as often as the number says.
+    #[inline(always)]
+    pub(crate) fn restore(&mut self, number: u64)
+        ensures stamp { self.new.stamp ≡ self.old.stamp }
+        ensures of { self.new.of ≡ self.old.of }
+        ensures uses { self.new.uses ≡ slice_set self.old.uses (place_in number) (uses_in number) }
+        ensures counted { get_or self.new.uses (place_in number) 0 ≡ uses_in number }
+    {
+        let place = (number % 65_536) as usize;
+        self.uses[place] = (number / 65_536 % 4_294_967_296) as u32;
     }
 }
 
