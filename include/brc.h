@@ -275,8 +275,9 @@ brc_status brc_new_text(brc_thread *, const uint8_t *bytes, size_t len, brc_ref 
  * GONE, OUT_OF_MEMORY for the copy, FRAME_FULL, LEDGER_FULL, OUT_OF_MEMORY, HEAP_FULL. */
 brc_status brc_new_bytes(brc_thread *, const uint8_t *bytes, size_t len, brc_ref *made);
 
-/* An empty list with memory for so many entries, and a dictionary with memory for so many pairs: it grows no
- * more until they are there. GONE, FRAME_FULL, LEDGER_FULL, OUT_OF_MEMORY, HEAP_FULL. */
+/* An empty list with memory for so many entries, and a dictionary with memory for so many pairs: it
+ * grows no more until they are there. Past 1,048,576 it is memory for 1,048,576.
+ * GONE, FRAME_FULL, LEDGER_FULL, OUT_OF_MEMORY, HEAP_FULL. */
 brc_status brc_new_list_for(brc_thread *, uint32_t entries, brc_ref *made);
 brc_status brc_new_dict_for(brc_thread *, uint32_t pairs, brc_ref *made);
 
@@ -354,7 +355,8 @@ brc_status brc_send(brc_thread *, brc_ref mailbox, brc_ref value);
 brc_status brc_recv(brc_thread *, brc_ref mailbox, brc_ref *value);
 
 
-/* ---- Dictionaries. A key is an integer, or a text or other bytes: a text and the same bytes are one key. Pairs stand in the order in which their keys came. */
+/* ---- Dictionaries. A key is an integer, or a text or other bytes: a text and the same bytes are one key.
+ * Pairs stand in the order in which their keys came. */
 
 /* The value goes beside the key. `old` is the value that was there, now the caller's, or 0 if there
  * was none. GONE; NOT_TEXT of a text; of `dict` FOREIGN, STALE; of `value` FOREIGN, STALE; SAME, BUSY,

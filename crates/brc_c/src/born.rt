@@ -9,17 +9,17 @@ ghost use Rattle.brc_c.specs.Exports.{CarriesOut, OrNotValues, Writes, itself, A
 use crate::outs::{gone, write};
 use crate::slots::CThread;
 use crate::values::{CValue, REFERENCE};
-use brc_client::{Datum, Sequence, Status};
+use brc_client::{Datum, ValueRow, Status};
 use brc_words::Note;
 use std::alloc::Global;
 
 /// Values that C gives, each a scalar or a reference.
 #[derive(Drop)]
-struct Given<'v> {
+struct CValues<'v> {
     values: &'v [CValue],
 }
 
-impl<'v> Sequence for Given<'v> {
+impl<'v> ValueRow for CValues<'v> {
     ghost items = { λ g. map datum_in g.values.now };
 
     #[inline(always)]
@@ -69,7 +69,7 @@ pub extern "C" fn brc_new_list_of(
 {
     match thread.as_mut().client() {
         Some(client) => match are_values(values) {
-            Ok(()) => write(client.new_list_of(alloc, &Given { values }), made),
+            Ok(()) => write(client.new_list_of(alloc, &CValues { values }), made),
             Err(status) => status.number(),
         },
         None => gone(),

@@ -25,7 +25,7 @@ use Rattle.brc_client.specs.Numbers.{NumbersSeen, number_at, place_in}
 use Rattle.brc_client.specs.Clients.{ClientSeen, IsClient, KeptBeside, Names, NamesAs, KeepsNames}
 use Rattle.brc_client.specs.declared.status.Status.{Status}
 use Rattle.brc_client.specs.declared.status.Status.TheVariants as statuses
-use Rattle.brc_client.specs.Sequence.{HasNumber, AllNamed, NoneTwice, StandsTwice}
+use Rattle.brc_client.specs.Value_Row.{HasNumber, AllNamed, NoneTwice, StandsTwice}
 use Rattle.brc_client.specs.Valued.{NoneMade, IsKept, PutsDatum, SpendsDatumName, SpendsPlace, ComesBack, left_by}
 use Rattle.brc_client.specs.Calls.{Adds}
 use Rattle.brc_client.specs.Born.{AreGiven, NotGiven, Twice, PushesEach, SpendsNumbers, HoldsNone, Awaits, KeepsNone}

@@ -10,8 +10,8 @@ use Rattle.brc_client.specs.declared.data.Datum.{Datum}
 use Rattle.brc_client.specs.declared.data.Datum.TheVariants.{Scalar, Object}
 use Rattle.brc_client.specs.Numbers.{NumbersSeen, StampSeen, number_at, place_in, uses_in, once_more}
 use Rattle.brc_client.specs.Clients.{NamesOneIn}
-use Rattle.brc_client.specs.Reach.{ReachSeen, IsWithin, Widened}
-use Rattle.brc_client.specs.Sequence.{HasNumber, AllNamed, AreSpelled, NoneTwice, StandsTwice, IsPlace, Marks, Restores}
+use Rattle.brc_client.specs.Reach.{ReachSeen, Reaches, Widened}
+use Rattle.brc_client.specs.Value_Row.{HasNumber, AllNamed, AreSpelled, NoneTwice, StandsTwice, IsPlace, AreMarked, Restores}
 
 -- ---- a number at an index
 
@@ -57,7 +57,7 @@ scalar_unnumbered items at note is number has =
 pub record NamedSoFar (handles : List (Option HandleSeen)) (numbers : NumbersSeen) (items : List Datum) (below : ℕ)
     (met : ReachSeen) (unsure : Bool) : Type 0 where
   pub named : (i number : ℕ) → i < below → HasNumber items i number → NamesOneIn handles numbers number
-  pub met : (i number : ℕ) → i < below → HasNumber items i number → IsWithin met (place_in number)
+  pub met : (i number : ℕ) → i < below → HasNumber items i number → Reaches met (place_in number)
   pub apart : unsure ≡ false → (i k number : ℕ) → i < k → k < below → HasNumber items i number → HasNumber items k number → ⊥
 
 pub named_none : (handles : List (Option HandleSeen)) (numbers : NumbersSeen) (items : List Datum) (met : ReachSeen)
@@ -113,7 +113,7 @@ named_more handles numbers items at number was is before after outside so has na
   met = λ i n below found. elim (cases_order i at) [
     | inl same ↦
         let e : n ≡ number = one_number_at items at n number (subst (λ (k : ℕ). HasNumber items k n) same found) has in
-        subst (λ (m : ℕ). IsWithin is (place_in m)) (sym e) widened.here
+        subst (λ (m : ℕ). Reaches is (place_in m)) (sym e) widened.here
     | inr rest ↦ elim rest [
       | inl less ↦ widened.others (place_in n) (so.met i n less found)
       | inr more ↦ absurd (omega (arith, below, more))
@@ -122,7 +122,7 @@ named_more handles numbers items at number was is before after outside so has na
   apart = λ off i k n order below one other. elim (cases_order k at) [
     | inl last ↦
         let e : n ≡ number = one_number_at items at n number (subst (λ (j : ℕ). HasNumber items j n) last other) has in
-        widened.outside (sure off).1 (subst (λ (m : ℕ). IsWithin was (place_in m)) e
+        widened.outside (sure off).1 (subst (λ (m : ℕ). Reaches was (place_in m)) e
             (so.met i n (omega (arith, order, last)) one))
     | inr rest ↦ elim rest [
       | inl less ↦ so.apart (sure off).0 i k n order less one other
@@ -146,7 +146,7 @@ all_apart handles numbers items below met unsure so all off i k number order one
 
 -- ---- they are marked
 
-pub marks_none : (items : List Datum) (numbers : NumbersSeen) → Marks items 0 numbers numbers
+pub marks_none : (items : List Datum) (numbers : NumbersSeen) → AreMarked items 0 numbers numbers
 marks_none items numbers = record {
   stamp = refl;
   of = refl;
@@ -157,8 +157,8 @@ marks_none items numbers = record {
 }
 
 -- the next value has no number
-pub marks_past : (items : List Datum) (at : ℕ) (was is : NumbersSeen) → Marks items at was is
-    → ((number : ℕ) → HasNumber items at number → ⊥) → Marks items (at + 1) was is
+pub marks_past : (items : List Datum) (at : ℕ) (was is : NumbersSeen) → AreMarked items at was is
+    → ((number : ℕ) → HasNumber items at number → ⊥) → AreMarked items (at + 1) was is
 marks_past items at was is so none = record {
   stamp = so.stamp;
   of = so.of;
@@ -199,12 +199,12 @@ differs : (u : ℕ) → once_more u ≢ u
 differs u same = omega (arith, same)
 
 -- the next value has a number, which is marked
-pub marks_more : (items : List Datum) (at number : ℕ) (was is new : NumbersSeen) → Marks items at was is
+pub marks_more : (items : List Datum) (at number : ℕ) (was is new : NumbersSeen) → AreMarked items at was is
     → HasNumber items at number → number ≡ number_at was (place_in number) → number ≡ number_at is (place_in number)
     → uses_in number ≡ get_or is.uses (place_in number) 0 → new.stamp ≡ is.stamp → new.of ≡ is.of
     → new.uses ≡ slice_set is.uses (place_in number) (once_more (get_or is.uses (place_in number) 0))
     → get_or new.uses (place_in number) 0 ≡ once_more (get_or is.uses (place_in number) 0)
-    → Marks items (at + 1) was new
+    → AreMarked items (at + 1) was new
 marks_more items at number was is new so has before now said stamp of uses here =
     let p = place_in number in
     let same : get_or is.uses p 0 ≡ get_or was.uses p 0 = as_often was is p so.stamp (sym now ∙ before) in
@@ -256,7 +256,7 @@ marks_more items at number was is new so has before now said stamp of uses here 
     }
 
 -- or it is spelled otherwise by now: it stood before
-pub marks_again : (items : List Datum) (at number : ℕ) (was is : NumbersSeen) → Marks items at was is
+pub marks_again : (items : List Datum) (at number : ℕ) (was is : NumbersSeen) → AreMarked items at was is
     → AreSpelled was items → HasNumber items at number → number_at is (place_in number) ≢ number → StandsTwice items
 marks_again items at number was is so spelled has other =
     let p = place_in number in
@@ -343,7 +343,7 @@ numbers_same a b stamp of uses =
     ap (λ (s : ℕ). made s a.of a.uses) stamp ∙ ap (λ (o : StampSeen). made b.stamp o a.uses) of
     ∙ ap (λ (u : List ℕ). made b.stamp b.of u) uses
 
-pub as_before : (items : List Datum) (below : ℕ) (was mid is : NumbersSeen) → Marks items below was mid
+pub as_before : (items : List Datum) (below : ℕ) (was mid is : NumbersSeen) → AreMarked items below was mid
     → Restores items below mid is → is ≡ was
 as_before items below was mid is marks back =
     numbers_same is was (back.stamp ∙ marks.stamp) (back.of ∙ marks.of)
@@ -357,7 +357,7 @@ as_before items below was mid is marks back =
     ]))
 
 -- and none stands twice, if all were marked
-pub none_again : (items : List Datum) (below : ℕ) (was mid : NumbersSeen) → Marks items below was mid
+pub none_again : (items : List Datum) (below : ℕ) (was mid : NumbersSeen) → AreMarked items below was mid
     → below ≡ length items → NoneTwice items
 none_again items below was mid marks all = λ i k number order one other. marks.apart i k number order
     (subst (λ (n : ℕ). k < n) (sym all) (slice_get_within items k (Object number other.0) other.1)) one other

@@ -17,7 +17,7 @@ use Rattle.brc_client.specs.declared.status.Status.{Status}
 use Rattle.brc_client.specs.declared.status.Status.TheVariants as statuses
 use Rattle.brc_client.specs.Clients.{ClientSeen, Names, NamesAs, KeepsNumbers}
 use Rattle.brc_client.specs.Calls.{ByHeap, Adds, Releases}
-use Rattle.brc_client.specs.Sequence.{HasNumber, AllNamed, FirstNameless, NoneTwice, StandsTwice}
+use Rattle.brc_client.specs.Value_Row.{HasNumber, AllNamed, FirstNameless, NoneTwice, StandsTwice}
 use Rattle.brc_client.specs.Valued.{NoneMade, LacksNoneOf, StandsFor, PutsDatum}
 
 -- ---- the numbers among the values

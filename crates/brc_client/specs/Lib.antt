@@ -3,7 +3,7 @@ pub mod Clients
 pub mod Calls
 pub mod Answers
 pub mod Reach
-pub mod Sequence
+pub mod Value_Row
 pub mod Born
 pub mod Desks
 pub mod Ends

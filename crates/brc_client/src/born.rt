@@ -12,14 +12,14 @@ ghost use Rattle.brc_places.specs.declared.valued.PutBy.TheVariants as puts;
 ghost use Rattle.brc_client.specs.Clients.{Names, KeepsNumbers, KeepsNames, SpendsName};
 ghost use Rattle.brc_client.specs.Calls.{ByHeap, Adds, Releases};
 ghost use Rattle.brc_client.specs.Valued.{PutsDatum, SpendsDatumName};
-ghost use Rattle.brc_client.specs.Sequence.{NoneTwice};
+ghost use Rattle.brc_client.specs.Value_Row.{NoneTwice};
 ghost use Rattle.brc_client.specs.Born.{AreGiven, NotGiven, SpendsNumbers, PushesEach, RefusesPush, HoldsNone, Awaits};
 ghost use Rattle.brc_client.specs.Born.{StopsPushing, ListOf, NoListOf};
 ghost use Rattle.brc_client.specs.declared.data.Datum.TheVariants as datums;
 
 use crate::client::{Client, insert, lay};
 use crate::data::Datum;
-use crate::sequence::{Sequence, are_named, none_twice};
+use crate::value_row::{ValueRow, are_named, none_twice};
 use crate::status::Status;
 use brc_count::HandedBack;
 use brc_things::{Value, new_list_with_room, try_list_push_value};
@@ -30,7 +30,7 @@ impl Client {
     /// Whether each object's number names something, and none stands twice: Foreign or Stale of the first that names none;
     /// then Same.
     #[inline(always)]
-    fn are_given<S: Sequence>(&mut self, values: &S) -> Result<(), Status>
+    fn are_given<S: ValueRow>(&mut self, values: &S) -> Result<(), Status>
         ensures given { OnOk result (AreGiven self.old (S.items values.now)) }
         ensures refused { IfErr result (NotGiven self.old (S.items values.now)) }
         ensures same { self.new ≡ self.old }
@@ -147,7 +147,7 @@ impl Client {
 
     /// All values become entries of the list, in their order.
     #[inline(always)]
-    fn push_each<S: Sequence>(&mut self, list: u64, values: &S) -> Result<(), Status>
+    fn push_each<S: ValueRow>(&mut self, list: u64, values: &S) -> Result<(), Status>
         requires ready { Awaits self.old list (S.items values.now) 0 }
         requires apart { NoneTwice (S.items values.now) }
         ensures pushed { OnOk result (PushesEach list (S.items values.now) self.old self.new) }
@@ -181,7 +181,7 @@ impl Client {
     /// names none; Same, if a number stands twice; FrameFull and OutOfMemory for a handle to None, if none is kept;
     /// FrameFull, LedgerFull, OutOfMemory and HeapFull for the list. A refusal leaves all numbers as they were.
     #[inline(always)]
-    pub fn new_list_of<S: Sequence>(&mut self, alloc: Global, values: &S) -> Result<u64, Status>
+    pub fn new_list_of<S: ValueRow>(&mut self, alloc: Global, values: &S) -> Result<u64, Status>
         ensures made { IfOk result (ListOf (S.items values.now) self.old self.new) }
         ensures refused { IfErr result (NoListOf (S.items values.now) self.old self.new) }
         ensures names { IfOk result (Names self.new) }

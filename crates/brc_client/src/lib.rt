@@ -23,11 +23,11 @@ mod numbers;
 mod owner;
 mod put_value;
 mod reach;
-mod sequence;
 mod status;
 mod take_out;
 mod thread;
 mod told;
+mod value_row;
 
 pub use brc_heap::{Key, KeyRef, Kind, Ledger, RootCounts};
 pub use brc_places::{Make, TakeBy};
@@ -40,7 +40,7 @@ pub use put_value::{
     Inward, Pushing, PuttingAt, PuttingByInt, PuttingByText, PuttingNewByInt, PuttingNewByText,
     Sending, Setting,
 };
-pub use sequence::Sequence;
+pub use value_row::ValueRow;
 pub use status::{Status, text_of};
 pub use take_out::{
     DeletingByInt, DeletingByText, FindingByInt, FindingByText, Getting, Outward, Popping,

@@ -1,7 +1,7 @@
 //! How far the places reach that were met: from the lowest to the highest.
 
 ghost use Rattle.std.specs.Prelude.{ℕ};
-ghost use Rattle.brc_client.specs.Reach.{IsWithin, Widened};
+ghost use Rattle.brc_client.specs.Reach.{Reaches, Widened};
 
 use std::marker::Model;
 
@@ -24,7 +24,7 @@ impl Reach {
     /// No place was met.
     #[inline(always)]
     pub(crate) fn new() -> Reach
-        ensures none { (place : ℕ) → IsWithin result place → ⊥ }
+        ensures none { (place : ℕ) → Reaches result place → ⊥ }
     {
         Reach {
             lowest: 1,

@@ -9,7 +9,7 @@ returns-in_err-list-clause-refused g c =
     let kept = none_first c.args.self.now c.are_given.new.self c.keep_none.new.self c.in_ok-are_given.ensures.same
     c.in_ok-keep_none.ensures.made c.in_ok-keep_none.ensures.handles c.in_ok-keep_none.ensures.numbers in
     let p = err_from_is_err_and c.from_residual-in_err-list.result c.from_residual-in_err-list.ensures.1 in
-    let may : MayGoIn c.args.self.now (g.S.Sequence.items c.args.values.now)
+    let may : MayGoIn c.args.self.now (g.S.ValueRow.items c.args.values.now)
     = record { few = omega (arith, c.if-len.false, c.len.ensures); given = c.in_ok-are_given.ensures.given } in
     rw (p.1, p.2) (ListLacks may c.keep_none.new.self kept c.in_err-list.ensures.refused c.in_err-list.ensures.unchanged)
 
@@ -18,7 +18,7 @@ push_each-requires-clause-ready g c =
     let kept = none_first c.args.self.now c.are_given.new.self c.keep_none.new.self c.in_ok-are_given.ensures.same
     c.in_ok-keep_none.ensures.made c.in_ok-keep_none.ensures.handles c.in_ok-keep_none.ensures.numbers in
     list_awaits c.args.self.now c.keep_none.new.self c.begin_list.new.self c.in_ok-list.list
-    (g.S.Sequence.items c.args.values.now) c.in_ok-are_given.ensures.given kept c.in_ok-list.ensures.made
+    (g.S.ValueRow.items c.args.values.now) c.in_ok-are_given.ensures.given kept c.in_ok-list.ensures.made
     c.in_ok-list.ensures.names c.in_ok-list.ensures.keeps c.in_ok-list.ensures.none
 
 pub returns-in-Ok-clause-spent : goal.returns-in-Ok-clause-spent
@@ -26,7 +26,7 @@ returns-in-Ok-clause-spent g c =
     let kept = none_first c.args.self.now c.are_given.new.self c.keep_none.new.self c.in_ok-are_given.ensures.same
     c.in_ok-keep_none.ensures.made c.in_ok-keep_none.ensures.handles c.in_ok-keep_none.ensures.numbers in
     spends_from c.args.self.now c.keep_none.new.self c.begin_list.new.self c.push_each.new.self
-    (g.S.Sequence.items c.args.values.now) kept c.in_ok-list.ensures.keeps c.in-Ok.ensures.spent
+    (g.S.ValueRow.items c.args.values.now) kept c.in_ok-list.ensures.keeps c.in-Ok.ensures.spent
 
 pub returns-in-Err-clause-refused : goal.returns-in-Err-clause-refused
 returns-in-Err-clause-refused g c =

@@ -11,10 +11,10 @@ push_one-requires-clause-named g c number note is =
     )
 
 pub loop-at-preserved : goal.loop-at-preserved
-loop-at-preserved g c = goes_in_more c.args.list (g.S.Sequence.items c.args.values.now) c.loop-at.at c.item.result
+loop-at-preserved g c = goes_in_more c.args.list (g.S.ValueRow.items c.args.values.now) c.loop-at.at c.item.result
     c.args.self.now c.loop-at.self c.push_one.new.self c.loop-at.invariant c.requires.apart c.item.ensures
     c.in_ok-push_one.ensures.pushed c.in_ok-push_one.ensures.spent c.in_ok-push_one.ensures.none
 
 pub returns-clause-spent : goal.returns-clause-spent
-returns-clause-spent g c = all_spent c.args.list (g.S.Sequence.items c.args.values.now) c.loop-at.at c.args.self.now
+returns-clause-spent g c = all_spent c.args.list (g.S.ValueRow.items c.args.values.now) c.loop-at.at c.args.self.now
     c.loop-at.self c.loop-at.invariant (omega (arith, c.loop-at-test.false, c.loop-at.auto.at-end, c.len-at-end.ensures))

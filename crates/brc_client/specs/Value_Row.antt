@@ -53,7 +53,7 @@ pub record IsPlace (items : List Datum) (below place : ℕ) : Type 0 where
 
 -- Below the index no number stands twice. The place of each is vacated otherwise than it was, and it was so as the number
 -- says. All other places are as they were.
-pub record Marks (items : List Datum) (below : ℕ) (was is : NumbersSeen) : Type 0 where
+pub record AreMarked (items : List Datum) (below : ℕ) (was is : NumbersSeen) : Type 0 where
   pub stamp : is.stamp ≡ was.stamp
   pub of : is.of ≡ was.of
   pub len : length is.uses ≡ length was.uses

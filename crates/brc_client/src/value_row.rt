@@ -1,8 +1,8 @@
 //! Values in a row, and whether the numbers among them may be given: each names something, and none stands twice.
 
 ghost use Rattle.std.specs.Prelude.{◌≡◌, ◌<◌, ◌≤◌, List, Some, IfErr, IfOk, OnOk, IsFalse, length, slice_get};
-ghost use Rattle.brc_client.specs.Sequence.{AllNamed, FirstNameless, AreSpelled, StandsTwice, NoneTwice, Marks};
-ghost use Rattle.brc_client.specs.Sequence.{Restores};
+ghost use Rattle.brc_client.specs.Value_Row.{AllNamed, FirstNameless, AreSpelled, StandsTwice, NoneTwice, AreMarked};
+ghost use Rattle.brc_client.specs.Value_Row.{Restores};
 ghost use Rattle.brc_client.specs.declared.data.Datum.{Datum as DatumSeen};
 ghost use Rattle.brc_client.specs.declared.status.Status.TheVariants as statuses;
 
@@ -15,7 +15,7 @@ use brc_handles::Handles;
 use std::alloc::Global;
 
 /// Values in a row, each by its index. They lie where the caller has them.
-pub trait Sequence {
+pub trait ValueRow {
     // which they are
     ghost items: { Self → List DatumSeen };
 
@@ -32,7 +32,7 @@ pub trait Sequence {
 /// Whether each object's number names something: Foreign or Stale of the first that doesn't. The answer is whether one may
 /// stand twice: a place lies between those before it. Objects that were made one after the other mostly have rising places.
 #[inline(always)]
-pub(crate) fn are_named<S: Sequence>(
+pub(crate) fn are_named<S: ValueRow>(
     handles: &Handles<Global>,
     numbers: &Numbers,
     values: &S,
@@ -58,10 +58,10 @@ pub(crate) fn are_named<S: Sequence>(
 /// Each number is taken for spent, up to one that stands a second time: that is spelled otherwise then. The answer is its
 /// index, or how many values there are.
 #[inline(always)]
-fn mark_each<S: Sequence>(numbers: &mut Numbers, values: &S) -> usize
+fn mark_each<S: ValueRow>(numbers: &mut Numbers, values: &S) -> usize
     requires spelled { AreSpelled numbers.old (S.items values.now) }
     ensures inside { result ≤ length (S.items values.now) }
-    ensures marks { Marks (S.items values.now) result numbers.old numbers.new }
+    ensures marks { AreMarked (S.items values.now) result numbers.old numbers.new }
     ensures again { result < length (S.items values.now) → StandsTwice (S.items values.now) }
 {
     for at in 0..values.len() {
@@ -78,7 +78,7 @@ fn mark_each<S: Sequence>(numbers: &mut Numbers, values: &S) -> usize
 
 /// The places of the numbers below the index are again as these numbers say.
 #[inline(always)]
-fn restore_each<S: Sequence>(numbers: &mut Numbers, values: &S, below: usize)
+fn restore_each<S: ValueRow>(numbers: &mut Numbers, values: &S, below: usize)
     requires inside { below ≤ length (S.items values.now) }
     ensures restores { Restores (S.items values.now) below numbers.old numbers.new }
 {
@@ -91,7 +91,7 @@ fn restore_each<S: Sequence>(numbers: &mut Numbers, values: &S, below: usize)
 
 /// Whether no number stands twice: Same. It takes two walks, however many objects there are.
 #[inline(always)]
-pub(crate) fn none_twice<S: Sequence>(numbers: &mut Numbers, values: &S) -> Result<(), Status>
+pub(crate) fn none_twice<S: ValueRow>(numbers: &mut Numbers, values: &S) -> Result<(), Status>
     requires spelled { AreSpelled numbers.old (S.items values.now) }
     ensures apart { OnOk result (NoneTwice (S.items values.now)) }
     ensures twice { IfErr result (λ status. (status ≡ statuses.Same) × StandsTwice (S.items values.now)) }
