@@ -9,7 +9,7 @@ ghost use Rattle.brc_c.specs.Exports.{CarriesOut, OrNotValues, Writes, itself, A
 use crate::outs::{gone, write};
 use crate::slots::CThread;
 use crate::values::{CValue, REFERENCE};
-use brc_client::{Datum, ValueRow, Status};
+use brc_client::{Datum, Status, ValueRow};
 use brc_words::Note;
 use std::alloc::Global;
 

@@ -123,7 +123,7 @@ named_more handles numbers items at number was is before after outside so has na
     | inl last ↦
         let e : n ≡ number = one_number_at items at n number (subst (λ (j : ℕ). HasNumber items j n) last other) has in
         widened.outside (sure off).1 (subst (λ (m : ℕ). Reaches was (place_in m)) e
-            (so.met i n (omega (arith, order, last)) one))
+        (so.met i n (omega (arith, order, last)) one))
     | inr rest ↦ elim rest [
       | inl less ↦ so.apart (sure off).0 i k n order less one other
       | inr more ↦ absurd (omega (arith, below, more))

@@ -19,8 +19,8 @@ ghost use Rattle.brc_client.specs.declared.data.Datum.TheVariants as datums;
 
 use crate::client::{Client, insert, lay};
 use crate::data::Datum;
-use crate::value_row::{ValueRow, are_named, none_twice};
 use crate::status::Status;
+use crate::value_row::{ValueRow, are_named, none_twice};
 use brc_count::HandedBack;
 use brc_things::{Value, new_list_with_room, try_list_push_value};
 use brc_words::{Fault, MOST_ENTRIES, Note};

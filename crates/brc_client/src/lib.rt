@@ -40,10 +40,10 @@ pub use put_value::{
     Inward, Pushing, PuttingAt, PuttingByInt, PuttingByText, PuttingNewByInt, PuttingNewByText,
     Sending, Setting,
 };
-pub use value_row::ValueRow;
 pub use status::{Status, text_of};
 pub use take_out::{
     DeletingByInt, DeletingByText, FindingByInt, FindingByText, Getting, Outward, Popping,
     Receiving, Taking,
 };
 pub use thread::Thread;
+pub use value_row::ValueRow;

@@ -16,7 +16,7 @@ ghost use Rattle.brc_instructions.specs.Printing.{ShownAs};
 use crate::shown::Shown;
 use brc_count::biased::HasTable;
 use brc_count::{Frame, Handle};
-use brc_heap::{int_of, kind_of, len_of, bytes_of};
+use brc_heap::{bytes_of, int_of, kind_of, len_of};
 use brc_words::{Fault, Kind};
 use std::alloc::Allocator;
 use std::sync::Wait;

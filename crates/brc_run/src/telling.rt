@@ -25,7 +25,12 @@ fn put_sections<A: Allocator, W: Write>(
         let Some(end) = ends.get(at) else {
             return Ok(());
         };
-        write_section(writer, section.name.as_bytes(), end.lines.as_slice(), end.fault)?;
+        write_section(
+            writer,
+            section.name.as_bytes(),
+            end.lines.as_slice(),
+            end.fault,
+        )?;
     }
     Ok(())
 }

@@ -93,8 +93,16 @@ impl<'p> Machine<'p> {
             Instruction::Send => stack.take(rt, alloc, frame, TakeBy::Send),
             Instruction::Last => stack.give(rt, frame, GiveBy::Pop),
             Instruction::Get(index) => stack.give(rt, frame, GiveBy::Get(index)),
-            Instruction::Find(name) => stack.give(rt, frame, GiveBy::Find(KeyRef::Text(name.as_bytes()))),
-            Instruction::Delete(name) => stack.give(rt, frame, GiveBy::Delete(KeyRef::Text(name.as_bytes()))),
+            Instruction::Find(name) => stack.give(
+                rt,
+                frame,
+                GiveBy::Find(KeyRef::Text(name.as_bytes())),
+            ),
+            Instruction::Delete(name) => stack.give(
+                rt,
+                frame,
+                GiveBy::Delete(KeyRef::Text(name.as_bytes())),
+            ),
             Instruction::Receive => stack.give(rt, frame, GiveBy::Receive),
             Instruction::Add => self.add(rt, frame, stack),
             Instruction::Tell | Instruction::Jump(_) | Instruction::JumpIfZero(_) => Ok(()),

@@ -45,4 +45,4 @@ invariant_of-self-3 g c =
     let now : c.push_reserved.new.self.items ≡ items ++ Some given ∷ []
     = cc (c.reserve.ensures.items, c.push_reserved.ensures.items) in
     subst AreApart (sym now) (apart_pushed items given c.self.invariant
-        (λ k. each c.in_ok-given.ensures.gains.apart (slot items k) (rw c.self.view_is (c.requires.each k))))
+    (λ k. each c.in_ok-given.ensures.gains.apart (slot items k) (rw c.self.view_is (c.requires.each k))))
