@@ -31,7 +31,7 @@ fn put_number(text: &mut String, number: i64) -> Put {
 }
 
 /// A text of a script, which is UTF-8.
-fn shown(text: &Text<Global>) -> &str {
+pub(crate) fn shown(text: &Text<Global>) -> &str {
     text.as_str().unwrap_or("NOT UTF-8")
 }
 

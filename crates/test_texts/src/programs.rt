@@ -92,7 +92,7 @@ fn put_meaning(alloc: Global, section: &Section<Global>, meant: &mut Vec<u8>) ->
     }
     let answer = match plain_run(alloc, section) {
         Ok(plain) => {
-            let name = section.name.as_str().as_bytes();
+            let name = section.name.as_bytes();
             write_section(meant, name, plain.lines.as_slice(), plain.fault)
         }
         Err(fault) => Err(fault),

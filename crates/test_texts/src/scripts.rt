@@ -1,6 +1,6 @@
 //! What comes of a script by the calls of `brc_script` and `brc_meaning`.
 
-use crate::instructions::put_instruction;
+use crate::instructions::{put_instruction, shown};
 use brc_meaning::plain_run;
 use brc_script::{Line, Piece, Script, Section, is_private, parse};
 use std::alloc::{AllocError, Global};
@@ -29,7 +29,7 @@ fn put_piece(text: &mut String, piece: &Piece<Global>) -> Result<(), AllocError>
 /// The script line by line.
 fn put_script(text: &mut String, script: &Script<Global>) -> Result<(), AllocError> {
     for section in script.sections() {
-        write!(text, "in {}\n", section.name.as_str())?;
+        write!(text, "in {}\n", shown(&section.name))?;
         for piece in section.pieces.as_slice() {
             put_piece(text, piece)?;
         }

@@ -29,7 +29,7 @@ pub(crate) fn measures(
     };
     frame.release(first); // the object lives as long as the second handle does
     let length = match text_of(rt, alloc, frame, &second) {
-        Ok(copy) => Some(copy.as_str().len()),
+        Ok(copy) => Some(copy.as_bytes().len()),
         Err(_) => None,
     };
     frame.release(second);
