@@ -55,9 +55,9 @@ scalar_unnumbered items at note is number has =
 
 -- Below the index each does. The places that were met reach as far as theirs, and unless one is unsure none stands twice.
 pub record NamedSoFar (handles : List (Option HandleSeen)) (numbers : NumbersSeen) (items : List Datum) (below : ℕ)
-    (met : ReachSeen) (unsure : Bool) : Type 0 where
+    (reach : ReachSeen) (unsure : Bool) : Type 0 where
   pub named : (i number : ℕ) → i < below → HasNumber items i number → NamesOneIn handles numbers number
-  pub met : (i number : ℕ) → i < below → HasNumber items i number → Reaches met (place_in number)
+  pub met : (i number : ℕ) → i < below → HasNumber items i number → Reaches reach (place_in number)
   pub apart : unsure ≡ false → (i k number : ℕ) → i < k → k < below → HasNumber items i number → HasNumber items k number → ⊥
 
 pub named_none : (handles : List (Option HandleSeen)) (numbers : NumbersSeen) (items : List Datum) (met : ReachSeen)
@@ -122,7 +122,7 @@ named_more handles numbers items at number was is before after outside so has na
   apart = λ off i k n order below one other. elim (cases_order k at) [
     | inl last ↦
         let e : n ≡ number = one_number_at items at n number (subst (λ (j : ℕ). HasNumber items j n) last other) has in
-        widened.outside (sure off).1 (subst (λ (m : ℕ). Reaches was (place_in m)) e
+        widened.apart (sure off).1 (subst (λ (m : ℕ). Reaches was (place_in m)) e
         (so.met i n (omega (arith, order, last)) one))
     | inr rest ↦ elim rest [
       | inl less ↦ so.apart (sure off).0 i k n order less one other

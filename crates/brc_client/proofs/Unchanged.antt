@@ -1,6 +1,6 @@
 -- Texts that nobody changes: alike pieces come to the same text.
-use Rattle.std.proofs.Common.{◌≡◌, ◌+◌, ◌≤◌, ℕ, Bool, true, false, List, [], ◌∷◌, ◌++◌, length, take, drop}
-use Rattle.std.proofs.Common.{Some, None, Ok, refl, sym, ap, subst, ◌∙◌, append_assoc}
+use Rattle.std.proofs.Common.{◌≡◌, ◌+◌, ℕ, Bool, true, false, List, [], ◌∷◌, ◌++◌, length, take, drop}
+use Rattle.std.proofs.Common.{Some, Ok, refl, sym, ap, subst, ◌∙◌, append_assoc}
 use Rattle.std.specs.Bool.{Decides}
 use Rattle.std.specs.declared.alloc.Global.{Global}
 use Rattle.brc_count.specs.law.declared.world.event.Change.TheVariants.{Keep}
@@ -11,7 +11,7 @@ use Rattle.brc_count.specs.law.declared.rule.told.Moved.TheVariants as moves
 use Rattle.brc_count.specs.law.declared.rule.told.LogItem.{LogItem}
 use Rattle.brc_count.specs.law.declared.rule.told.LogItem.TheVariants.{Stepped}
 use Rattle.brc_count.specs.Frames.{FrameSeen}
-use Rattle.brc_client.specs.Equal.{TextFound, IsAlike, BothFound, ComparesPiece, Compares, FindsOnly}
+use Rattle.brc_client.specs.Equal.{TextFound, BothFound, ComparesPiece, Compares, FindsOnly}
 use Rattle.brc_client.specs.Equal.{PieceAnswers, PieceAlike}
 use Rattle.brc_client.proofs.Alike.{alike_further, alike_whole}
 

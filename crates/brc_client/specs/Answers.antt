@@ -1,6 +1,6 @@
 -- The clauses of each call by numbers as one fact, of the client before it and behind it and of its answer. Who makes
 -- such a call for somebody else, as an export for C does, cites it.
-use Rattle.std.specs.Prelude.{◌≡◌, ◌≢◌, ◌<◌, ◌≤◌, ◌-◌, ◌⊎◌, ℕ, Bool, List, [], Option, Some, Result, Ok, Err, IfOk, IfErr, OnOk}
+use Rattle.std.specs.Prelude.{◌≡◌, ◌≢◌, ◌<◌, ◌≤◌, ◌-◌, ◌⊎◌, ℕ, Bool, [], Option, Some, Result, Err, IfOk, IfErr, OnOk}
 use Rattle.std.specs.Prelude.{OnErr, IfSome, IsTrue, IsFalse}
 use Rattle.std.specs.declared.alloc.Global.{Global}
 use Rattle.brc_words.specs.declared.fault.Fault.{Fault}

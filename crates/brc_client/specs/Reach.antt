@@ -13,4 +13,4 @@ Reaches reach place = (reach.lowest ≤ place) × (place ≤ reach.highest)
 pub record Widened (old new : ReachSeen) (place : ℕ) (outside : Bool) : Type 0 where
   pub here : Reaches new place
   pub others : (other : ℕ) → Reaches old other → Reaches new other
-  pub outside : outside ≡ true → Reaches old place → ⊥
+  pub apart : outside ≡ true → Reaches old place → ⊥
