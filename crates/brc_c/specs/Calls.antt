@@ -1,7 +1,7 @@
 -- Which call of the heap an export of this name makes, where its bytes or numbers of C stand for something else; and what
 -- it writes, where that is more than one number.
 use Rattle.std.specs.Prelude.{◌≡◌, ◌++◌, ◌+◌, ◌*◌, ℕ, zero, suc, pos, Bool, true, false, List, Option, Some, None, Result, Ok, Err, length}
-use Rattle.std.specs.Prelude.{take, drop, if◌then◌else◌, nat_eq}
+use Rattle.std.specs.Prelude.{take, drop}
 use Rattle.std.specs.declared.alloc.Global.{Global}
 use Rattle.brc_words.specs.declared.entry.Entry.{Entry}
 use Rattle.brc_words.specs.declared.fault.Fault.{Fault}
@@ -81,12 +81,6 @@ SwapsIfByText bytes old new k expected none after value result =
 abbrev pub value_of : Datum → CValue
 value_of (datums.Scalar note) = record { bits = note.bits; label = note.label; holds = 1 }
 value_of (datums.Object number note) = record { bits = number; label = note.label; holds = 2 }
-
--- the datum that a value is that C has in memory: by 2 the number of a reference, else a scalar
-abbrev pub datum_in : CValue → Datum
-datum_in value = if nat_eq value.holds 2
-    then datums.Object value.bits (record { label = value.label; bits = 0 })
-    else datums.Scalar (record { label = value.label; bits = value.bits })
 
 -- what came out, or that nothing did
 abbrev pub came_of : Option Datum → CValue

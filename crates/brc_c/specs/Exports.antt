@@ -1,6 +1,5 @@
 -- What an export comes to: which call was made on what C's variable leads to, and what C learns of its answer.
-use Rattle.std.specs.Prelude.{◌≡◌, ◌<◌, ◌≤◌, ◌/◌, ◌%◌, ◌⊎◌, ⊤, ℕ, Bool, true, false, List, Option, Some, None, Result, Ok, Err}
-use Rattle.std.specs.Prelude.{map, slice_get}
+use Rattle.std.specs.Prelude.{◌≡◌, ◌<◌, ◌/◌, ◌%◌, ◌⊎◌, ⊤, ℕ, Bool, true, false, List, Option, Some, None, Result, Ok, Err}
 use Rattle.std.specs.Str.{IsUtf8}
 use Rattle.brc_words.specs.declared.kind.Kind.{Kind}
 use Rattle.brc_words.specs.declared.kind.Kind.TheVariants as kinds
@@ -14,8 +13,6 @@ use Rattle.brc_client.specs.declared.thread.Stage.{Stage}
 use Rattle.brc_client.specs.declared.thread.Stage.TheVariants as stages
 use Rattle.brc_client.specs.Ends.{client_of}
 use Rattle.brc_c.specs.declared.held.Held.{Held}
-use Rattle.brc_c.specs.declared.values.CValue.{CValue}
-use Rattle.brc_c.specs.Calls.{datum_in}
 
 -- ---- what C learns
 
@@ -105,23 +102,6 @@ module _ {T : Type 0} where
   OrNotValue bits noted call old new answer =
       ((datum : Datum) × HandsDatum bits noted datum × call datum old new answer)
       ⊎ ((answer ≡ Err statuses.NotValue) × (2 < holds_in noted) × (new ≡ old))
-
--- Values that C has in a row: each is a scalar or a reference; or one is neither.
-abbrev pub AreValues : List CValue → Type 0
-AreValues values = (at : ℕ) (value : CValue) → slice_get values at ≡ Some value → value.holds ≤ 2
-
-pub record HasNoValue (values : List CValue) : Type 0 where
-  pub at : ℕ
-  pub value : CValue
-  pub here : slice_get values at ≡ Some value
-  pub holds : 2 < value.holds
-
--- a call on the data that they are; if one is neither, nothing is done
-module _ {T : Type 0} where
-  abbrev pub OrNotValues : List CValue → (List Datum → ClientSeen → ClientSeen → Result T Status → Type 0) → ClientSeen
-      → ClientSeen → Result T Status → Type 0
-  OrNotValues values call old new answer = (AreValues values × call (map datum_in values) old new answer)
-      ⊎ ((answer ≡ Err statuses.NotValue) × HasNoValue values × (new ≡ old))
 
 -- An export on a thread's client: it made this call, returned its answer's number, and wrote what it gave.
 module _ {T : Type 0} where

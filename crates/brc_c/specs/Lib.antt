@@ -5,4 +5,5 @@ pub mod HeldFollows
 pub mod HeldLends
 pub mod Exports
 pub mod Calls
+pub mod Given_Values
 pub mod Ends

@@ -3,8 +3,8 @@
 ghost use Rattle.std.specs.Prelude.{◌≡◌, ◌≢◌, OnOk, IfErr, map};
 ghost use Rattle.brc_client.specs.Born.{MakesListOf};
 ghost use Rattle.brc_client.specs.declared.status.Status.TheVariants as statuses;
-ghost use Rattle.brc_c.specs.Calls.{datum_in};
-ghost use Rattle.brc_c.specs.Exports.{CarriesOut, OrNotValues, Writes, itself, AreValues, HasNoValue};
+ghost use Rattle.brc_c.specs.Exports.{CarriesOut, Writes, itself};
+ghost use Rattle.brc_c.specs.Given_Values.{datum_in, AreValues, HasNoValue, OrNotValues};
 
 use crate::outs::{gone, write};
 use crate::slots::CThread;
