@@ -15,7 +15,7 @@ returns-in_err-write_section g c =
     let found = c.in-Some.ensures.lookup in
     let split = next_section c.args.sections.now c.args.ends.now c.loop-at.at c.index-sections-at.result
     c.in-Some.end.now c.as_bytes.result.now c.as_slice.result.now
-    c.loop-at-test.true found.3.0 c.index-sections-at.is found.1 (c.as_bytes.ensures.value ∙ c.as_str-name.ensures)
+    c.loop-at-test.true found.3.0 c.index-sections-at.is found.1 c.as_bytes.ensures
     c.as_slice.ensures.value in
     let behind = sections_text (drop (c.loop-at.at + 1) c.args.sections.now)
     (drop (c.loop-at.at + 1) c.args.ends.now) in
@@ -30,7 +30,7 @@ loop-at-preserved g c =
     let found = c.in-Some.ensures.lookup in
     let split = next_section c.args.sections.now c.args.ends.now c.loop-at.at c.index-sections-at.result
     c.in-Some.end.now c.as_bytes.result.now c.as_slice.result.now
-    c.loop-at-test.true found.3.0 c.index-sections-at.is found.1 (c.as_bytes.ensures.value ∙ c.as_str-name.ensures)
+    c.loop-at-test.true found.3.0 c.index-sections-at.is found.1 c.as_bytes.ensures
     c.as_slice.ensures.value in
     goes_on _ _ (sections_text (drop (c.loop-at.at + 1) c.args.sections.now) (drop (c.loop-at.at + 1) c.args.ends.now))
     c.loop-at.invariant split c.in_ok-write_section.ensures
