@@ -64,7 +64,8 @@
  * Costs. A call on a container, or a look at an object, locks it for the time of the call. So the looks
  * of many threads at one object come one after the other. No lock is taken by brc_same, brc_truth_of
  * and brc_identity, nor by brc_kind_of and brc_int_of of None, booleans and integers from -5 to 256.
- * brc_text_of copies as many bytes as `room` says, and brc_text_len none. brc_list_take moves all
+ * brc_text_of copies as many bytes as `room` says, and brc_text_len none; brc_text_of reads the whole
+ * text to see that it is UTF-8, where brc_bytes_of reads what it copies. brc_list_take moves all
  * later entries, and a delete all later pairs. A client that deletes much puts a scalar of its own
  * beside the key instead, and makes the dictionary anew at times.
  *
@@ -414,11 +415,11 @@ brc_status brc_dict_place_text(brc_thread *, brc_ref dict, const uint8_t *key, s
 /* A new list of these values, in their order. It has memory for just so many, which is had at once. For
  * few values this takes about a tenth fewer instructions than making a list and pushing them. After OK
  * each reference among the values belongs to the list. A refusal leaves all of them the caller's.
- * Should the heap refuse a value of the new list, the list is released with those before it: a new list
- * is known to no other thread and has room, so the heap refuses none; but that is not proved.
+ * Should the heap refuse a value of the new list, the list is released with those before it. It refuses
+ * none, and BUSY doesn't come: no other thread knows the list, and it has room. But that is not proved.
  * GONE; NOT_VALUE of any value; FULL for more than 1,048,576; of the first number that names nothing
  * FOREIGN, STALE; SAME if a number stands twice; FRAME_FULL and OUT_OF_MEMORY for the None that the
- * thread keeps; FRAME_FULL, LEDGER_FULL, OUT_OF_MEMORY, HEAP_FULL. Never BUSY. */
+ * thread keeps; FRAME_FULL, LEDGER_FULL, OUT_OF_MEMORY, HEAP_FULL. */
 brc_status brc_new_list_of(brc_thread *, const brc_value *values, size_t n, brc_ref *made);
 
 /* The value becomes the last entry. */
